@@ -1,0 +1,72 @@
+-- The laws of attribute sets: what building, adding and testing do to each other, and that bit 0 stays clear.
+use Prim.Native.Nat.{ℕ, zero, _^_, _≤_}
+use mathlib.Core.Path.{_≡_, refl, sym, ap, ap₂, _∙_}
+use mathlib.Core.Bool.{Bool, true, false, cond, _&&_, _||_, or-false, or-comm}
+use native.Mathlib.Omega.{arith}
+use borrow.Author.Tests.{ne-eqb}
+use lib.Dec.{eqb}
+use lib.Bits.{bitOr}
+use Rattle.bits.specs.Bit.{bit, bit-none, bit-or, bit-power}
+use Rattle.bits.specs.Range.{inRange, in-range}
+use Rattle.attribute_set.specs.declared.AttrSet.{AttrSet}
+use Rattle.attribute_set.specs.declared.Built.{Built}
+use Rattle.attribute_set.specs.declared.Built.the-variants.{Set, NoSet}
+use Rattle.attribute_set.specs.AttrSet.{special, hasAttribute, emptySet, setOf, fromBits, withAttribute}
+
+pub special-range : (a : ℕ) → special a ≡ true → (1 ≤ a) × (a ≤ 15)
+unfolding special
+special-range a e = in-range 1 15 a e
+
+pub has-empty : (a : ℕ) → hasAttribute emptySet a ≡ false
+unfolding hasAttribute
+has-empty a = bit-none a
+
+pub has-set : (bits a : ℕ) → hasAttribute (setOf bits) a ≡ bit bits a
+unfolding hasAttribute setOf
+has-set bits a = refl
+
+-- adding `a` makes `a` a member and changes nothing else
+pub has-with : (s : AttrSet) (a b : ℕ) → hasAttribute (withAttribute s a) b ≡ special a && eqb a b || hasAttribute s b
+unfolding hasAttribute withAttribute setOf
+has-with s a b = go (special a)
+  where
+    go : (t : Bool) → bit ((cond t (setOf (bitOr (s .bits) (2 ^ a))) s) .bits) b ≡ t && eqb a b || bit (s .bits) b
+    go true = bit-or (s .bits) (2 ^ a) b ∙ or-comm (bit (s .bits) b) (bit (2 ^ a) b) ∙ ap (λ (t : Bool). t || bit (s .bits) b) (bit-power a b)
+    go false = refl
+
+-- a set has bit 0 clear
+unfoldable pub Clear : AttrSet → Type 0
+Clear s = hasAttribute s 0 ≡ false
+
+pub clear-empty : Clear emptySet
+unfolding Clear
+clear-empty = has-empty 0
+
+pub clear-with : (s : AttrSet) (a : ℕ) → Clear s → Clear (withAttribute s a)
+unfolding Clear
+clear-with s a h = has-with s a 0 ∙ ap₂ _||_ (go (special a) refl) h
+  where
+    go : (t : Bool) → special a ≡ t → t && eqb a 0 ≡ false
+    go true e = let h = special-range a e in ne-eqb a 0 (λ z. omega arith)
+    go false e = refl
+
+-- building refuses exactly where bit 0 stands, and else gives the set with these bits, bit 0 clear
+pub built-none : (bits : ℕ) → fromBits bits ≡ NoSet → bit bits 0 ≡ true
+unfolding fromBits
+built-none bits = go (bit bits 0)
+  where
+    go : (t : Bool) → cond t NoSet (Set (setOf bits)) ≡ NoSet → t ≡ true
+    go true e = refl
+    go false e = absurd (let z : _≡_ {A = ℕ} 0 1 = cc in omega arith)
+
+pub built-set : (bits : ℕ) (s : AttrSet) → fromBits bits ≡ Set s → (bit bits 0 ≡ false) × (s ≡ setOf bits)
+unfolding fromBits
+built-set bits s = go (bit bits 0)
+  where
+    go : (t : Bool) → cond t NoSet (Set (setOf bits)) ≡ Set s → (t ≡ false) × (s ≡ setOf bits)
+    go true e = absurd (let z : _≡_ {A = ℕ} 0 1 = cc in omega arith)
+    go false e = (refl, cc)
+
+pub clear-built : (bits : ℕ) (s : AttrSet) → fromBits bits ≡ Set s → Clear s
+unfolding Clear
+clear-built bits s e = let h = built-set bits s e in ap (λ (x : AttrSet). hasAttribute x 0) (h .1) ∙ has-set bits 0 ∙ h .0

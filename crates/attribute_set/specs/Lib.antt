@@ -1,0 +1,2 @@
+pub mod AttrSet
+pub mod Laws

@@ -1,0 +1,91 @@
+-- The number that document 01's table gives each refusal.
+use Prim.Native.Nat.{ℕ, pred, _≤_}
+use mathlib.Core.Path.{_≡_, refl, sym, ap, _∙_}
+use mathlib.Core.List.{List, [], _∷_}
+use lib.Dec.{lit≤}
+use lib.ListN.{getD}
+use Rattle.refusal.specs.declared.Refusal.{Refusal}
+use Rattle.refusal.specs.declared.Refusal.the-variants.{HeaderTruncated, RelationCount, NodeCount, NodeTruncated, NodeMap, OperatorCode, RelationNumber, Operand, Attribute, NodesFollowed, NodeNumber, WorkSpace, ResultSlice, InputTruncated, CountZero, ListedAttribute, InputFollowed, TooManyAttributes, RepeatedAttribute, TypeVariable, SpecialSubset}
+
+unfoldable pub numberOf : Refusal → ℕ
+numberOf HeaderTruncated = 1
+numberOf RelationCount = 2
+numberOf NodeCount = 3
+numberOf NodeTruncated = 4
+numberOf NodeMap = 5
+numberOf OperatorCode = 6
+numberOf RelationNumber = 7
+numberOf Operand = 8
+numberOf Attribute = 9
+numberOf NodesFollowed = 10
+numberOf NodeNumber = 11
+numberOf WorkSpace = 12
+numberOf ResultSlice = 13
+numberOf InputTruncated = 14
+numberOf CountZero = 15
+numberOf ListedAttribute = 16
+numberOf InputFollowed = 17
+numberOf TooManyAttributes = 18
+numberOf RepeatedAttribute = 19
+numberOf TypeVariable = 20
+numberOf SpecialSubset = 21
+
+-- the table's rows, first to last
+table : List Refusal
+table = HeaderTruncated ∷ RelationCount ∷ NodeCount ∷ NodeTruncated ∷ NodeMap ∷ OperatorCode ∷ RelationNumber ∷ Operand ∷ Attribute ∷ NodesFollowed ∷ NodeNumber ∷ WorkSpace ∷ ResultSlice ∷ InputTruncated ∷ CountZero ∷ ListedAttribute ∷ InputFollowed ∷ TooManyAttributes ∷ RepeatedAttribute ∷ TypeVariable ∷ SpecialSubset ∷ []
+
+row : ℕ → Refusal
+row n = getD table (pred n) HeaderTruncated
+
+number-row : (r : Refusal) → row (numberOf r) ≡ r
+unfolding numberOf row table
+number-row HeaderTruncated = refl
+number-row RelationCount = refl
+number-row NodeCount = refl
+number-row NodeTruncated = refl
+number-row NodeMap = refl
+number-row OperatorCode = refl
+number-row RelationNumber = refl
+number-row Operand = refl
+number-row Attribute = refl
+number-row NodesFollowed = refl
+number-row NodeNumber = refl
+number-row WorkSpace = refl
+number-row ResultSlice = refl
+number-row InputTruncated = refl
+number-row CountZero = refl
+number-row ListedAttribute = refl
+number-row InputFollowed = refl
+number-row TooManyAttributes = refl
+number-row RepeatedAttribute = refl
+number-row TypeVariable = refl
+number-row SpecialSubset = refl
+
+-- no two refusals have one number
+pub number-once : (a b : Refusal) → numberOf a ≡ numberOf b → a ≡ b
+number-once a b e = sym (number-row a) ∙ ap row e ∙ number-row b
+
+-- 0 is no refusal's number
+pub number-positive : (r : Refusal) → 1 ≤ numberOf r
+unfolding numberOf
+number-positive HeaderTruncated = lit≤ tt
+number-positive RelationCount = lit≤ tt
+number-positive NodeCount = lit≤ tt
+number-positive NodeTruncated = lit≤ tt
+number-positive NodeMap = lit≤ tt
+number-positive OperatorCode = lit≤ tt
+number-positive RelationNumber = lit≤ tt
+number-positive Operand = lit≤ tt
+number-positive Attribute = lit≤ tt
+number-positive NodesFollowed = lit≤ tt
+number-positive NodeNumber = lit≤ tt
+number-positive WorkSpace = lit≤ tt
+number-positive ResultSlice = lit≤ tt
+number-positive InputTruncated = lit≤ tt
+number-positive CountZero = lit≤ tt
+number-positive ListedAttribute = lit≤ tt
+number-positive InputFollowed = lit≤ tt
+number-positive TooManyAttributes = lit≤ tt
+number-positive RepeatedAttribute = lit≤ tt
+number-positive TypeVariable = lit≤ tt
+number-positive SpecialSubset = lit≤ tt
