@@ -1,0 +1,10 @@
+//! The engine compared with another implementation of document 01.
+
+/// The C functions of the engine, wrapped safely.
+pub mod engine;
+/// Examples and edges of document 01 with their answers.
+pub mod examples;
+/// Seeded generation of files and bytes.
+pub mod random;
+/// The other implementation, written from document 01.
+pub mod reference;

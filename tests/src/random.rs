@@ -1,0 +1,126 @@
+//! Seeded generation of files and bytes.
+
+use crate::reference::{encode_file, Node, LEGAL_MAPS};
+
+/// The generator splitmix64.
+pub struct Random {
+    state: u64,
+}
+
+impl Random {
+    pub fn new(seed: u64) -> Self {
+        Random { state: seed }
+    }
+
+    pub fn word(&mut self) -> u64 {
+        self.state = self.state.wrapping_add(0x9e37_79b9_7f4a_7c15);
+        let mut word = self.state;
+        word = (word ^ word >> 30).wrapping_mul(0xbf58_476d_1ce4_e5b9);
+        word = (word ^ word >> 27).wrapping_mul(0x94d0_49bb_1331_11eb);
+        word ^ word >> 31
+    }
+
+    /// A number from 0 to `bound` - 1; the bound is above 0.
+    pub fn below(&mut self, bound: usize) -> usize {
+        (self.word() % bound as u64) as usize
+    }
+
+    /// A number from `low` to `high`, both included.
+    pub fn between(&mut self, low: u8, high: u8) -> u8 {
+        low + self.below(usize::from(high - low) + 1) as u8
+    }
+
+    pub fn byte(&mut self) -> u8 {
+        self.word() as u8
+    }
+
+    pub fn bytes(&mut self, length: usize) -> Vec<u8> {
+        (0..length).map(|_| self.byte()).collect()
+    }
+
+    /// A byte that often decides on a refusal: a small number, a legal map or a
+    /// count at its limit; one time in four any byte.
+    pub fn likely_byte(&mut self) -> u8 {
+        match self.below(4) {
+            0 => self.byte(),
+            1 => LEGAL_MAPS[self.below(LEGAL_MAPS.len())],
+            2 => self.between(0, 8),
+            _ => [9, 14, 15, 16, 17, 63, 64, 65, 127, 128, 255][self.below(11)],
+        }
+    }
+
+    pub fn likely_bytes(&mut self, length: usize) -> Vec<u8> {
+        (0..length).map(|_| self.likely_byte()).collect()
+    }
+
+    /// A special attribute, 1 to 15.
+    fn attribute(&mut self) -> u8 {
+        self.between(1, 15)
+    }
+
+    /// An attribute set; one time in eight empty, one time in eight full.
+    fn attribute_set(&mut self) -> u16 {
+        match self.below(8) {
+            0 => 0,
+            1 => 0xfffe,
+            _ => self.word() as u16 & 0xfffe,
+        }
+    }
+
+    /// A node that is accepted at this number; node 0 is a relation.
+    fn node(&mut self, relations: u8, number: u8) -> Node {
+        let relation = self.between(0, relations - 1);
+        if number == 0 {
+            return Node::Relation { relation };
+        }
+        let (left, right) = (self.between(0, number - 1), self.between(0, number - 1));
+        let (operand, set) = (left, self.attribute_set());
+        let (old, new) = (self.attribute(), self.attribute());
+        match self.below(9) {
+            0 => Node::Relation { relation },
+            1 => Node::Union { left, right },
+            2 => Node::Difference { left, right },
+            3 => Node::NaturalJoin { left, right },
+            4 => Node::Product { left, right },
+            5 => Node::Selection { operand, set },
+            6 => Node::Projection { operand, set },
+            7 => Node::Renaming { operand, old, new },
+            _ => Node::ProjectingOut { operand, old },
+        }
+    }
+
+    /// The nodes of an accepted file with m relations and n nodes.
+    pub fn nodes(&mut self, relations: u8, count: u8) -> Vec<Node> {
+        (0..count)
+            .map(|number| self.node(relations, number))
+            .collect()
+    }
+
+    /// An accepted file with m relations and n nodes.
+    pub fn accepted_file(&mut self, relations: u8, count: u8) -> Vec<u8> {
+        encode_file(relations, &self.nodes(relations, count))
+    }
+
+    /// An accepted file with any m and n.
+    pub fn any_accepted_file(&mut self) -> Vec<u8> {
+        let (relations, count) = (self.between(1, 8), self.between(1, 64));
+        self.accepted_file(relations, count)
+    }
+
+    /// Changes, deletes or inserts a byte, truncates or appends, once.
+    pub fn disturb(&mut self, bytes: &mut Vec<u8>) {
+        let place = self.below(bytes.len() + 1);
+        let within = place < bytes.len();
+        match self.below(8) {
+            0 if within => drop(bytes.remove(place)),
+            1 => bytes.insert(place, self.likely_byte()),
+            2 => bytes.truncate(place),
+            3 => {
+                let length = 1 + self.below(6);
+                bytes.extend(self.likely_bytes(length));
+            }
+            _ if within => bytes[place] = self.likely_byte(),
+            _ => bytes.push(self.likely_byte()),
+        }
+    }
+}
