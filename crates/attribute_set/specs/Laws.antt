@@ -1,6 +1,6 @@
 -- The laws of attribute sets: what building, adding and testing do to each other, and that bit 0 stays clear.
 use Prim.Native.Nat.{ℕ, zero, _^_, _≤_}
-use mathlib.Core.Path.{_≡_, refl, sym, ap, ap₂, _∙_}
+use mathlib.Core.Path.{_≡_, refl, sym, ap, ap₂, subst, _∙_}
 use mathlib.Core.Bool.{Bool, true, false, cond, _&&_, _||_, or-false, or-comm}
 use native.Mathlib.Omega.{arith}
 use borrow.Author.Tests.{ne-eqb}
@@ -67,6 +67,9 @@ built-set bits s = go (bit bits 0)
     go true e = absurd (let z : _≡_ {A = ℕ} 0 1 = cc in omega arith)
     go false e = (refl, cc)
 
-pub clear-built : (bits : ℕ) (s : AttrSet) → fromBits bits ≡ Set s → Clear s
+pub clear-set : (bits : ℕ) → bit bits 0 ≡ false → Clear (setOf bits)
 unfolding Clear
-clear-built bits s e = let h = built-set bits s e in ap (λ (x : AttrSet). hasAttribute x 0) (h .1) ∙ has-set bits 0 ∙ h .0
+clear-set bits h = has-set bits 0 ∙ h
+
+pub clear-built : (bits : ℕ) (s : AttrSet) → fromBits bits ≡ Set s → Clear s
+clear-built bits s e = let h = built-set bits s e in subst Clear (sym (h .1)) (clear-set bits (h .0))

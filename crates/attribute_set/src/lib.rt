@@ -1,6 +1,13 @@
 // Sets of special attributes: sixteen bits with bit 0 clear, bit i for attribute i.
 ghost use mathlib.Core.Path.{_≡_};
-ghost use Rattle.attribute_set.specs.AttrSet.{emptySet, fromBits, withAttribute, hasAttribute};
+ghost use Rattle.attribute_set.specs.AttrSet.{special, emptySet, fromBits, withAttribute, hasAttribute};
+
+// Whether `a` is a special attribute, 1 to 15.
+pub fn is_special(a: u8) -> bool
+    ensures { λ r. ⌜ r ≡ special a ⌝ }
+{
+    bits::in_range(1, 15, a)
+}
 
 // An attribute set of document 01. The field is private, so that every set outside this crate was
 // made by the functions below, and has bit 0 clear.
@@ -38,7 +45,7 @@ impl AttrSet {
     pub fn add(self, a: u8) -> AttrSet
         ensures { λ r. ⌜ r ≡ withAttribute self a ⌝ }
     {
-        if bits::in_range(1, 15, a) {
+        if is_special(a) {
             AttrSet {
                 bits: self.bits | (1u16 << a),
             }

@@ -1,1 +1,1 @@
-mod Chain
+mod Resume

@@ -5,8 +5,8 @@ use mathlib.Core.List.{List, [], _∷_}
 use lib.Dec.{eqb, ltb, leb}
 use lib.ListN.{length, getD}
 use Rattle.bits.specs.Bit.{bit}
-use Rattle.bits.specs.Range.{inRange}
-use Rattle.attribute_set.specs.AttrSet.{setOf}
+use Rattle.attribute_set.specs.AttrSet.{special, setOf}
+use Rattle.refusal.specs.Chain.{refuse}
 use Rattle.refusal.specs.declared.Refusal.{Refusal}
 use Rattle.refusal.specs.declared.Refusal.the-variants.{NodeTruncated, NodeMap, OperatorCode, RelationNumber, Operand, Attribute}
 use Rattle.expression.specs.declared.nodes.BinaryOp.{BinaryOp}
@@ -86,10 +86,6 @@ valueOf map bytes f = numberAt f bytes (placeIn (fieldsOf map) 1 f)
 
 -- ---- judgement
 
-abbrev pub refuse : Bool → Refusal → Reading → Reading
-refuse true r next = Refused r
-refuse false r next = next
-
 abbrev pub unknownBinary : BinaryCode → Bool
 unknownBinary (BinaryOperator op) = false
 unknownBinary NoBinaryOperator = true
@@ -109,8 +105,8 @@ wrong m k map left v = leb k v
 wrong m k map right v = leb k v
 wrong m k map code v = unknownCode map v
 wrong m k map attributes v = bit v 0
-wrong m k map old v = not (inRange 1 15 v)
-wrong m k map new v = not (inRange 1 15 v)
+wrong m k map old v = not (special v)
+wrong m k map new v = not (special v)
 
 abbrev pub refusalOf : Field → Refusal
 refusalOf relation = RelationNumber
@@ -125,15 +121,15 @@ refusalOf new = Attribute
 abbrev pub judge : ℕ → ℕ → ℕ → List ℕ → List Field → Reading → Reading
 judge m k map bytes [] next = next
 judge m k map bytes (f ∷ fs) next =
-    refuse (wrong m k map f (valueOf map bytes f)) (refusalOf f) (judge m k map bytes fs next)
+    refuse Refused (wrong m k map f (valueOf map bytes f)) (refusalOf f) (judge m k map bytes fs next)
 
 -- ---- the node
 
-abbrev pub withBinary : BinaryCode → (BinaryOp → Reading) → Reading
+unfoldable pub withBinary : BinaryCode → (BinaryOp → Reading) → Reading
 withBinary (BinaryOperator op) next = next op
 withBinary NoBinaryOperator next = Refused OperatorCode
 
-abbrev pub withSet : SetCode → (SetOp → Reading) → Reading
+unfoldable pub withSet : SetCode → (SetOp → Reading) → Reading
 withSet (SetOperator op) next = next op
 withSet NoSetOperator next = Refused OperatorCode
 
@@ -153,12 +149,12 @@ nodeWith map v n =
 -- "then 4, then the fields in bit order"
 unfoldable pub readFields : ℕ → ℕ → ℕ → List ℕ → Reading
 readFields m k map bytes =
-    refuse (ltb (length bytes) (sizeOf map)) NodeTruncated
+    refuse Refused (ltb (length bytes) (sizeOf map)) NodeTruncated
     (judge m k map bytes (fieldsOf map) (nodeWith map (valueOf map bytes) (sizeOf map)))
 
 -- node k of a file with m relations, off the front of the bytes: "node by node 5, then 4"; "A node without its map byte is 4."
 unfoldable pub readNode : ℕ → ℕ → List ℕ → Reading
 readNode m k bytes =
-    refuse (ltb (length bytes) 1) NodeTruncated
-    (refuse (not (legal (getD bytes 0 0))) NodeMap
+    refuse Refused (ltb (length bytes) 1) NodeTruncated
+    (refuse Refused (not (legal (getD bytes 0 0))) NodeMap
     (readFields m k (getD bytes 0 0) bytes))

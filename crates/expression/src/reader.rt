@@ -2,7 +2,7 @@
 ghost use mathlib.Core.Path.{_≡_};
 ghost use Rattle.expression.specs.ReadNode.{readNode, readFields};
 
-use attribute_set::{AttrSet, Built};
+use attribute_set::{AttrSet, Built, is_special};
 use crate::nodes::{BinaryCode, Node, SetCode, binary_operator, set_operator};
 use refusal::Refusal;
 
@@ -77,11 +77,11 @@ fn read_renaming(k: u8, bytes: &[u8]) -> Reading
         return Reading::Refused(Refusal::Operand);
     }
     let old = bytes[2];
-    if !bits::in_range(1, 15, old) {
+    if !is_special(old) {
         return Reading::Refused(Refusal::Attribute);
     }
     let new = bytes[3];
-    if !bits::in_range(1, 15, new) {
+    if !is_special(new) {
         return Reading::Refused(Refusal::Attribute);
     }
     Reading::Read(Node::Renaming(operand, old, new), 4)
@@ -98,7 +98,7 @@ fn read_projecting_out(k: u8, bytes: &[u8]) -> Reading
         return Reading::Refused(Refusal::Operand);
     }
     let old = bytes[2];
-    if !bits::in_range(1, 15, old) {
+    if !is_special(old) {
         return Reading::Refused(Refusal::Attribute);
     }
     Reading::Read(Node::ProjectingOut(operand, old), 3)

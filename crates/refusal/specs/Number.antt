@@ -7,7 +7,7 @@ use lib.ListN.{getD}
 use Rattle.refusal.specs.declared.Refusal.{Refusal}
 use Rattle.refusal.specs.declared.Refusal.the-variants.{HeaderTruncated, RelationCount, NodeCount, NodeTruncated, NodeMap, OperatorCode, RelationNumber, Operand, Attribute, NodesFollowed, NodeNumber, WorkSpace, ResultSlice, InputTruncated, CountZero, ListedAttribute, InputFollowed, TooManyAttributes, RepeatedAttribute, TypeVariable, SpecialSubset}
 
-unfoldable pub numberOf : Refusal → ℕ
+abbrev pub numberOf : Refusal → ℕ
 numberOf HeaderTruncated = 1
 numberOf RelationCount = 2
 numberOf NodeCount = 3
@@ -38,7 +38,7 @@ row : ℕ → Refusal
 row n = getD table (pred n) HeaderTruncated
 
 number-row : (r : Refusal) → row (numberOf r) ≡ r
-unfolding numberOf row table
+unfolding row table
 number-row HeaderTruncated = refl
 number-row RelationCount = refl
 number-row NodeCount = refl
@@ -67,7 +67,6 @@ number-once a b e = sym (number-row a) ∙ ap row e ∙ number-row b
 
 -- 0 is no refusal's number
 pub number-positive : (r : Refusal) → 1 ≤ numberOf r
-unfolding numberOf
 number-positive HeaderTruncated = lit≤ tt
 number-positive RelationCount = lit≤ tt
 number-positive NodeCount = lit≤ tt

@@ -5,30 +5,30 @@ use native.Mathlib.Nat.{one-mul, mod-eq-of-lt}
 use native.Mathlib.Omega.{arith}
 use borrow.Author.Needs.{needs}
 use lib.Pow.{pow-lt}
-use Rattle.bits.specs.Range.{in-range}
-use Rattle.attribute_set.specs.AttrSet.{special, withAttribute, setOf}
+use Rattle.attribute_set.specs.Laws.{special-range}
+use Rattle.attribute_set.specs.AttrSet.{withAttribute, setOf}
 use Rattle.attribute_set.proofs.AttrSet.add.Statement.{statement}
 use Rattle.attribute_set.proofs.AttrSet.add.Tie as tie
 
-in-range-requires : tie.Need-in-range-requires
-in-range-requires c κs = search needs
+is-special-requires : tie.Need-is-special-requires
+is-special-requires c κs = search needs
 
 shl-t6 : tie.Need-shl-t6
-shl-t6 c = omega (arith, in-range 1 15 _ (sym (c .before .in-range .ensures) ∙ c .if1 .taken))
+shl-t6 c = omega (arith, special-range _ (sym (c .before .is-special .ensures) ∙ c .if1 .taken))
 
 -- a power of two below the width is not cut
 power : (a : ℕ) → a ≤ 15 → 1 * 2 ^ a % 65536 ≡ 2 ^ a
 power a h = ap (λ (p : ℕ). p % 65536) (one-mul (2 ^ a)) ∙ mod-eq-of-lt (pow-lt {j = 16} (omega arith))
 
 returns : tie.Need-returns
-unfolding withAttribute special setOf
+unfolding withAttribute setOf
 returns c =
-    let special = sym (c .before .before .in-range .ensures) ∙ c .before .if1 .taken in
-    simp (special, power _ (in-range 1 15 _ special .1))
+    let special = sym (c .before .before .is-special .ensures) ∙ c .before .if1 .taken in
+    simp (special, power _ (special-range _ special .1))
 
 returns-2 : tie.Need-returns-2
-unfolding withAttribute special
-returns-2 c = simp (← c .before .in-range .ensures, c .if1 .left)
+unfolding withAttribute
+returns-2 c = simp (← c .before .is-special .ensures, c .if1 .left)
 
 pub add-spec : {M : Type 1} → statement M
-add-spec = tie.close (tie.spec in-range-requires shl-t6 returns returns-2)
+add-spec = tie.close (tie.spec is-special-requires shl-t6 returns returns-2)

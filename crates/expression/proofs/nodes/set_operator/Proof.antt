@@ -1,5 +1,5 @@
 use Rattle.expression.specs.Operators.{setCode}
-use Rattle.expression.proofs.Chain.{chain}
+use Rattle.refusal.specs.Chain.{chain}
 use Rattle.expression.proofs.nodes.set_operator.Statement.{statement}
 use Rattle.expression.proofs.nodes.set_operator.Tie as tie
 

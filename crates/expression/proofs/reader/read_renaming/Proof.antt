@@ -1,44 +1,44 @@
 use borrow.Author.Tests.{le-ltb, lt-leb}
 use borrow.Author.Needs.{needs}
 use Rattle.expression.specs.ReadNode.{readFields}
-use Rattle.expression.proofs.Chain.{chain}
+use Rattle.refusal.specs.Chain.{refuse, chain}
 use Rattle.expression.proofs.reader.read_renaming.Statement.{statement}
 use Rattle.expression.proofs.reader.read_renaming.Tie as tie
 
 returns : tie.Need-returns
-unfolding readFields
+unfolding readFields refuse
 returns c = search chain
 
 shared-slice-read-operand : tie.Need-shared-slice-read-operand
 shared-slice-read-operand c = search needs
 
 returns-2 : tie.Need-returns-2
-unfolding readFields
+unfolding readFields refuse
 returns-2 c = search chain
 
 shared-slice-read-old : tie.Need-shared-slice-read-old
 shared-slice-read-old c = search needs
 
-in-range-requires : tie.Need-in-range-requires
-in-range-requires c κs = search needs
+is-special-requires : tie.Need-is-special-requires
+is-special-requires c κs = search needs
 
 returns-3 : tie.Need-returns-3
-unfolding readFields
-returns-3 c = simp (le-ltb _ _ (c .before .before .before .before .before .if1 .left), lt-leb _ _ (c .before .before .before .if2 .left), ← c .before .in-range .ensures, c .if3 .taken)
+unfolding readFields refuse
+returns-3 c = simp (le-ltb _ _ (c .before .before .before .before .before .if1 .left), lt-leb _ _ (c .before .before .before .if2 .left), ← c .before .is-special .ensures, c .if3 .taken)
 
 shared-slice-read-new : tie.Need-shared-slice-read-new
 shared-slice-read-new c = search needs
 
-in-range-requires-2 : tie.Need-in-range-requires-2
-in-range-requires-2 c κs = search needs
+is-special-requires-2 : tie.Need-is-special-requires-2
+is-special-requires-2 c κs = search needs
 
 returns-4 : tie.Need-returns-4
-unfolding readFields
-returns-4 c = simp (le-ltb _ _ (c .before .before .before .before .before .before .before .before .if1 .left), lt-leb _ _ (c .before .before .before .before .before .before .if2 .left), ← c .before .before .before .before .in-range .ensures, c .before .before .before .if3 .left, ← c .before .in-range2 .ensures, c .if4 .taken)
+unfolding readFields refuse
+returns-4 c = simp (le-ltb _ _ (c .before .before .before .before .before .before .before .before .if1 .left), lt-leb _ _ (c .before .before .before .before .before .before .if2 .left), ← c .before .before .before .before .is-special .ensures, c .before .before .before .if3 .left, ← c .before .is-special2 .ensures, c .if4 .taken)
 
 returns-5 : tie.Need-returns-5
-unfolding readFields
-returns-5 c = simp (le-ltb _ _ (c .before .before .before .before .before .before .before .before .if1 .left), lt-leb _ _ (c .before .before .before .before .before .before .if2 .left), ← c .before .before .before .before .in-range .ensures, c .before .before .before .if3 .left, ← c .before .in-range2 .ensures, c .if4 .left)
+unfolding readFields refuse
+returns-5 c = simp (le-ltb _ _ (c .before .before .before .before .before .before .before .before .if1 .left), lt-leb _ _ (c .before .before .before .before .before .before .if2 .left), ← c .before .before .before .before .is-special .ensures, c .before .before .before .if3 .left, ← c .before .is-special2 .ensures, c .if4 .left)
 
 pub read-renaming-spec : {M : Type 1} → statement M
 read-renaming-spec =
@@ -48,9 +48,9 @@ read-renaming-spec =
     shared-slice-read-operand
     returns-2
     shared-slice-read-old
-    in-range-requires
+    is-special-requires
     returns-3
     shared-slice-read-new
-    in-range-requires-2
+    is-special-requires-2
     returns-4
     returns-5)

@@ -3,20 +3,20 @@ use native.Mathlib.Omega.{arith}
 use Rattle.attribute_set.specs.Laws.{built-none, built-set}
 use borrow.Author.Tests.{le-ltb, lt-leb}
 use borrow.Author.Needs.{needs}
-use Rattle.expression.specs.ReadNode.{readFields}
-use Rattle.expression.proofs.Chain.{chain}
+use Rattle.expression.specs.ReadNode.{readFields, withSet}
+use Rattle.refusal.specs.Chain.{refuse, chain}
 use Rattle.expression.proofs.reader.read_with_set.Statement.{statement}
 use Rattle.expression.proofs.reader.read_with_set.Tie as tie
 
 returns : tie.Need-returns
-unfolding readFields
+unfolding readFields refuse withSet
 returns c = search chain
 
 shared-slice-read-operand : tie.Need-shared-slice-read-operand
 shared-slice-read-operand c = search needs
 
 returns-2 : tie.Need-returns-2
-unfolding readFields
+unfolding readFields refuse withSet
 returns-2 c = search chain
 
 shared-slice-read-set-operator : tie.Need-shared-slice-read-set-operator
@@ -59,15 +59,15 @@ enum-told-2 : tie.Need-enum-told-2
 enum-told-2 c = search needs
 
 returns-3 : tie.Need-returns-3
-unfolding readFields
+unfolding readFields refuse withSet
 returns-3 c = let built = built-set _ _ (sym (c .before .before .before .build .ensures) ∙ c .before .set .given .1) in simp (le-ltb _ _ (c .before .before .before .before .before .before .before .before .before .before .before .before .before .if1 .left), lt-leb _ _ (c .before .before .before .before .before .before .before .before .before .before .before .if2 .left), ← c .before .before .before .before .before .before .before .before .before .set-operator .ensures, c .before .before .before .before .before .before .before .op .given .1, built .0, built .1)
 
 returns-4 : tie.Need-returns-4
-unfolding readFields
+unfolding readFields refuse withSet
 returns-4 c = simp (le-ltb _ _ (c .before .before .before .before .before .before .before .before .before .before .before .before .if1 .left), lt-leb _ _ (c .before .before .before .before .before .before .before .before .before .before .if2 .left), ← c .before .before .before .before .before .before .before .before .set-operator .ensures, c .before .before .before .before .before .before .op .given .1, built-none _ (sym (c .before .before .build .ensures) ∙ c .enum-told .given .1))
 
 returns-5 : tie.Need-returns-5
-unfolding readFields
+unfolding readFields refuse withSet
 returns-5 c = simp (le-ltb _ _ (c .before .before .before .before .before .before .if1 .left), lt-leb _ _ (c .before .before .before .before .if2 .left), ← c .before .before .set-operator .ensures, c .enum-told2 .given .1)
 
 pub read-with-set-spec : {M : Type 1} → statement M

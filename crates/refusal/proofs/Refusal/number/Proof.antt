@@ -1,5 +1,4 @@
 use borrow.Author.Needs.{needs}
-use Rattle.refusal.specs.Number.{numberOf}
 use Rattle.refusal.proofs.Refusal.number.Statement.{statement}
 use Rattle.refusal.proofs.Refusal.number.Tie as tie
 
@@ -67,87 +66,66 @@ enum-told-21 : tie.Need-enum-told-21
 enum-told-21 c = search needs
 
 returns : tie.Need-returns
-unfolding numberOf
 returns c = rw (c .enum-told .given .1)
 
 returns-2 : tie.Need-returns-2
-unfolding numberOf
 returns-2 c = rw (c .enum-told2 .given .1)
 
 returns-3 : tie.Need-returns-3
-unfolding numberOf
 returns-3 c = rw (c .enum-told3 .given .1)
 
 returns-4 : tie.Need-returns-4
-unfolding numberOf
 returns-4 c = rw (c .enum-told4 .given .1)
 
 returns-5 : tie.Need-returns-5
-unfolding numberOf
 returns-5 c = rw (c .enum-told5 .given .1)
 
 returns-6 : tie.Need-returns-6
-unfolding numberOf
 returns-6 c = rw (c .enum-told6 .given .1)
 
 returns-7 : tie.Need-returns-7
-unfolding numberOf
 returns-7 c = rw (c .enum-told7 .given .1)
 
 returns-8 : tie.Need-returns-8
-unfolding numberOf
 returns-8 c = rw (c .enum-told8 .given .1)
 
 returns-9 : tie.Need-returns-9
-unfolding numberOf
 returns-9 c = rw (c .enum-told9 .given .1)
 
 returns-10 : tie.Need-returns-10
-unfolding numberOf
 returns-10 c = rw (c .enum-told10 .given .1)
 
 returns-11 : tie.Need-returns-11
-unfolding numberOf
 returns-11 c = rw (c .enum-told11 .given .1)
 
 returns-12 : tie.Need-returns-12
-unfolding numberOf
 returns-12 c = rw (c .enum-told12 .given .1)
 
 returns-13 : tie.Need-returns-13
-unfolding numberOf
 returns-13 c = rw (c .enum-told13 .given .1)
 
 returns-14 : tie.Need-returns-14
-unfolding numberOf
 returns-14 c = rw (c .enum-told14 .given .1)
 
 returns-15 : tie.Need-returns-15
-unfolding numberOf
 returns-15 c = rw (c .enum-told15 .given .1)
 
 returns-16 : tie.Need-returns-16
-unfolding numberOf
 returns-16 c = rw (c .enum-told16 .given .1)
 
 returns-17 : tie.Need-returns-17
-unfolding numberOf
 returns-17 c = rw (c .enum-told17 .given .1)
 
 returns-18 : tie.Need-returns-18
-unfolding numberOf
 returns-18 c = rw (c .enum-told18 .given .1)
 
 returns-19 : tie.Need-returns-19
-unfolding numberOf
 returns-19 c = rw (c .enum-told19 .given .1)
 
 returns-20 : tie.Need-returns-20
-unfolding numberOf
 returns-20 c = rw (c .enum-told20 .given .1)
 
 returns-21 : tie.Need-returns-21
-unfolding numberOf
 returns-21 c = rw (c .enum-told21 .given .1)
 
 pub number-spec : {M : Type 1} → statement M

@@ -1,0 +1,157 @@
+-- The law of the walk over the nodes of an accepted file, for every loop over nodes: where it begins, what the next step reads, where it ends.
+use Prim.Native.Nat.{ℕ, zero, suc, _+_, _-_, _*_, _≤_, _<_}
+use mathlib.Core.Path.{_≡_, refl, sym, ap, subst, _∙_}
+use mathlib.Core.List.{List, [], _∷_}
+use native.Mathlib.Nat.{sub-zero, sub-self, le-refl}
+use native.Mathlib.Numerals.{add-one}
+use native.Mathlib.Omega.{arith}
+use lib.ListN.{length, getD, take, drop, length-drop}
+use lib.Seq.{drop-drop}
+use Rattle.bits.specs.Part.{part-from}
+use Rattle.refusal.specs.declared.Refusal.{Refusal}
+use Rattle.expression.specs.declared.nodes.Node.{Node}
+use Rattle.expression.specs.declared.nodes.Node.the-variants.{Relation}
+use Rattle.expression.specs.declared.reader.Reading.the-variants.{Read, Refused as NodeRefused}
+use Rattle.expression.specs.declared.files.Acceptance.the-variants.{Accepted}
+use Rattle.expression.specs.ReadNode.{readNode}
+use Rattle.expression.specs.ReadFile.{Entry, nodesRead, atEnd, readNodes, acceptance, entriesOf, entryAt, nodeAt, total, startAt}
+use Rattle.expression.specs.Legal.{LegalNode, node-legal}
+use Rattle.expression.specs.Accepted.{FirstNode, first-node, AcceptedFile, accepted-file}
+
+-- past the last node
+abbrev none : Entry
+none = record { node = Relation 0; bytes = [] }
+
+-- the walk stands before node k, at byte `at`
+pub record Walk (file : List ℕ) (m n k at : ℕ) : Type 0 where
+  pub inside : at ≤ length file
+  pub place : at ≡ startAt file k
+  pub rest : readNodes m (n - k) k (drop at file) ≡ nodesRead (drop k (entriesOf file))
+
+pub walk-first : (file : List ℕ) (m n : ℕ) → acceptance file ≡ Accepted m n → Walk file m n 0 2
+unfolding startAt
+walk-first file m n e =
+    let accepted = accepted-file file m n e in
+    record
+      { inside = accepted .counts .header
+      ; place = refl
+      ; rest = rw sub-zero (accepted .nodes)
+      }
+
+-- ---- one step
+
+-- the step from node k, whose entry is e: its reading, in the words of a call on the file from `at` on, its bytes, and the walk after it
+pub record Step (file : List ℕ) (m n k at : ℕ) (e : Entry) : Type 0 where
+  pub reading : readNode m k (take (length file - at) (drop at file)) ≡ Read (e .node) (length (e .bytes))
+  pub legal : LegalNode m k (e .node)
+  pub part : e .bytes ≡ take (length (e .bytes)) (drop at file)
+  pub least : 2 ≤ length (e .bytes)
+  pub most : length (e .bytes) ≤ 5
+  pub next : Walk file m n (k + 1) (at + length (e .bytes))
+
+total-more : (es : List Entry) (k : ℕ) (d : Entry) → k < length es → total (take (suc k) es) ≡ total (take k es) + length (getD es k d .bytes)
+total-more [] k d h = absurd (omega arith)
+total-more (e ∷ es) zero d h = omega arith
+total-more (e ∷ es) (suc k) d h = let more = total-more es k d (omega arith) in rw more (omega arith)
+
+-- where a list goes on with e from k on, e is its element k
+pub record At {A : Type 0} (es : List A) (k : ℕ) (d e : A) (others : List A) : Type 0 where
+  pub below : k < length es
+  pub here : getD es k d ≡ e
+  pub rest : drop (suc k) es ≡ others
+
+at-head : {A : Type 0} (es : List A) (k : ℕ) (d e : A) (others : List A) → drop k es ≡ e ∷ others → At es k d e others
+at-head [] zero d e others h = absurd (let z : _≡_ {A = ℕ} 0 1 = cc in omega arith)
+at-head [] (suc k) d e others h = absurd (let z : _≡_ {A = ℕ} 0 1 = cc in omega arith)
+at-head (x ∷ es) zero d e others h = record { below = omega arith; here = cc; rest = cc }
+at-head (x ∷ es) (suc k) d e others h =
+    let t = at-head es k d e others h in
+    record { below = let b = t .below in omega arith; here = t .here; rest = t .rest }
+
+next-walk : (file : List ℕ) (m n k at : ℕ) (e : Entry) (others : List Entry) → Walk file m n k at → At (entriesOf file) k none e others → length (e .bytes) ≤ length (drop at file) → readNodes m (n - (k + 1)) (k + 1) (drop (length (e .bytes)) (drop at file)) ≡ nodesRead others → Walk file m n (k + 1) (at + length (e .bytes))
+unfolding startAt
+next-walk file m n k at e others w here fits rest =
+    let more = total-more (entriesOf file) k none (here .below) in
+    let size = ap (λ (x : Entry). length (x .bytes)) (here .here) in
+    let place = w .place in
+    record
+      { inside = let l = length-drop at file in let i = w .inside in omega arith
+      ; place = rw (add-one k) (omega arith)
+      ; rest = rw (← drop-drop) (rest ∙ ap nodesRead (sym (here .rest) ∙ ap (λ (j : ℕ). drop j (entriesOf file)) (sym (add-one k))))
+      }
+
+step-from : (file : List ℕ) (m n k at : ℕ) → Walk file m n k at → FirstNode m (n - (k + 1)) k (drop at file) (drop k (entriesOf file)) → Step file m n k at (entryAt file k)
+unfolding entryAt
+step-from file m n k at w node =
+    let e = node .first in
+    let here = at-head (entriesOf file) k none e (node .others) (node .entries) in
+    let legal = node-legal m k (drop at file) (e .node) (length (e .bytes)) (node .reading) in
+    subst (Step file m n k at) (sym (here .here))
+    (record
+      { reading = rw part-from (node .reading)
+      ; legal = legal .legal
+      ; part = node .part
+      ; least = legal .least
+      ; most = legal .most
+      ; next = next-walk file m n k at e (node .others) w here (node .fits) (node .rest)
+      })
+
+pub walk-next : (file : List ℕ) (m n k at : ℕ) → Walk file m n k at → k < n → Step file m n k at (entryAt file k)
+walk-next file m n k at w h =
+    let left : n - k ≡ suc (n - (k + 1)) = omega arith in
+    step-from file m n k at w (first-node m (n - (k + 1)) k (drop at file) (drop k (entriesOf file)) (rw left at (w .rest)))
+
+-- no refusal can occur
+pub walk-reads : (file : List ℕ) (m n k at : ℕ) (r : Refusal) → Walk file m n k at → k < n → readNode m k (take (length file - at) (drop at file)) ≡ NodeRefused r → ⊥
+walk-reads file m n k at r w h e =
+    let reading = walk-next file m n k at w h .reading in
+    let z : _≡_ {A = ℕ} 0 1 = cc in
+    omega arith
+
+-- ---- the end, and each node
+
+at-end : (bytes : List ℕ) (es : List Entry) → atEnd bytes ≡ nodesRead es → length bytes ≡ 0
+at-end [] es e = refl
+at-end (b ∷ bs) es e = absurd (let z : _≡_ {A = ℕ} 0 1 = cc in omega arith)
+
+pub walk-end : (file : List ℕ) (m n at : ℕ) → Walk file m n n at → at ≡ length file
+unfolding readNodes
+walk-end file m n at w =
+    let none-left = at-end (drop at file) (drop n (entriesOf file)) (rw sub-self at (w .rest)) in
+    let l = length-drop at file in
+    let i = w .inside in
+    omega arith
+
+placed : {file : List ℕ} {m n k at : ℕ} → Walk file m n k at → Walk file m n k (startAt file k)
+placed {file} {m} {n} {k} {at} w = subst (Walk file m n k) (w .place) w
+
+-- the walk comes to each node, at its start
+pub walk-to : (file : List ℕ) (m n : ℕ) → acceptance file ≡ Accepted m n → (k : ℕ) → k ≤ n → Walk file m n k (startAt file k)
+walk-to file m n e zero h = placed (walk-first file m n e)
+walk-to file m n e (suc k) h =
+    let next = walk-next file m n k (startAt file k) (walk-to file m n e k (omega arith)) (omega arith) .next in
+    placed (rw (add-one k) at next)
+
+pub step-at : (file : List ℕ) (m n : ℕ) → acceptance file ≡ Accepted m n → (k : ℕ) → k < n → Step file m n k (startAt file k) (entryAt file k)
+step-at file m n e k h = walk-next file m n k (startAt file k) (walk-to file m n e k (omega arith)) h
+
+-- every node of an accepted file is legal
+pub nodes-legal : (file : List ℕ) (m n : ℕ) → acceptance file ≡ Accepted m n → (k : ℕ) → k < n → LegalNode m k (nodeAt file k)
+nodes-legal file m n e k h = step-at file m n e k h .legal
+
+start-most : (file : List ℕ) (m n : ℕ) → acceptance file ≡ Accepted m n → (k : ℕ) → k ≤ n → startAt file k ≤ 2 + 5 * k
+start-most file m n e zero h = let w = walk-first file m n e .place in omega arith
+start-most file m n e (suc k) h =
+    let step = step-at file m n e k (omega arith) in
+    let before = start-most file m n e k (omega arith) in
+    let here = rw (add-one k) at (step .next .place) in
+    let most = step .most in
+    omega arith
+
+-- an accepted file has at most 322 bytes
+pub file-most : (file : List ℕ) (m n : ℕ) → acceptance file ≡ Accepted m n → length file ≤ 322
+file-most file m n e =
+    let whole = walk-end file m n (startAt file n) (walk-to file m n e n (le-refl n)) in
+    let most = start-most file m n e n (le-refl n) in
+    let nodes = accepted-file file m n e .counts .nodes .1 in
+    omega arith

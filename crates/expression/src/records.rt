@@ -1,0 +1,46 @@
+// Record: the part of the file that holds a node.
+ghost use mathlib.Core.Path.{_≡_};
+ghost use Rattle.expression.specs.Record.{placeOf, recordOf};
+
+use crate::files::{Acceptance, accept};
+use crate::reader::{Reading, read_node};
+
+// A part of a file: its first byte and the number of its bytes.
+pub struct Place {
+    pub start: usize,
+    pub len: usize,
+}
+
+// Where the part that Record returns lies; it is empty and starts at 0 where 1 to 11 apply.
+pub fn locate(file: &[u8], node: usize) -> Place
+    ensures { λ r. ⌜ r ≡ placeOf (now (file .entry)) node ⌝ }
+{
+    let Acceptance::Accepted(m, n) = accept(file) else {
+        return Place { start: 0, len: 0 };
+    };
+    if n as usize <= node {
+        return Place { start: 0, len: 0 };
+    }
+    let mut at = 2;
+    let mut k = 0;
+    loop {
+        let Reading::Read(_, size) = read_node(m, k, &file[at..]) else {
+            return Place { start: 0, len: 0 };
+        };
+        if k as usize == node {
+            return Place { start: at, len: size };
+        }
+        at += size;
+        k += 1;
+    }
+}
+
+// The part of the file that holds the node, or an empty part where 1 to 11 apply.
+pub fn record(file: &[u8], node: usize) -> &[u8]
+    ensures { λ r. ⌜ now r ≡ recordOf (now (file .entry)) node ⌝ }
+{
+    let place = locate(file, node);
+    let start = place.start;
+    let end = start + place.len;
+    &file[start..end]
+}
