@@ -1,15 +1,17 @@
 -- What an accepted file is made of: the counts in their ranges, and as many entries as the second count says.
 use Prim.Native.Nat.{ℕ, zero, suc, _+_, _≤_}
-use mathlib.Core.Path.{_≡_, refl, sym, ap, _∙_}
+use mathlib.Core.Path.{_≡_, refl, sym, ap, subst, _∙_}
 use mathlib.Core.Bool.{Bool, true, false, not}
 use mathlib.Core.List.{List, [], _∷_}
 use native.Mathlib.Omega.{arith}
 use borrow.Author.Tests.{ltb-false, not-false}
+use lib.Dec.{lit≤}
 use lib.ListN.{length, getD, take, drop}
 use lib.Seq.{length-take-le}
 use Rattle.bits.specs.Range.{inRange, in-range}
 use Rattle.refusal.specs.declared.Refusal.{Refusal}
 use Rattle.refusal.specs.Chain.{refuse}
+use Rattle.refusal.specs.Number.{numberOf}
 use Rattle.expression.specs.declared.nodes.Node.{Node}
 use Rattle.expression.specs.declared.reader.Reading.{Reading}
 use Rattle.expression.specs.declared.reader.Reading.the-variants.{Read, Refused as NodeRefused}
@@ -17,7 +19,7 @@ use Rattle.expression.specs.declared.files.Acceptance.{Acceptance}
 use Rattle.expression.specs.declared.files.Acceptance.the-variants.{Accepted, Refused}
 use Rattle.expression.specs.ReadNode.{readNode}
 use Rattle.expression.specs.ReadFile.{Entry, Nodes, nodesRefused, nodesRead, precede, follow, readNodes, File, fileRefused, fileAccepted, collect, afterHeader, header, parse, answer, acceptance, entriesIn, entriesOf}
-use Rattle.expression.specs.Legal.{node-legal}
+use Rattle.expression.specs.Legal.{node-legal, node-refused}
 
 -- ---- the counts
 
@@ -118,3 +120,47 @@ accepted-file file m n = from (header file) refl
     from : (h : Acceptance) → header file ≡ h → answer (afterHeader h file) ≡ Accepted m n → AcceptedFile file m n
     from (Refused r) h a = absurd (let z : _≡_ {A = ℕ} 0 1 = cc in omega arith)
     from (Accepted m′ n′) h a = made m′ n′ h _ refl a (ap (λ (x : Acceptance). entriesIn (afterHeader x file)) h)
+
+-- ---- a refused file's number is one of 1 to 10
+
+data SmallNumber : Acceptance → Type 0 where
+  accepted : {m n : ℕ} → SmallNumber (Accepted m n)
+  refused : {r : Refusal} → numberOf r ≤ 10 → SmallNumber (Refused r)
+
+small-refuse : (t : Bool) (r : Refusal) {next : Acceptance} → numberOf r ≤ 10 → SmallNumber next → SmallNumber (refuse Refused t r next)
+unfolding refuse
+small-refuse true r h s = refused h
+small-refuse false r h s = s
+
+small-header : (file : List ℕ) → SmallNumber (header file)
+unfolding header
+small-header file = small-refuse _ _ (lit≤ tt) (small-refuse _ _ (lit≤ tt) (small-refuse _ _ (lit≤ tt) accepted))
+
+small-follow : (m n k : ℕ) (bytes : List ℕ) (rest : List ℕ → Nodes) → ((bs : List ℕ) → SmallNumber (answer (collect m n (rest bs)))) → (r : Reading) → readNode m k bytes ≡ r → SmallNumber (answer (collect m n (follow r bytes rest)))
+small-follow m n k bytes rest h (NodeRefused r) e = refused (node-refused m k bytes r e)
+small-follow m n k bytes rest h (Read node size) e = preceded (rest (drop size bytes)) (h (drop size bytes))
+  where
+    preceded : (ns : Nodes) → SmallNumber (answer (collect m n ns)) → SmallNumber (answer (collect m n (precede (record { node = node; bytes = take size bytes }) ns)))
+    preceded (nodesRefused r) s = s
+    preceded (nodesRead es) s = s
+
+small-nodes : (m n count k : ℕ) (bytes : List ℕ) → SmallNumber (answer (collect m n (readNodes m count k bytes)))
+unfolding readNodes
+small-nodes m n zero k [] = accepted
+small-nodes m n zero k (b ∷ bs) = refused (lit≤ tt)
+small-nodes m n (suc count) k bytes =
+    small-follow m n k bytes (λ rest. readNodes m count (k + 1) rest) (small-nodes m n count (k + 1)) (readNode m k bytes) refl
+
+small-file : (file : List ℕ) → SmallNumber (acceptance file)
+unfolding acceptance parse
+small-file file = go (header file) (small-header file)
+  where
+    go : (h : Acceptance) → SmallNumber h → SmallNumber (answer (afterHeader h file))
+    go (Refused r) s = s
+    go (Accepted m n) s = small-nodes m n n 0 (drop 2 file)
+
+small-number : {r : Refusal} → SmallNumber (Refused r) → numberOf r ≤ 10
+small-number (refused h) = h
+
+pub file-refused : (file : List ℕ) (r : Refusal) → acceptance file ≡ Refused r → numberOf r ≤ 10
+file-refused file r e = small-number (subst SmallNumber e (small-file file))

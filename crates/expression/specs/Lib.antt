@@ -5,3 +5,4 @@ pub mod Record
 pub mod Legal
 pub mod Accepted
 pub mod Walk
+pub mod RecordLaws

@@ -14,7 +14,7 @@ use Rattle.expression.specs.declared.nodes.Node.the-variants.{Relation}
 use Rattle.expression.specs.declared.reader.Reading.the-variants.{Read, Refused as NodeRefused}
 use Rattle.expression.specs.declared.files.Acceptance.the-variants.{Accepted}
 use Rattle.expression.specs.ReadNode.{readNode}
-use Rattle.expression.specs.ReadFile.{Entry, nodesRead, atEnd, readNodes, acceptance, entriesOf, entryAt, nodeAt, total, startAt}
+use Rattle.expression.specs.ReadFile.{Entry, nodesRead, atEnd, readNodes, acceptance, entriesOf, entryAt, nodeAt, sizeAt, total, startAt}
 use Rattle.expression.specs.Legal.{LegalNode, node-legal}
 use Rattle.expression.specs.Accepted.{FirstNode, first-node, AcceptedFile, accepted-file}
 
@@ -107,6 +107,19 @@ walk-reads file m n k at r w h e =
     let reading = walk-next file m n k at w h .reading in
     let z : _≡_ {A = ℕ} 0 1 = cc in
     omega arith
+
+-- the step in the words of a match on the reading
+pub record Stepped (file : List ℕ) (m n k at : ℕ) (node : Node) (size : ℕ) : Type 0 where
+  pub node-is : node ≡ nodeAt file k
+  pub size-is : size ≡ sizeAt file k
+  pub next : Walk file m n (k + 1) (at + size)
+
+pub walk-read : (file : List ℕ) (m n k at : ℕ) (node : Node) (size : ℕ) → Walk file m n k at → k < n → readNode m k (take (length file - at) (drop at file)) ≡ Read node size → Stepped file m n k at node size
+walk-read file m n k at node size w h e =
+    let step = walk-next file m n k at w h in
+    let same : Read node size ≡ Read (nodeAt file k) (sizeAt file k) = sym e ∙ step .reading in
+    let size-is : size ≡ sizeAt file k = cc in
+    record { node-is = cc; size-is = size-is; next = rw size-is (step .next) }
 
 -- ---- the end, and each node
 

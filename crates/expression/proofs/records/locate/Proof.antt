@@ -1,16 +1,20 @@
+use Prim.Native.Nat.{_-_, _≤_, _<_}
+use mathlib.Core.Path.{_≡_, sym, ap, _∙_}
+use native.Mathlib.Omega.{arith}
+use Rattle.expression.specs.declared.files.Acceptance.the-variants.{Accepted}
+use Rattle.expression.specs.ReadFile.{acceptance}
+use Rattle.expression.specs.Record.{placeOf}
+use Rattle.expression.specs.RecordLaws.{ask-file, ask-past, record-refused, place-here}
+use Rattle.expression.specs.Walk.{Walk, walk-first, walk-read, walk-reads}
 use borrow.Author.Needs.{needs}
 use Rattle.expression.proofs.records.locate.Statement.{statement}
 use Rattle.expression.proofs.records.locate.Tie as tie
-use Rattle.expression.proofs.records.locate.Reads as reads
-use Rattle.expression.proofs.records.locate.Lts as lts
-use Rattle.expression.proofs.files.accept.Reads as accept-reads
-use Rattle.expression.proofs.reader.read_node.Reads as read-node-reads
 
 abbrev Inv-loop : tie.InvT-loop
-Inv-loop file node m n at₀ k₀ at k = ?
+Inv-loop file node m n at₀ k₀ at k = (acceptance file ≡ Accepted m n) × (node < n) × (k ≤ node) × Walk file m n k at
 
 abbrev μ-loop : tie.MeasureT-loop
-μ-loop file node m n at₀ k₀ at k = ?
+μ-loop file node m n at₀ k₀ at k = n - k
 
 accept-requires : tie.Need-accept-requires Inv-loop μ-loop
 accept-requires c κs = search needs
@@ -22,16 +26,16 @@ enum-told : tie.Need-enum-told Inv-loop μ-loop
 enum-told c = search needs
 
 returns : tie.Need-returns Inv-loop μ-loop
-returns c = search needs
+returns c = sym (record-refused (c .before .before .before .before .args .file .now) (c .before .before .before .before .args .node) _ (ask-file (c .before .before .before .before .args .file .now) (c .before .before .before .before .args .node) _ (sym (c .before .before .accept .ensures) ∙ c .enum-told .given .1)) .1)
 
 cast-if1 : tie.Need-cast-if1 Inv-loop μ-loop
 cast-if1 c = search needs
 
 returns-2 : tie.Need-returns-2 Inv-loop μ-loop
-returns-2 c = search needs
+returns-2 c = sym (record-refused (c .before .before .before .before .before .before .args .file .now) (c .before .before .before .before .before .before .args .node) _ (ask-past (c .before .before .before .before .before .before .args .file .now) _ _ (c .before .before .before .before .before .before .args .node) (sym (c .before .before .before .before .accept .ensures) ∙ c .before .before .m .given .1) (c .if1 .taken)) .1)
 
 loop-holds : tie.Need-loop-holds Inv-loop μ-loop
-loop-holds c = search needs
+loop-holds c = let accepted = sym (c .before .before .before .before .accept .ensures) ∙ c .before .before .m .given .1 in (accepted, c .if1 .left, search needs, walk-first (c .before .before .before .before .before .before .args .file .now) _ _ accepted)
 
 sub-read-node : tie.Need-sub-read-node Inv-loop μ-loop
 sub-read-node c = search needs
@@ -52,16 +56,16 @@ enum-told-2 : tie.Need-enum-told-2 Inv-loop μ-loop
 enum-told-2 c = search needs
 
 returns-3 : tie.Need-returns-3 Inv-loop μ-loop
-returns-3 c = search needs
+returns-3 c = absurd (walk-reads (c .before .before .before .before .before .before .before .before .before .before .before .args .file .now) _ _ (c .before .before .before .before .loop .k) (c .before .before .before .before .loop .at) _ (c .before .before .before .before .loop .inv .3) (omega arith) (sym (c .before .before .read-node .ensures) ∙ c .enum-told2 .given .1))
 
 cast-if2 : tie.Need-cast-if2 Inv-loop μ-loop
 cast-if2 c = search needs
 
 returns-4 : tie.Need-returns-4 Inv-loop μ-loop
-returns-4 c = search needs
+returns-4 c = let here = place-here (c .before .before .before .before .before .before .before .before .before .before .before .before .before .args .file .now) _ _ (c .before .before .before .before .before .before .loop .k) (c .before .before .before .before .before .before .loop .at) _ _ (c .before .before .before .before .before .before .loop .inv .0) (omega arith) (c .before .before .before .before .before .before .loop .inv .3) (sym (c .before .before .before .before .read-node .ensures) ∙ c .before .before .size .given .1) in here ∙ ap (placeOf (c .before .before .before .before .before .before .before .before .before .before .before .before .before .args .file .now)) (c .if2 .taken)
 
 add-at : tie.Need-add-at Inv-loop μ-loop
-add-at c = search needs
+add-at c = let inside = walk-read (c .before .before .before .before .before .before .before .before .before .before .before .before .before .args .file .now) _ _ (c .before .before .before .before .before .before .loop .k) (c .before .before .before .before .before .before .loop .at) _ _ (c .before .before .before .before .before .before .loop .inv .3) (omega arith) (sym (c .before .before .before .before .read-node .ensures) ∙ c .before .before .size .given .1) .next .inside in omega arith
 
 add-k : tie.Need-add-k Inv-loop μ-loop
 add-k c = search needs
@@ -70,7 +74,7 @@ loop-less : tie.Need-loop-less Inv-loop μ-loop
 loop-less c = search needs
 
 loop-again : tie.Need-loop-again Inv-loop μ-loop
-loop-again c = search needs
+loop-again c = (c .before .before .before .before .before .before .loop .inv .0, c .before .before .before .before .before .before .loop .inv .1, omega arith, walk-read (c .before .before .before .before .before .before .before .before .before .before .before .before .before .args .file .now) _ _ (c .before .before .before .before .before .before .loop .k) (c .before .before .before .before .before .before .loop .at) _ _ (c .before .before .before .before .before .before .loop .inv .3) (omega arith) (sym (c .before .before .before .before .read-node .ensures) ∙ c .before .before .size .given .1) .next)
 
 pub locate-spec : {M : Type 1} → statement M
 locate-spec =

@@ -1,15 +1,20 @@
+use Prim.Native.Nat.{ℕ}
+use mathlib.Core.Path.{sym, ap, _∙_}
+use native.Mathlib.Nat.{add-sub-cancel-left}
+use native.Mathlib.Omega.{arith}
+use lib.ListN.{take, drop}
+use Rattle.expression.specs.RecordLaws.{place-fits, record-part}
 use borrow.Author.Needs.{needs}
 use Rattle.expression.proofs.records.record.Statement.{statement}
 use Rattle.expression.proofs.records.record.Tie as tie
-use Rattle.expression.proofs.records.record.Reads as reads
-use Rattle.expression.proofs.records.record.Lts as lts
-use Rattle.expression.proofs.records.locate.Reads as locate-reads
 
 locate-requires : tie.Need-locate-requires
 locate-requires c κs = search needs
 
 add-end : tie.Need-add-end
-add-end c = search needs
+add-end c =
+    let fits = rw (← c .before .locate .ensures) at (place-fits (c .before .before .before .args .file .now) (c .before .before .before .args .node)) in
+    omega arith
 
 sub-result : tie.Need-sub-result
 sub-result c = search needs
@@ -18,10 +23,16 @@ part-result-start : tie.Need-part-result-start
 part-result-start c = search needs
 
 part-result-end : tie.Need-part-result-end
-part-result-end c = search needs
+part-result-end c =
+    let fits = rw (← c .before .locate .ensures) at (place-fits (c .before .before .before .args .file .now) (c .before .before .before .args .node)) in
+    omega arith
 
 returns : tie.Need-returns
-returns c = search needs
+returns c =
+    let place = c .before .before .locate .result in
+    let part = rw (← c .before .before .locate .ensures) at (record-part (c .before .before .before .before .args .file .now) (c .before .before .before .before .args .node)) in
+    ap (λ (n : ℕ). take n (drop (place .start) (c .before .before .before .before .args .file .now))) (add-sub-cancel-left (place .start) (place .len))
+    ∙ sym part
 
 pub record-spec : {M : Type 1} → statement M
 record-spec =
