@@ -19,6 +19,9 @@ hasAttribute s a = bit (s .bits) a
 abbrev pub emptySet : AttrSet
 emptySet = record { bits = 0 }
 
+abbrev pub bitsOf : AttrSet → ℕ
+bitsOf s = s .bits
+
 -- the set with these bits
 unfoldable pub setOf : ℕ → AttrSet
 setOf bits = record { bits = bits }

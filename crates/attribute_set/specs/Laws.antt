@@ -11,7 +11,7 @@ use Rattle.bits.specs.Range.{inRange, in-range}
 use Rattle.attribute_set.specs.declared.AttrSet.{AttrSet}
 use Rattle.attribute_set.specs.declared.Built.{Built}
 use Rattle.attribute_set.specs.declared.Built.the-variants.{Set, NoSet}
-use Rattle.attribute_set.specs.AttrSet.{special, hasAttribute, emptySet, setOf, fromBits, withAttribute}
+use Rattle.attribute_set.specs.AttrSet.{special, hasAttribute, emptySet, bitsOf, setOf, fromBits, withAttribute}
 
 pub special-range : (a : ℕ) → special a ≡ true → (1 ≤ a) × (a ≤ 15)
 unfolding special
@@ -20,6 +20,10 @@ special-range a e = in-range 1 15 a e
 pub has-empty : (a : ℕ) → hasAttribute emptySet a ≡ false
 unfolding hasAttribute
 has-empty a = bit-none a
+
+pub bits-set : (bits : ℕ) → bitsOf (setOf bits) ≡ bits
+unfolding setOf
+bits-set bits = refl
 
 pub has-set : (bits a : ℕ) → hasAttribute (setOf bits) a ≡ bit bits a
 unfolding hasAttribute setOf

@@ -1,6 +1,6 @@
 // Sets of special attributes: sixteen bits with bit 0 clear, bit i for attribute i.
 ghost use mathlib.Core.Path.{_≡_};
-ghost use Rattle.attribute_set.specs.AttrSet.{special, emptySet, fromBits, withAttribute, hasAttribute};
+ghost use Rattle.attribute_set.specs.AttrSet.{special, emptySet, fromBits, bitsOf, withAttribute, hasAttribute};
 
 // Whether `a` is a special attribute, 1 to 15.
 pub fn is_special(a: u8) -> bool
@@ -39,6 +39,13 @@ impl AttrSet {
             return Built::NoSet;
         }
         Built::Set(AttrSet { bits })
+    }
+
+    // The sixteen bits.
+    pub fn to_bits(self) -> u16
+        ensures { λ r. ⌜ r ≡ bitsOf self ⌝ }
+    {
+        self.bits
     }
 
     // The set with attribute `a` as well; a number that is no special attribute adds nothing.

@@ -41,11 +41,11 @@ header-counts file m n e =
     let nodes = passed _ _ (relations .1) in
     let m-is : getD file 0 0 ≡ m = cc in
     let n-is : getD file 1 0 ≡ n = cc in
-    record
-      { header = ltb-false _ _ (long .0)
-      ; relations = rw m-is at (in-range 1 8 (getD file 0 0) (not-false (inRange 1 8 (getD file 0 0)) (relations .0)))
-      ; nodes = rw n-is at (in-range 1 64 (getD file 1 0) (not-false (inRange 1 64 (getD file 1 0)) (nodes .0)))
-      }
+    record {
+      header = ltb-false _ _ (long .0);
+      relations = rw m-is at (in-range 1 8 (getD file 0 0) (not-false (inRange 1 8 (getD file 0 0)) (relations .0)));
+      nodes = rw n-is at (in-range 1 64 (getD file 1 0) (not-false (inRange 1 64 (getD file 1 0)) (nodes .0)));
+    }
 
 -- ---- the nodes
 
@@ -67,15 +67,15 @@ first-node m count k bytes es = read (readNode m k bytes) refl
     made node size others e rest entries =
         let fits = node-legal m k bytes node size e .fits in
         let size-is : length (take size bytes) ≡ size = length-take-le size bytes fits in
-        record
-          { first = record { node = node; bytes = take size bytes }
-          ; others = others
-          ; entries = entries
-          ; reading = rw size-is e
-          ; part = rw size-is
-          ; fits = rw size-is fits
-          ; rest = rw size-is rest
-          }
+        record {
+          first = record { node = node; bytes = take size bytes };
+          others = others;
+          entries = entries;
+          reading = rw size-is e;
+          part = rw size-is;
+          fits = rw size-is fits;
+          rest = rw size-is rest;
+        }
 
     follows : (node : Node) (size : ℕ) (rest : Nodes) → readNode m k bytes ≡ Read node size → readNodes m count (k + 1) (drop size bytes) ≡ rest → precede (record { node = node; bytes = take size bytes }) rest ≡ nodesRead es → FirstNode m count k bytes es
     follows node size (nodesRefused r) e rest h = absurd (let z : _≡_ {A = ℕ} 0 1 = cc in omega arith)
@@ -110,11 +110,11 @@ accepted-file file m n = from (header file) refl
     made m′ n′ h (nodesRead es) e a i =
         let m-is : m′ ≡ m = cc in
         let n-is : n′ ≡ n = cc in
-        let whole : AcceptedFile file m′ n′ = record
-          { counts = header-counts file m′ n′ h
-          ; nodes = e ∙ ap nodesRead (sym i)
-          ; count = ap length i ∙ count-nodes m′ n′ 0 (drop 2 file) es e
-          } in
+        let whole : AcceptedFile file m′ n′ = record {
+          counts = header-counts file m′ n′ h;
+          nodes = e ∙ ap nodesRead (sym i);
+          count = ap length i ∙ count-nodes m′ n′ 0 (drop 2 file) es e;
+        } in
         rw (m-is, n-is) at whole
 
     from : (h : Acceptance) → header file ≡ h → answer (afterHeader h file) ≡ Accepted m n → AcceptedFile file m n

@@ -58,17 +58,17 @@ situation file k = go (acceptance file) refl
 module _ (file : List ℕ) (k : ℕ) where
   pub record-refused : (r : Refusal) → ask file k ≡ refused r → (recordOf file k ≡ []) × (placeOf file k ≡ record { start = 0; len = 0 })
   unfolding recordOf placeOf
-  record-refused r e =
-      ( ap (λ (a : Asked). recordIf a (entryAt file k .bytes)) e
-      , ap (λ (a : Asked). placeIf a (record { start = startAt file k; len = sizeAt file k })) e
-      )
+  record-refused r e = (
+    ap (λ (a : Asked). recordIf a (entryAt file k .bytes)) e,
+    ap (λ (a : Asked). placeIf a (record { start = startAt file k; len = sizeAt file k })) e,
+  )
 
   pub record-found : ask file k ≡ found → (recordOf file k ≡ entryAt file k .bytes) × (placeOf file k ≡ record { start = startAt file k; len = sizeAt file k })
   unfolding recordOf placeOf
-  record-found e =
-      ( ap (λ (a : Asked). recordIf a (entryAt file k .bytes)) e
-      , ap (λ (a : Asked). placeIf a (record { start = startAt file k; len = sizeAt file k })) e
-      )
+  record-found e = (
+    ap (λ (a : Asked). recordIf a (entryAt file k .bytes)) e,
+    ap (λ (a : Asked). placeIf a (record { start = startAt file k; len = sizeAt file k })) e,
+  )
 
 -- the part lies in the file
 pub place-fits : (file : List ℕ) (k : ℕ) → placeOf file k .start + placeOf file k .len ≤ length file
@@ -105,3 +105,9 @@ pub place-here : (file : List ℕ) (m n k at : ℕ) (node : Node) (size : ℕ) �
 place-here file m n k at node size e h w reading =
     let step = walk-read file m n k at node size w h reading in
     rw (w .place, step .size-is) (sym (record-found file k (ask-found file m n k e h) .1))
+
+pub record-length : (file : List ℕ) (k : ℕ) → length (recordOf file k) ≡ placeOf file k .len
+record-length file k =
+    let fits = place-fits file k in
+    let l = length-drop (placeOf file k .start) file in
+    ap length (record-part file k) ∙ length-take-le (placeOf file k .len) (drop (placeOf file k .start) file) (omega arith)

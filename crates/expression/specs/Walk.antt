@@ -32,11 +32,11 @@ pub walk-first : (file : List ℕ) (m n : ℕ) → acceptance file ≡ Accepted 
 unfolding startAt
 walk-first file m n e =
     let accepted = accepted-file file m n e in
-    record
-      { inside = accepted .counts .header
-      ; place = refl
-      ; rest = rw sub-zero (accepted .nodes)
-      }
+    record {
+      inside = accepted .counts .header;
+      place = refl;
+      rest = rw sub-zero (accepted .nodes);
+    }
 
 -- ---- one step
 
@@ -74,11 +74,11 @@ next-walk file m n k at e others w here fits rest =
     let more = total-more (entriesOf file) k none (here .below) in
     let size = ap (λ (x : Entry). length (x .bytes)) (here .here) in
     let place = w .place in
-    record
-      { inside = let l = length-drop at file in let i = w .inside in omega arith
-      ; place = rw (add-one k) (omega arith)
-      ; rest = rw (← drop-drop) (rest ∙ ap nodesRead (sym (here .rest) ∙ ap (λ (j : ℕ). drop j (entriesOf file)) (sym (add-one k))))
-      }
+    record {
+      inside = let l = length-drop at file in let i = w .inside in omega arith;
+      place = rw (add-one k) (omega arith);
+      rest = rw (← drop-drop) (rest ∙ ap nodesRead (sym (here .rest) ∙ ap (λ (j : ℕ). drop j (entriesOf file)) (sym (add-one k))));
+    }
 
 step-from : (file : List ℕ) (m n k at : ℕ) → Walk file m n k at → FirstNode m (n - (k + 1)) k (drop at file) (drop k (entriesOf file)) → Step file m n k at (entryAt file k)
 unfolding entryAt
@@ -87,14 +87,14 @@ step-from file m n k at w node =
     let here = at-head (entriesOf file) k none e (node .others) (node .entries) in
     let legal = node-legal m k (drop at file) (e .node) (length (e .bytes)) (node .reading) in
     subst (Step file m n k at) (sym (here .here))
-    (record
-      { reading = rw part-from (node .reading)
-      ; legal = legal .legal
-      ; part = node .part
-      ; least = legal .least
-      ; most = legal .most
-      ; next = next-walk file m n k at e (node .others) w here (node .fits) (node .rest)
-      })
+    (record {
+      reading = rw part-from (node .reading);
+      legal = legal .legal;
+      part = node .part;
+      least = legal .least;
+      most = legal .most;
+      next = next-walk file m n k at e (node .others) w here (node .fits) (node .rest);
+    })
 
 pub walk-next : (file : List ℕ) (m n k at : ℕ) → Walk file m n k at → k < n → Step file m n k at (entryAt file k)
 walk-next file m n k at w h =

@@ -1,10 +1,16 @@
 // Expression files: nodes, reading, and the part of a file that holds a node.
+mod files;
 mod nodes;
 mod reader;
-mod files;
 mod records;
 
-pub use nodes::{BinaryOp, SetOp, Node};
-pub use reader::{Reading, read_node};
-pub use files::{Acceptance, accept};
-pub use records::{Place, locate, record};
+pub use files::Acceptance;
+pub use files::accept;
+pub use nodes::BinaryOp;
+pub use nodes::Node;
+pub use nodes::SetOp;
+pub use reader::Reading;
+pub use reader::read_node;
+pub use records::Place;
+pub use records::locate;
+pub use records::record;

@@ -1,7 +1,6 @@
 // Nodes of an expression, and operators by their codes.
 ghost use mathlib.Core.Path.{_≡_};
 ghost use Rattle.expression.specs.Operators.{binaryCode, setCode};
-
 use attribute_set::AttrSet;
 
 // The operators of map 14.

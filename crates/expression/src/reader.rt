@@ -1,9 +1,14 @@
 // One node, read off the front of a part of the file.
 ghost use mathlib.Core.Path.{_≡_};
 ghost use Rattle.expression.specs.ReadNode.{readNode, readFields};
-
-use attribute_set::{AttrSet, Built, is_special};
-use crate::nodes::{BinaryCode, Node, SetCode, binary_operator, set_operator};
+use crate::nodes::BinaryCode;
+use crate::nodes::Node;
+use crate::nodes::SetCode;
+use crate::nodes::binary_operator;
+use crate::nodes::set_operator;
+use attribute_set::AttrSet;
+use attribute_set::Built;
+use attribute_set::is_special;
 use refusal::Refusal;
 
 // A node with the number of bytes that it takes, or the first refusal.

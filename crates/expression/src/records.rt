@@ -1,9 +1,10 @@
 // Record: the part of the file that holds a node.
 ghost use mathlib.Core.Path.{_≡_};
 ghost use Rattle.expression.specs.Record.{placeOf, recordOf};
-
-use crate::files::{Acceptance, accept};
-use crate::reader::{Reading, read_node};
+use crate::files::Acceptance;
+use crate::files::accept;
+use crate::reader::Reading;
+use crate::reader::read_node;
 
 // A part of a file: its first byte and the number of its bytes.
 pub struct Place {
@@ -28,7 +29,10 @@ pub fn locate(file: &[u8], node: usize) -> Place
             return Place { start: 0, len: 0 };
         };
         if k as usize == node {
-            return Place { start: at, len: size };
+            return Place {
+                start: at,
+                len: size,
+            };
         }
         at += size;
         k += 1;
