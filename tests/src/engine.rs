@@ -1,6 +1,18 @@
-//! The C functions of the engine, wrapped safely: slices in, values out.
+//! The C functions of the engine, wrapped safely: slices in, values out; and a run of
+//! the listing program.
 //!
 //! The wrappers are inline, so that only a test that calls them needs the archive.
+
+use std::env;
+use std::io::{ErrorKind, Write};
+use std::path::PathBuf;
+use std::process::{Command, Stdio};
+
+/// The environment variable for the path of the listing program.
+const LIST_PROGRAM_VARIABLE: &str = "TYPE_FORMULA_LIST_PROGRAM";
+
+/// The answer of Verdict for an untypable node.
+pub const UNTYPABLE: u8 = 255;
 
 extern "C" {
     fn type_formula_accept(
@@ -18,6 +30,20 @@ extern "C" {
     ) -> usize;
 
     fn type_formula_read_node(relations: u8, number: u8, bytes: *const u8, len: usize) -> u64;
+
+    fn type_formula_formula(file: *const u8, file_len: usize, work: *mut u8, work_len: usize)
+        -> u8;
+
+    fn type_formula_verdict(
+        file: *const u8,
+        file_len: usize,
+        node: usize,
+        work: *mut u8,
+        work_len: usize,
+        schema: *mut u8,
+        schema_len: usize,
+        value: *mut usize,
+    ) -> u8;
 }
 
 /// 0 if the expression file is accepted, and then writes its relation count m and
@@ -43,4 +69,67 @@ pub fn record(file: &[u8], node: usize, start: &mut usize) -> usize {
 pub fn read_node(relations: u8, number: u8, bytes: &[u8]) -> [u8; 8] {
     // SAFETY: pointer and length are those of a slice.
     unsafe { type_formula_read_node(relations, number, bytes.as_ptr(), bytes.len()) }.to_le_bytes()
+}
+
+/// Formula: fills the first 1,024 n bytes of the work space and gives 0; else gives
+/// the number of the first refusal.
+#[inline]
+pub fn formula(file: &[u8], work: &mut [u8]) -> u8 {
+    // SAFETY: pointers and lengths are those of slices; the work space is writable.
+    unsafe { type_formula_formula(file.as_ptr(), file.len(), work.as_mut_ptr(), work.len()) }
+}
+
+/// Verdict: 0 if the node is typable, and then writes the witness schema and its
+/// length; 255 if it is untypable, and then writes the attribute to the value; else
+/// the number of the first refusal, and the value stays.
+#[inline]
+pub fn verdict(
+    file: &[u8],
+    node: usize,
+    work: &mut [u8],
+    schema: &mut [u8],
+    value: &mut usize,
+) -> u8 {
+    // SAFETY: pointers and lengths are those of slices; work space, schema and value
+    // are writable.
+    unsafe {
+        type_formula_verdict(
+            file.as_ptr(),
+            file.len(),
+            node,
+            work.as_mut_ptr(),
+            work.len(),
+            schema.as_mut_ptr(),
+            schema.len(),
+            value,
+        )
+    }
+}
+
+/// The path of the listing program: the environment variable, else the place where
+/// the build of the repository puts it.
+fn list_program() -> PathBuf {
+    match env::var_os(LIST_PROGRAM_VARIABLE) {
+        Some(path) => PathBuf::from(path),
+        None => PathBuf::from(env!("CARGO_MANIFEST_DIR")).join("../target/bin/list_formula"),
+    }
+}
+
+/// Runs the listing program on these bytes as its standard input and gives what it
+/// writes to standard output. The program may end before it has read all.
+pub fn list(file: &[u8]) -> Vec<u8> {
+    let path = list_program();
+    let mut program = Command::new(&path)
+        .stdin(Stdio::piped())
+        .stdout(Stdio::piped())
+        .spawn()
+        .unwrap_or_else(|error| panic!("{}: {error}", path.display()));
+    let mut input = program.stdin.take().expect("piped");
+    match input.write_all(file) {
+        Err(error) if error.kind() != ErrorKind::BrokenPipe => panic!("standard input: {error}"),
+        _ => drop(input),
+    }
+    let ended = program.wait_with_output().expect("standard output is read");
+    assert!(ended.status.code().is_some(), "{}", ended.status);
+    ended.stdout
 }

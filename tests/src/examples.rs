@@ -2,7 +2,7 @@
 
 use std::ops::Range;
 
-use crate::reference::{encode_file, encode_node, Node};
+use crate::reference::{encode_file, encode_node, File, Node};
 
 /// An example of document 01: its bytes, m, n, and the part of each node.
 pub struct Example {
@@ -100,6 +100,19 @@ pub fn e10() -> Example {
             27..31,
         ],
     }
+}
+
+/// Node numbers to ask: each node of an accepted file, or a few of a refused one;
+/// n; and numbers that would be below n if cut to fewer bits.
+pub fn node_numbers(bytes: &[u8], expected: &Result<File, u8>) -> Vec<usize> {
+    let stated = usize::from(bytes.get(1).copied().unwrap_or(0));
+    let mut numbers: Vec<usize> = match expected {
+        Ok(file) => (0..file.nodes.len()).collect(),
+        Err(_) => vec![0, 1, stated.saturating_sub(1)],
+    };
+    numbers.extend([stated, stated + 1, 63, 64, 255, 256, 257]);
+    numbers.extend([1 << 16, 1 << 32, (1 << 32) + 1, 1 << 63, usize::MAX]);
+    numbers
 }
 
 /// The length of the longest accepted file. Two bytes of counts; node 0 has no

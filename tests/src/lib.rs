@@ -4,6 +4,8 @@
 pub mod engine;
 /// Examples and edges of document 01 with their answers.
 pub mod examples;
+/// Examples of document 01 with the formula, verdict and listing of their last node.
+pub mod formula_examples;
 /// Seeded generation of files and bytes.
 pub mod random;
 /// The other implementation, written from document 01.

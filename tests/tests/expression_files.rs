@@ -3,7 +3,8 @@
 
 use type_formula_tests::engine;
 use type_formula_tests::examples::{
-    all_nodes_with_set, cases, e1, e10, longest_accepted, to_hexadecimal, Example, LONGEST_ACCEPTED,
+    all_nodes_with_set, cases, e1, e10, longest_accepted, node_numbers, to_hexadecimal, Example,
+    LONGEST_ACCEPTED,
 };
 use type_formula_tests::random::Random;
 use type_formula_tests::reference::{self, encode_node, File, LEGAL_MAPS};
@@ -152,19 +153,6 @@ impl Comparisons {
         );
         assert!(self.made >= least, "{} comparisons", self.made);
     }
-}
-
-/// Node numbers to ask: each node of an accepted file, or a few of a refused one;
-/// n; and numbers that would be below n if cut to fewer bits.
-fn node_numbers(bytes: &[u8], expected: &Result<File, u8>) -> Vec<usize> {
-    let stated = usize::from(bytes.get(1).copied().unwrap_or(0));
-    let mut numbers: Vec<usize> = match expected {
-        Ok(file) => (0..file.nodes.len()).collect(),
-        Err(_) => vec![0, 1, stated.saturating_sub(1)],
-    };
-    numbers.extend([stated, stated + 1, 63, 64, 255, 256, 257]);
-    numbers.extend([1 << 16, 1 << 32, (1 << 32) + 1, 1 << 63, usize::MAX]);
-    numbers
 }
 
 /// Asserts an example's facts of the engine, without the reference.

@@ -1,15 +1,22 @@
 -- The bits of a number.
-use Prim.Native.Nat.{ℕ, zero, suc, _+_, _*_, _/_, _%_, _^_, _<_}
+use Prim.Native.Nat.{ℕ, zero, suc, _+_, _*_, _/_, _%_, _^_, _-_, _<_}
 use mathlib.Core.Path.{_≡_, refl, sym, ap, ap₂, _∙_}
-use mathlib.Core.Bool.{Bool, true, false, _||_}
-use native.Mathlib.Nat.{div-one, div-div-eq-div-mul, div-eq-of-lt, mul-comm, pow-suc, mod-lt, mul-div-cancel, mul-mod-left, zero-div}
+use mathlib.Core.Bool.{Bool, true, false, not, cond, _||_, _&&_}
+use native.Mathlib.Nat.{div-one, div-div-eq-div-mul, div-eq-of-lt, mul-comm, pow-suc, mod-lt, mod-eq-of-lt, le-of-suc-le-suc, mul-div-cancel, mul-mod-left, zero-div}
 use native.Mathlib.Omega.{arith}
+use borrow.Author.Tests.{eq-eqb}
+use lib.Pow.{pow-pos}
 use lib.Dec.{eqb, eqb·zero-suc, eqb·suc-zero, eqb·suc-suc, lit<}
-use lib.Bits.{bitOr, or-shr, or-mod}
+use lib.Bits.{xor-add-and, and-mask, bitOr, or-shr, or-mod, bitAnd, and-shr, and-mod, bitXor, xor-shr, xor-mod}
 
 -- bit j of x stands
 unfoldable pub bit : ℕ → ℕ → Bool
 bit x j = eqb (x / 2 ^ j % 2) 1
+
+-- exactly one of two stands
+abbrev pub differs : Bool → Bool → Bool
+differs true b = not b
+differs false b = b
 
 -- the test in code: shift, then the lowest digit
 pub bit-test : (x j : ℕ) → eqb (x / 2 ^ j % 2) 1 ≡ bit x j
@@ -55,16 +62,52 @@ digit P z o zero h = z
 digit P z o (suc zero) h = o
 digit P z o (suc (suc x)) h = absurd (omega arith)
 
-or-digit : (x y : ℕ) → x < 2 → y < 2 → eqb (bitOr x y) 1 ≡ eqb x 1 || eqb y 1
-or-digit x y hx hy =
-    digit (λ (x : ℕ). eqb (bitOr x y) 1 ≡ eqb x 1 || eqb y 1)
-    (digit (λ (y : ℕ). eqb (bitOr 0 y) 1 ≡ eqb 0 1 || eqb y 1) refl refl y hy)
-    (digit (λ (y : ℕ). eqb (bitOr 1 y) 1 ≡ eqb 1 1 || eqb y 1) refl refl y hy)
-    x
-    hx
+-- an operation on numbers that goes digit by digit, with its table: its bit j is the table's value at the two bits j
+bit-table : (op : ℕ → ℕ → ℕ) (table : Bool → Bool → Bool) → ((x y j : ℕ) → op x y / 2 ^ j ≡ op (x / 2 ^ j) (y / 2 ^ j)) → ((x y j : ℕ) → op x y % 2 ^ j ≡ op (x % 2 ^ j) (y % 2 ^ j)) → eqb (op 0 0) 1 ≡ table false false → eqb (op 0 1) 1 ≡ table false true → eqb (op 1 0) 1 ≡ table true false → eqb (op 1 1) 1 ≡ table true true → (x y j : ℕ) → bit (op x y) j ≡ table (bit x j) (bit y j)
+unfolding bit
+bit-table op table shift low t00 t01 t10 t11 x y j =
+    ap (λ (d : ℕ). eqb d 1) (ap (λ (z : ℕ). z % 2) (shift x y j) ∙ low (x / 2 ^ j) (y / 2 ^ j) 1)
+    ∙ digits (x / 2 ^ j % 2) (y / 2 ^ j % 2) (mod-lt (x / 2 ^ j) (lit< tt)) (mod-lt (y / 2 ^ j) (lit< tt))
+  where
+    digits : (a b : ℕ) → a < 2 → b < 2 → eqb (op a b) 1 ≡ table (eqb a 1) (eqb b 1)
+    digits a b ha hb =
+        digit (λ (a : ℕ). eqb (op a b) 1 ≡ table (eqb a 1) (eqb b 1))
+        (digit (λ (b : ℕ). eqb (op 0 b) 1 ≡ table (eqb 0 1) (eqb b 1)) t00 t01 b hb)
+        (digit (λ (b : ℕ). eqb (op 1 b) 1 ≡ table (eqb 1 1) (eqb b 1)) t10 t11 b hb)
+        a
+        ha
 
 pub bit-or : (x y j : ℕ) → bit (bitOr x y) j ≡ bit x j || bit y j
-unfolding bit
-bit-or x y j =
-    ap (λ (d : ℕ). eqb d 1) (ap (λ (z : ℕ). z % 2) (or-shr x y j) ∙ or-mod (x / 2 ^ j) (y / 2 ^ j) 1)
-    ∙ or-digit (x / 2 ^ j % 2) (y / 2 ^ j % 2) (mod-lt (x / 2 ^ j) (lit< tt)) (mod-lt (y / 2 ^ j) (lit< tt))
+bit-or = bit-table bitOr _||_ or-shr or-mod refl refl refl refl
+
+pub bit-and : (x y j : ℕ) → bit (bitAnd x y) j ≡ bit x j && bit y j
+bit-and = bit-table bitAnd _&&_ and-shr and-mod refl refl refl refl
+
+pub bit-xor : (x y j : ℕ) → bit (bitXor x y) j ≡ differs (bit x j) (bit y j)
+bit-xor = bit-table bitXor differs xor-shr xor-mod refl refl refl refl
+
+pub bit-ones : (n j : ℕ) → j < n → bit (2 ^ n - 1) j ≡ true
+bit-ones zero j h = absurd (omega arith)
+bit-ones (suc n) zero h =
+    let p = pow-pos n in
+    let odd : (2 ^ suc n - 1) % 2 ≡ 1 = rw pow-suc (omega arith) in
+    bit-first (2 ^ suc n - 1) ∙ eq-eqb ((2 ^ suc n - 1) % 2) 1 odd
+bit-ones (suc n) (suc j) h =
+    let p = pow-pos n in
+    let half : (2 ^ suc n - 1) / 2 ≡ 2 ^ n - 1 = rw pow-suc (omega arith) in
+    bit-next (2 ^ suc n - 1) j ∙ ap (λ (x : ℕ). bit x j) half ∙ bit-ones n j (le-of-suc-le-suc h)
+
+-- the complement of a byte
+pub bit-not : (x j : ℕ) → x < 256 → j < 8 → bit (255 - x) j ≡ not (bit x j)
+bit-not x j hx hj =
+    let complement : 255 - x ≡ bitXor x 255 =
+    let sum = xor-add-and x 255 in
+    let mask = and-mask x 8 in
+    let low = mod-eq-of-lt {m = 256} hx in
+    omega arith
+    in
+    ap (λ (y : ℕ). bit y j) complement ∙ bit-xor x 255 j ∙ ones (bit x j)
+  where
+    ones : (b : Bool) → differs b (bit 255 j) ≡ not b
+    ones true = ap not (bit-ones 8 j hj)
+    ones false = bit-ones 8 j hj

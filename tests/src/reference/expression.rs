@@ -13,6 +13,9 @@ pub const RELATION_NOT_BELOW_COUNT: u8 = 7;
 pub const OPERAND_NOT_EARLIER: u8 = 8;
 pub const ATTRIBUTE_OUTSIDE_RANGE: u8 = 9;
 pub const BYTES_AFTER_LAST_NODE: u8 = 10;
+pub const NODE_NOT_BELOW_COUNT: u8 = 11;
+pub const WORK_SPACE_TOO_SHORT: u8 = 12;
+pub const RESULT_SLICE_TOO_SHORT: u8 = 13;
 
 /// The five legal bit maps of a node.
 pub const RELATION_MAP: u8 = 1;

@@ -1,0 +1,49 @@
+-- The laws of columns: a set of special attributes cannot tell an attribute from its column.
+use Prim.Native.Nat.{ℕ, _≤_}
+use mathlib.Core.Path.{_≡_, refl, sym, _∙_}
+use mathlib.Core.Bool.{Bool, true, false, cond, true≢false}
+use native.Mathlib.Omega.{arith}
+use borrow.Author.Tests.{eqb-true}
+use lib.Dec.{eqb}
+use Rattle.attribute_set.specs.AttrSet.{special}
+use Rattle.attribute_set.specs.Laws.{special-range}
+use Rattle.types.specs.Types.{Attrs, _⊆_, column}
+use Rattle.algebra.specs.Booleans.{is-false}
+
+-- no set of special attributes tells c from d
+abbrev pub Alike : ℕ → ℕ → Type 0
+Alike c d = (s : Attrs) → s ⊆ special → s c ≡ s d
+
+-- the set of one attribute
+abbrev pub single : ℕ → Attrs
+single x = λ a. eqb a x
+
+pub single-within : (x : ℕ) (t : Attrs) → t x ≡ true → single x ⊆ t
+single-within x t h a e = rw (eqb-true a x e) h
+
+-- a set of special attributes lacks every other
+pub absent : (s : Attrs) → s ⊆ special → (a : ℕ) → special a ≡ false → s a ≡ false
+absent s named a h = is-false _ (λ e. true≢false (sym (named a e) ∙ h))
+
+special-zero : special 0 ≡ false
+special-zero = is-false _ (λ e. let h = special-range 0 e in omega arith)
+
+pub special-above : (a : ℕ) → 16 ≤ a → special a ≡ false
+special-above a least = is-false _ (λ e. let h = special-range a e in omega arith)
+
+pub absent-zero : (s : Attrs) → s ⊆ special → s 0 ≡ false
+absent-zero s named = absent s named 0 special-zero
+
+alike-zero : (a : ℕ) → special a ≡ false → Alike 0 a
+alike-zero a h s named = absent-zero s named ∙ sym (absent s named a h)
+
+pub alike-ordinary : (a : ℕ) → 16 ≤ a → Alike 0 a
+alike-ordinary a least = alike-zero a (special-above a least)
+
+pub alike-column : (a : ℕ) → Alike (column a) a
+unfolding column
+alike-column a = go (special a) refl
+  where
+    go : (t : Bool) → special a ≡ t → Alike (cond t a 0) a
+    go true e = λ s named. refl
+    go false e = alike-zero a e

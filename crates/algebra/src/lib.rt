@@ -1,0 +1,1 @@
+// Expressions, the typing rules and cells: definitions and theorems only.

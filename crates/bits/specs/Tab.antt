@@ -1,0 +1,57 @@
+-- A list from a function, and the list with a run of elements replaced.
+use Prim.Native.Nat.{ℕ, zero, suc, _+_, _-_, _≤_, _<_}
+use mathlib.Core.Path.{_≡_, refl, sym, ap, ap₂, _∙_}
+use mathlib.Core.List.{List, [], _∷_, _++_}
+use native.Mathlib.Omega.{arith}
+use native.Mathlib.Decide.{decLe}
+use native.Mathlib.Nat.{le-of-suc-le-suc}
+use lib.ListN.{length, getD, take, drop, length-append, length-drop, length-take, List·getD-append, List·getD-eq-default}
+use lib.Seq.{ext-getD, getD-append-add, getD-drop, getD-take, length-take-le, take-append-le, drop-append-le}
+
+module _ {A : Type 0} where
+  -- f 0, f 1, .., n elements
+  unfoldable pub tab : ℕ → (ℕ → A) → List A
+  tab zero f = []
+  tab (suc n) f = f 0 ∷ tab n (λ i. f (suc i))
+
+  pub length-tab : (n : ℕ) (f : ℕ → A) → length (tab n f) ≡ n
+  unfolding tab
+  length-tab zero f = refl
+  length-tab (suc n) f = ap suc (length-tab n (λ i. f (suc i)))
+
+  pub getD-tab : (n : ℕ) (f : ℕ → A) (i : ℕ) (d : A) → i < n → getD (tab n f) i d ≡ f i
+  unfolding tab
+  getD-tab zero f i d h = absurd (omega arith)
+  getD-tab (suc n) f zero d h = refl
+  getD-tab (suc n) f (suc i) d h = getD-tab n (λ i. f (suc i)) i d (le-of-suc-le-suc h)
+
+  -- a list with these elements
+  pub tab-is : (n : ℕ) (f : ℕ → A) (d : A) (l : List A) → length l ≡ n → ((i : ℕ) → i < n → getD l i d ≡ f i) → l ≡ tab n f
+  tab-is n f d l size e =
+      ext-getD d l (tab n f) (size ∙ sym (length-tab n f))
+      (λ i h. let below : i < n = omega arith in e i below ∙ sym (getD-tab n f i d below))
+
+  -- ---- element i of `a ++ b`, and of a list with a run replaced
+
+  pub getD-right : (a b : List A) (i : ℕ) (d : A) → length a ≤ i → getD (a ++ b) i d ≡ getD b (i - length a) d
+  getD-right a b i d h =
+      let split : i ≡ length a + (i - length a) = omega arith in
+      ap (λ (k : ℕ). getD (a ++ b) k d) split ∙ getD-append-add a b (i - length a) d
+
+  -- what is written from the front, and the rest as it was
+  unfoldable pub over : List A → List A → List A
+  over a old = a ++ drop (length a) old
+
+  pub over-is : (a old l : List A) (d : A) → length a ≤ length old → length l ≡ length old → ((i : ℕ) → i < length a → getD l i d ≡ getD a i d) → ((i : ℕ) → length a ≤ i → getD l i d ≡ getD old i d) → l ≡ over a old
+  unfolding over
+  over-is a old l d fits size front rest =
+      let whole : length (a ++ drop (length a) old) ≡ length old =
+      length-append a (drop (length a) old) ∙ (let h = length-drop (length a) old in omega arith)
+      in
+      ext-getD d l (a ++ drop (length a) old) (size ∙ sym whole) (λ i h. go i (decLe (length a) i))
+    where
+      go : (i : ℕ) → Dec (length a ≤ i) → getD l i d ≡ getD (a ++ drop (length a) old) i d
+      go i (yes h) =
+          let back : length a + (i - length a) ≡ i = omega arith in
+          rest i h ∙ sym (getD-right a (drop (length a) old) i d h ∙ getD-drop (length a) old (i - length a) d ∙ ap (λ (k : ℕ). getD old k d) back)
+      go i (no h) = let below : i < length a = omega arith in front i below ∙ sym (List·getD-append a (drop (length a) old) d i below)

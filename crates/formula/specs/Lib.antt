@@ -1,0 +1,4 @@
+pub mod Tables
+pub mod TableLaws
+pub mod Steps
+pub mod StepLaws

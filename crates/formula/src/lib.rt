@@ -1,0 +1,9 @@
+// Formula: the formulas of all nodes of a file, in the work space.
+mod steps;
+mod tables;
+//mod columns;
+//mod storage;
+//mod operation;
+
+//pub use operation::{Formulas, formula};
+//pub use storage::read_column;

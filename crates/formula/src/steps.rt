@@ -1,0 +1,76 @@
+// One byte of a column, eight subsets at a time: what an operator makes of its operands' bytes.
+ghost use mathlib.Core.Path.{_≡_};
+ghost use mathlib.Core.Bool.{cond};
+ghost use Rattle.bits.specs.Bit.{bit};
+ghost use Rattle.bits.specs.Pack.{pack};
+ghost use Rattle.formula.specs.Steps.{unaryAllowed, unaryOutput};
+ghost use Rattle.formula.specs.StepLaws.{MadeBy};
+use expression::BinaryOp;
+
+// An operator of one operand, on one attribute.
+pub struct Unary {
+    // the operand must have the attribute
+    pub need: bool,
+    // the operand must lack it
+    pub forbid: bool,
+    // the result has it where the operand does
+    pub keep: bool,
+    // the result has it
+    pub give: bool,
+}
+
+// A byte of allowed bits and the byte of output bits that goes with it.
+pub struct Bytes {
+    pub allowed: u8,
+    pub output: u8,
+}
+
+fn mask(b: bool) -> u8
+    ensures { λ r. ⌜ r ≡ cond b 255 0 ⌝ }
+{
+    if b { 255 } else { 0 }
+}
+
+pub fn unary_bytes(u: Unary, allowed: u8, output: u8) -> Bytes
+    ensures { λ r. ⌜ r .allowed ≡ pack 8 (λ i. unaryAllowed u (bit allowed i) (bit output i)) ⌝ }
+    ensures { λ r. ⌜ r .output ≡ pack 8 (λ i. unaryOutput u (bit allowed i) (bit output i)) ⌝ }
+{
+    let a = allowed & (output | !mask(u.need)) & !(output & mask(u.forbid));
+    Bytes {
+        allowed: a,
+        output: a & ((output & mask(u.keep)) | mask(u.give)),
+    }
+}
+
+pub fn binary_bytes(op: BinaryOp, left: Bytes, right: Bytes) -> Bytes
+    ensures { λ r. ⌜ MadeBy op (left .allowed) (left .output) (right .allowed) (right .output) (r .allowed) (r .output) ⌝ }
+{
+    let both = left.allowed & right.allowed;
+    match op {
+        BinaryOp::Union => {
+            let a = both & !(left.output ^ right.output);
+            Bytes {
+                allowed: a,
+                output: a & left.output,
+            }
+        }
+        BinaryOp::Difference => {
+            let a = both & !(left.output ^ right.output);
+            Bytes {
+                allowed: a,
+                output: a & left.output,
+            }
+        }
+        BinaryOp::Join => Bytes {
+            allowed: both,
+            output: both & (left.output | right.output),
+        },
+        BinaryOp::Product => {
+            let a = both & !(left.output & right.output);
+            Bytes {
+                allowed: a,
+                output: a & (left.output | right.output),
+            }
+        }
+    }
+}

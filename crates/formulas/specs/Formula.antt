@@ -1,0 +1,27 @@
+-- A formula: which subsets of the relations are allowed in each column, and which put the attribute in the output (document 01, "Formulas").
+use Prim.Native.Nat.{ℕ, _≤_, _^_}
+use mathlib.Core.Path.{_≡_}
+use mathlib.Core.Bool.{Bool, true, false, _&&_}
+use lib.Dec.{T, ltb}
+use Rattle.types.specs.Types.{Attrs, Assignment, column, holders}
+
+pub record Formula : Type 0 where
+  -- m; "A subset of the relations is a number s, 0 to 2^m − 1"
+  pub relations : ℕ
+  -- column, then subset
+  pub allowed : ℕ → ℕ → Bool
+  pub output : ℕ → ℕ → Bool
+
+-- "The type variables are the s above 0 allowed in column 0."
+abbrev pub isVariable : Formula → ℕ → Bool
+isVariable F s = ltb 0 s && ltb s (2 ^ F .relations) && F .allowed 0 s
+
+-- the formula allows each attribute as the assignment has it, and its output is t
+pub record Fits (F : Formula) (A : Assignment) (t : Attrs) (a : ℕ) : Type 0 where
+  pub allowed : F .allowed (column a) (holders (F .relations) A a) ≡ true
+  pub output : F .output (column a) (holders (F .relations) A a) ≡ t a
+
+-- an attribute that no relation has is allowed and not in the output
+pub record Grounded (F : Formula) : Type 0 where
+  pub allowed : F .allowed 0 0 ≡ true
+  pub output : F .output 0 0 ≡ false

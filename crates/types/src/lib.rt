@@ -1,0 +1,1 @@
+// Attributes and types: definitions only.

@@ -1,0 +1,74 @@
+//! The typing rules of document 01 (2.2), on sets of attributes.
+
+use std::collections::BTreeSet;
+
+use super::{File, Node};
+
+/// A set of attributes: 1 to 15 are special, 16 and above ordinary.
+pub type Type = BTreeSet<u32>;
+
+/// The attributes of a set of a node.
+fn members(set: u16) -> Type {
+    (1..=15)
+        .filter(|attribute| set >> attribute & 1 == 1)
+        .collect()
+}
+
+/// The type without `old`.
+fn without(whole: &Type, old: u8) -> Type {
+    let mut rest = whole.clone();
+    rest.remove(&u32::from(old));
+    rest
+}
+
+/// The type with `new`.
+fn with(mut rest: Type, new: u8) -> Type {
+    rest.insert(u32::from(new));
+    rest
+}
+
+/// The type of a node from those of the earlier nodes; none if a rule is broken in
+/// its expression.
+fn type_of_node(node: &Node, assignment: &[Type], earlier: &[Option<Type>]) -> Option<Type> {
+    let of = |operand: u8| earlier[usize::from(operand)].as_ref();
+    let has = |operand: &Type, attribute: u8| operand.contains(&u32::from(attribute));
+    match *node {
+        Node::Relation { relation } => Some(assignment[usize::from(relation)].clone()),
+        Node::Union { left, right } | Node::Difference { left, right } => {
+            let (left, right) = (of(left)?, of(right)?);
+            (left == right).then(|| left.clone())
+        }
+        Node::NaturalJoin { left, right } => Some(of(left)? | of(right)?),
+        Node::Product { left, right } => {
+            let (left, right) = (of(left)?, of(right)?);
+            left.is_disjoint(right).then(|| left | right)
+        }
+        Node::Selection { operand, set } => {
+            let operand = of(operand)?;
+            members(set).is_subset(operand).then(|| operand.clone())
+        }
+        Node::Projection { operand, set } => {
+            let set = members(set);
+            set.is_subset(of(operand)?).then_some(set)
+        }
+        Node::Renaming { operand, old, new } => {
+            let operand = of(operand)?;
+            (has(operand, old) && !has(operand, new)).then(|| with(without(operand, old), new))
+        }
+        Node::ProjectingOut { operand, old } => {
+            let operand = of(operand)?;
+            has(operand, old).then(|| without(operand, old))
+        }
+    }
+}
+
+/// The type that the rules give the node under the assignment, one set for each
+/// relation; none if a rule is broken in its expression. Each node is evaluated once.
+pub fn type_of(file: &File, node: usize, assignment: &[Type]) -> Option<Type> {
+    let mut types = Vec::new();
+    for earlier in &file.nodes[..=node] {
+        let next = type_of_node(earlier, assignment, &types);
+        types.push(next);
+    }
+    types.pop().flatten()
+}

@@ -1,0 +1,435 @@
+//! The reference alone: typing rules, Formula, Verdict and the listing. Needs no
+//! archive.
+
+use std::time::{Duration, Instant};
+
+use type_formula_tests::examples::{cases, e1, from_hexadecimal};
+use type_formula_tests::formula_examples::formula_examples;
+use type_formula_tests::random::Random;
+use type_formula_tests::reference::{
+    allowed_subsets, encode_file, formula, infer, is_allowed, is_output, listing, type_of, verdict,
+    Formula, Inferred, Node, Type, Verdict, COLUMNS, COLUMN_LENGTH, FORMULA_LENGTH, OUTPUT_START,
+    SCHEMA_LENGTH,
+};
+
+/// The ordinary attributes of the random assignments.
+const ORDINARY: [u32; 4] = [16, 17, 300, 70_000];
+
+/// How many cases of each kind come up at least.
+const TYPED: u64 = 20_000;
+const UNTYPED: u64 = 20_000;
+
+/// The attributes that an assignment may use.
+fn attributes() -> impl Iterator<Item = u32> {
+    (1..=15).chain(ORDINARY)
+}
+
+/// The column of an attribute.
+fn column_of(attribute: u32) -> usize {
+    if attribute < 16 {
+        attribute as usize
+    } else {
+        0
+    }
+}
+
+/// The relations that hold the attribute.
+fn holders(assignment: &[Type], attribute: u32) -> usize {
+    let holds = |relation: &usize| assignment[*relation].contains(&attribute);
+    let relations = (0..assignment.len()).filter(holds);
+    relations.map(|relation| 1 << relation).sum()
+}
+
+/// The assignment in which each attribute is held by the relations of its subset.
+fn assignment_of(relations: u8, mut subset: impl FnMut(u32) -> usize) -> Vec<Type> {
+    let mut assignment = vec![Type::new(); usize::from(relations)];
+    for attribute in attributes() {
+        let s = subset(attribute);
+        for (relation, held) in assignment.iter_mut().enumerate() {
+            if s >> relation & 1 == 1 {
+                held.insert(attribute);
+            }
+        }
+    }
+    assignment
+}
+
+/// The type by the formula: the attributes in the output, or none if the holders of
+/// some attribute are not allowed in its column.
+fn type_by_formula(formula: &Formula, assignment: &[Type]) -> Option<Type> {
+    let holders = |attribute| holders(assignment, attribute);
+    attributes()
+        .all(|attribute| is_allowed(formula, column_of(attribute), holders(attribute)))
+        .then(|| {
+            attributes()
+                .filter(|&attribute| is_output(formula, column_of(attribute), holders(attribute)))
+                .collect()
+        })
+}
+
+/// Any subset; three times in four the empty one.
+fn any_subset(random: &mut Random, relations: u8) -> usize {
+    match random.below(4) {
+        0 => random.below(1 << relations),
+        _ => 0,
+    }
+}
+
+/// An allowed subset of the column if there is one, else the empty one.
+fn allowed_subset(random: &mut Random, formula: &Formula, column: usize) -> usize {
+    match allowed_subsets(formula, column).as_slice() {
+        [] => 0,
+        allowed => allowed[random.below(allowed.len())],
+    }
+}
+
+/// An assignment of subsets that the formula allows, but for `others` attributes on
+/// average, which have any subset.
+fn likely_assignment(
+    random: &mut Random,
+    formula: &Formula,
+    relations: u8,
+    others: usize,
+) -> Vec<Type> {
+    assignment_of(relations, |attribute| {
+        if random.below(15 + ORDINARY.len()) < others {
+            random.below(1 << relations)
+        } else {
+            allowed_subset(random, formula, column_of(attribute))
+        }
+    })
+}
+
+/// Assignments of unrelated and of likely subsets.
+fn assignments(random: &mut Random, formula: &Formula, relations: u8) -> Vec<Vec<Type>> {
+    let unrelated = assignment_of(relations, |_| any_subset(random, relations));
+    let likely =
+        [0, 0, 2, 6, 12].map(|others| likely_assignment(random, formula, relations, others));
+    [vec![unrelated], likely.into()].concat()
+}
+
+/// Files of every m, with n from 1 to 12 and one of 64 nodes for each m.
+fn files(random: &mut Random) -> Vec<Inferred> {
+    let mut files = Vec::new();
+    for relations in 1..=8 {
+        for count in (1..=12).flat_map(|count| [count; 8]).chain([64]) {
+            files.push(random.accepted_file(relations, count));
+            files.push(random.mild_file(relations, count));
+        }
+    }
+    let infer = |bytes: &Vec<u8>| infer(bytes).expect("accepted");
+    files.iter().map(infer).collect()
+}
+
+/// The sets of a schema without ordinary attributes.
+fn sets_of(schema: &[u8]) -> Vec<Type> {
+    let set = |map: u16| (0..16).filter(|bit| map >> bit & 1 == 1).collect();
+    schema
+        .chunks_exact(2)
+        .map(|record| set(u16::from_le_bytes([record[0], record[1]])))
+        .collect()
+}
+
+/// Verdict with slices that are long enough, and the bytes written.
+fn verdict_of(inferred: &Inferred, node: usize) -> (Verdict, Vec<u8>) {
+    let mut work = vec![0; FORMULA_LENGTH * inferred.formulas.len()];
+    let mut schema = vec![0; SCHEMA_LENGTH];
+    let answer = inferred.verdict(node, &mut work, &mut schema);
+    match answer {
+        Verdict::Typable { length } => schema.truncate(length),
+        _ => schema.clear(),
+    }
+    (answer, schema)
+}
+
+#[test]
+fn the_rules_type_a_node_exactly_when_each_subset_is_allowed() {
+    let mut random = Random::new(30);
+    let (mut typed, mut untyped) = (0, 0);
+    for Inferred { file, formulas } in files(&mut random) {
+        for (node, formula) in formulas.iter().enumerate() {
+            for assignment in assignments(&mut random, formula, file.relations) {
+                let by_rules = type_of(&file, node, &assignment);
+                let by_formula = type_by_formula(formula, &assignment);
+                assert_eq!(
+                    by_rules, by_formula,
+                    "node {node} of {file:?}, {assignment:?}"
+                );
+                match by_rules {
+                    Some(_) => typed += 1,
+                    None => untyped += 1,
+                }
+            }
+        }
+    }
+    println!("{typed} typed, {untyped} untyped");
+    assert!(typed >= TYPED && untyped >= UNTYPED);
+}
+
+/// Every assignment of attributes 1, 2 and 16 to at most two relations.
+#[test]
+fn every_small_assignment_is_typed_as_the_formula_says() {
+    let mut random = Random::new(31);
+    let (mut typed, mut untyped) = (0, 0);
+    for _ in 0..600 {
+        let (relations, count) = (random.between(1, 2), random.between(1, 7));
+        let nodes = random.mild_nodes(relations, count);
+        let nodes: Vec<Node> = nodes.iter().map(with_attributes_1_and_2).collect();
+        let inferred = infer(&encode_file(relations, &nodes)).expect("accepted");
+        let node = nodes.len() - 1;
+        for subsets in 0..1_usize << (3 * relations) {
+            let assignment = assignment_of(relations, |attribute| {
+                let place = match attribute {
+                    1 => 0,
+                    2 => relations,
+                    16 => 2 * relations,
+                    _ => return 0,
+                };
+                subsets >> place & ((1 << relations) - 1)
+            });
+            let by_rules = type_of(&inferred.file, node, &assignment);
+            let by_formula = type_by_formula(&inferred.formulas[node], &assignment);
+            assert_eq!(by_rules, by_formula, "{nodes:?}, {assignment:?}");
+            match by_rules {
+                Some(_) => typed += 1,
+                None => untyped += 1,
+            }
+        }
+    }
+    println!("{typed} typed, {untyped} untyped");
+    assert!(typed >= 2_000 && untyped >= 2_000);
+}
+
+/// The node with 1 for each odd and 2 for each even attribute.
+fn with_attributes_1_and_2(node: &Node) -> Node {
+    let one = |attribute: u8| 2 - attribute % 2;
+    let all = |set: u16| {
+        let odd = u16::from(set & 0xaaaa != 0);
+        let even = u16::from(set & 0x5554 != 0);
+        odd << 1 | even << 2
+    };
+    match *node {
+        Node::Selection { operand, set } => Node::Selection {
+            operand,
+            set: all(set),
+        },
+        Node::Projection { operand, set } => Node::Projection {
+            operand,
+            set: all(set),
+        },
+        Node::Renaming { operand, old, new } => Node::Renaming {
+            operand,
+            old: one(old),
+            new: one(new),
+        },
+        Node::ProjectingOut { operand, old } => Node::ProjectingOut {
+            operand,
+            old: one(old),
+        },
+        other => other,
+    }
+}
+
+#[test]
+fn a_witness_types_its_node_and_nothing_types_an_untypable_node() {
+    let mut random = Random::new(32);
+    let (mut typable, mut untypable) = (0, 0);
+    for inferred in files(&mut random) {
+        let Inferred { file, formulas } = &inferred;
+        for (node, formula) in formulas.iter().enumerate() {
+            let (answer, schema) = verdict_of(&inferred, node);
+            if let Verdict::Untypable { attribute } = answer {
+                assert_eq!(allowed_subsets(formula, usize::from(attribute)), []);
+                let assignments =
+                    (0..8).flat_map(|_| assignments(&mut random, formula, file.relations));
+                for assignment in assignments {
+                    assert_eq!(
+                        type_of(file, node, &assignment),
+                        None,
+                        "node {node} of {file:?}"
+                    );
+                }
+                untypable += 1;
+            } else {
+                let length = 2 * usize::from(file.relations);
+                assert_eq!(answer, Verdict::Typable { length });
+                let witness = sets_of(&schema);
+                let by_rules = type_of(file, node, &witness);
+                assert!(by_rules.is_some(), "node {node} of {file:?}");
+                assert_eq!(by_rules, type_by_formula(formula, &witness));
+                typable += 1;
+            }
+        }
+    }
+    println!("{typable} typable, {untypable} untypable");
+    assert!(typable >= 1_000 && untypable >= 1_000);
+}
+
+#[test]
+fn output_bits_are_allowed_and_bits_from_2_to_the_m_up_are_zero() {
+    let mut random = Random::new(33);
+    for Inferred { file, formulas } in files(&mut random) {
+        for formula in &formulas {
+            for column in 0..COLUMNS {
+                for s in 0..256 {
+                    let (allowed, output) = (
+                        is_allowed(formula, column, s),
+                        is_output(formula, column, s),
+                    );
+                    assert!(allowed || !output);
+                    assert!(!allowed || s < 1 << file.relations);
+                }
+                assert!(column > 0 || is_allowed(formula, 0, 0));
+            }
+        }
+    }
+}
+
+#[test]
+fn examples_have_their_formulas_verdicts_and_listings() {
+    for example in formula_examples() {
+        let name = example.name;
+        let bytes = example.bytes();
+        let inferred = infer(&bytes).expect("accepted");
+        assert_eq!(
+            inferred.formulas[example.last()],
+            example.formula(),
+            "{name}"
+        );
+        let wanted = match example.verdict {
+            Ok(witness) => {
+                let witness = from_hexadecimal(witness);
+                let length = witness.len();
+                (Verdict::Typable { length }, witness)
+            }
+            Err(attribute) => (Verdict::Untypable { attribute }, Vec::new()),
+        };
+        assert_eq!(verdict_of(&inferred, example.last()), wanted, "{name}");
+        assert_eq!(listing(&bytes), example.listing, "{name}");
+    }
+}
+
+/// The first byte of the allowed and of the output subsets of each column of E1's
+/// last node; all other bytes are zero.
+#[test]
+fn e1_has_these_bytes() {
+    let mut work = vec![0xaa; 7 * FORMULA_LENGTH];
+    assert_eq!(formula(&e1().bytes, &mut work), 0);
+    for column in 0..COLUMNS {
+        let (allowed, output) = match column {
+            1 => (0x22, 0x20),
+            2 => (0x44, 0x44),
+            3 => (0x98, 0x98),
+            _ => (0x99, 0x98),
+        };
+        let mut wanted = [0; COLUMN_LENGTH];
+        wanted[0] = allowed;
+        wanted[OUTPUT_START] = output;
+        let start = 6 * FORMULA_LENGTH + column * COLUMN_LENGTH;
+        assert_eq!(
+            work[start..start + COLUMN_LENGTH],
+            wanted,
+            "column {column}"
+        );
+    }
+}
+
+/// E2, E3 and E4: E1 under its witness, with 20 in r0 and r1, with 20 in r0 only.
+#[test]
+fn e1_is_typed_by_the_rules_as_e2_to_e4_say() {
+    let file = infer(&e1().bytes).expect("accepted").file;
+    let e2 = sets_of(&from_hexadecimal("0a 00 0c 00 00 00"));
+    assert_eq!(type_of(&file, 6, &e2), Some(Type::from([2, 3])));
+    let mut e4 = e2.clone();
+    e4[0].insert(20);
+    assert_eq!(type_of(&file, 6, &e4), None);
+    let mut e3 = e4;
+    e3[1].insert(20);
+    assert_eq!(type_of(&file, 6, &e3), Some(Type::from([2, 3, 20])));
+}
+
+#[test]
+fn formula_and_verdict_are_refused_in_order() {
+    let bytes = e1().bytes;
+    let untouched = |slice: &[u8]| slice.iter().all(|&byte| byte == 0xaa);
+    for (node, work_length, schema_length, number) in [
+        (7, 0, 0, 11),
+        (usize::MAX, 7_168, 4_104, 11),
+        (6, 0, 0, 12),
+        (6, 7_167, 4_104, 12),
+        (6, 7_168, 4_103, 13),
+        (0, 70_000, 0, 13),
+    ] {
+        let (mut work, mut schema) = (vec![0xaa; work_length], vec![0xaa; schema_length]);
+        let answer = verdict(&bytes, node, &mut work, &mut schema);
+        assert_eq!(answer, Verdict::Refused { number });
+        assert!(untouched(&work) && untouched(&schema));
+    }
+    let mut work = vec![0xaa; 7_169];
+    assert_eq!(formula(&bytes, &mut work[..7_167]), 12);
+    assert!(untouched(&work));
+    assert_eq!(formula(&bytes, &mut work), 0);
+    let formulas = infer(&bytes).expect("accepted").formulas;
+    assert_eq!(work, [&formulas.concat()[..], &[0xaa]].concat());
+}
+
+#[test]
+fn a_refused_file_is_refused_first_of_all() {
+    for case in cases().iter().filter(|case| case.answer != 0) {
+        let number = case.answer;
+        let refused = Verdict::Refused { number };
+        assert_eq!(formula(&case.bytes, &mut []), number, "{}", case.name);
+        assert_eq!(verdict(&case.bytes, 64, &mut [], &mut []), refused);
+        assert_eq!(listing(&case.bytes), format!("refused {number}\n"));
+    }
+}
+
+/// Each node is followed once for each column and subset, so shared operands do not
+/// multiply the steps.
+#[test]
+fn sixty_three_pairs_of_the_node_before_end_quickly() {
+    let start = Instant::now();
+    let mut nodes = vec![Node::Relation { relation: 7 }];
+    nodes.extend((0..63).map(|number| Node::NaturalJoin {
+        left: number,
+        right: number,
+    }));
+    let inferred = infer(&encode_file(8, &nodes)).expect("accepted");
+    assert!(inferred
+        .formulas
+        .iter()
+        .all(|formula| formula == &inferred.formulas[0]));
+    let empty = vec![Type::new(); 8];
+    assert_eq!(type_of(&inferred.file, 63, &empty), Some(Type::new()));
+    assert!(start.elapsed() < Duration::from_secs(1));
+}
+
+#[test]
+fn a_join_of_eight_relations_has_255_variables() {
+    let mut nodes: Vec<Node> = (0..8).map(|relation| Node::Relation { relation }).collect();
+    nodes.push(Node::NaturalJoin { left: 0, right: 1 });
+    nodes.extend((2..8).map(|right| Node::NaturalJoin {
+        left: right + 6,
+        right,
+    }));
+    let text = listing(&encode_file(8, &nodes));
+    let lines: Vec<&str> = text.lines().collect();
+    assert_eq!(lines.len(), 10);
+    assert_eq!(lines[0], "node 14 typable");
+    assert_eq!(lines[9].split(' ').count(), 256);
+    assert!(lines[8].starts_with("r7: 80 81 ") && lines[8].ends_with(" fe ff"));
+}
+
+#[test]
+fn attributes_of_unused_nodes_are_listed() {
+    let nodes = [
+        Node::Relation { relation: 0 },
+        Node::Selection {
+            operand: 0,
+            set: 0x8400,
+        },
+        Node::Relation { relation: 0 },
+    ];
+    let text = "node 2 typable\nr0: 01\nout: 01\na10: 00- 01+\na15: 00- 01+\n";
+    assert_eq!(listing(&encode_file(1, &nodes)), text);
+}
