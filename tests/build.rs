@@ -1,7 +1,8 @@
 //! Links the static archive of the engine.
 
 use std::env;
-use std::path::PathBuf;
+use std::fs;
+use std::path::{Path, PathBuf};
 
 const DIRECTORY_VARIABLE: &str = "TYPE_FORMULA_ARCHIVE_DIR";
 
@@ -15,14 +16,28 @@ fn archive_directory() -> PathBuf {
     }
 }
 
+/// Whether the archive names the function.
+fn has_function(archive: &Path, name: &str) -> bool {
+    let bytes = fs::read(archive).unwrap_or_default();
+    bytes
+        .windows(name.len())
+        .any(|part| part == name.as_bytes())
+}
+
+/// Sets `verdict_in_archive` if the archive has Verdict. The benchmark program, which is
+/// linked with every test, uses the engine only then.
 fn main() {
     let directory = archive_directory();
     let archive = directory.join("libexports.a");
     println!("cargo:rerun-if-env-changed={DIRECTORY_VARIABLE}");
     println!("cargo:rerun-if-changed={}", archive.display());
+    println!("cargo:rustc-check-cfg=cfg(verdict_in_archive)");
     if !archive.exists() {
-        println!("cargo:warning=no archive: only the test `reference` can be linked");
+        println!("cargo:warning=no archive: only tests without the engine can be linked");
         return;
+    }
+    if has_function(&archive, "type_formula_verdict") {
+        println!("cargo:rustc-cfg=verdict_in_archive");
     }
     println!("cargo:rustc-link-search=native={}", directory.display());
     println!("cargo:rustc-link-lib=static=exports");

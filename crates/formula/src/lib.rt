@@ -1,7 +1,7 @@
 // Formula: the formulas of all nodes of a file, in the work space.
 mod steps;
 mod tables;
-//mod columns;
+mod columns;
 //mod storage;
 //mod operation;
 

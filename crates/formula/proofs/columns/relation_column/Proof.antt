@@ -1,0 +1,67 @@
+use Prim.Native.Nat.{ℕ, _-_, _≤_}
+use mathlib.Core.Path.{_≡_, refl, ap₂, _∙_}
+use mathlib.Core.Bool.{_&&_}
+use native.Mathlib.Omega.{arith}
+use lib.Bits.{bitAnd}
+use lib.Dec.{ltb}
+use Rattle.bits.specs.Bit.{bit}
+use Rattle.formula.specs.Column.{relationColumn}
+use Rattle.formula.specs.ColumnLaws.{Filling, filling-none, filling-more, filling-done}
+use Rattle.formula.specs.ColumnBytes.{relation-allowed, relation-output}
+use borrow.Author.Needs.{needs}
+use Rattle.formula.proofs.columns.relation_column.Statement.{statement}
+use Rattle.formula.proofs.columns.relation_column.Tie as tie
+
+abbrev Inv-loop : tie.InvT-loop
+Inv-loop count r column₀ j₀ column j = (j ≤ 32) × Filling (λ s. ltb s count) (λ s. ltb s count && bit s r) j column
+
+abbrev μ-loop : tie.MeasureT-loop
+μ-loop count r column₀ j₀ column j = 32 - j
+
+loop-holds : tie.Need-loop-holds Inv-loop μ-loop
+loop-holds c = (omega arith, filling-none (λ s. ltb s (c .args .count)) (λ s. ltb s (c .args .count) && bit s (c .args .r)) _ refl)
+
+subset-byte-requires : tie.Need-subset-byte-requires Inv-loop μ-loop
+subset-byte-requires c κs = search needs
+
+member-byte-requires : tie.Need-member-byte-requires Inv-loop μ-loop
+member-byte-requires c κs = search needs
+
+array-write-column : tie.Need-array-write-column Inv-loop μ-loop
+array-write-column c = omega arith
+
+add-column : tie.Need-add-column Inv-loop μ-loop
+add-column c = search needs
+
+array-write-column-2 : tie.Need-array-write-column-2 Inv-loop μ-loop
+array-write-column-2 c = omega arith
+
+add-j : tie.Need-add-j Inv-loop μ-loop
+add-j c = search needs
+
+loop-less : tie.Need-loop-less Inv-loop μ-loop
+loop-less c = search needs
+
+loop-again : tie.Need-loop-again Inv-loop μ-loop
+loop-again c = (omega arith, filling-more (λ s. ltb s (c .before .before .before .before .args .count)) (λ s. ltb s (c .before .before .before .before .args .count) && bit s (c .before .before .before .before .args .r)) (c .before .before .before .loop .j) (c .before .before .before .loop .column) _ _ (c .before .before .loop-test .taken) (c .before .before .before .loop .inv .1) (c .before .subset-byte .ensures ∙ relation-allowed (c .before .before .before .before .args .count) (c .before .before .before .loop .j)) (ap₂ bitAnd (c .before .subset-byte .ensures) (c .member-byte .ensures) ∙ relation-output (c .before .before .before .before .args .count) (c .before .before .before .before .args .r) (c .before .before .before .loop .j)))
+
+returns : tie.Need-returns Inv-loop μ-loop
+unfolding relationColumn
+returns c = let all : c .before .loop .j ≡ 32 = omega arith in filling-done (λ s. ltb s (c .before .before .args .count)) (λ s. ltb s (c .before .before .args .count) && bit s (c .before .before .args .r)) (c .before .loop .column) (rw all at (c .before .loop .inv .1))
+
+pub relation-column-spec : {M : Type 1} → statement M
+relation-column-spec =
+    tie.close
+    (tie.spec
+    Inv-loop
+    μ-loop
+    loop-holds
+    subset-byte-requires
+    member-byte-requires
+    array-write-column
+    add-column
+    array-write-column-2
+    add-j
+    loop-less
+    loop-again
+    returns)

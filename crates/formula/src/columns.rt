@@ -1,0 +1,55 @@
+// A whole column, from the columns of the operands.
+ghost use mathlib.Core.Path.{_≡_};
+ghost use Prim.Native.Nat.{_<_};
+ghost use Rattle.formula.specs.Column.{relationColumn, unaryColumn, binaryColumn};
+
+use crate::steps::{Bytes, Unary, binary_bytes, unary_bytes};
+use crate::tables::{member_byte, subset_byte};
+use expression::BinaryOp;
+
+// A relation's column, where there are `count` subsets.
+pub fn relation_column(count: usize, r: u8) -> [u8; 64]
+    requires { ⌜ r < 8 ⌝ }
+    ensures { λ c. ⌜ c ≡ relationColumn count r ⌝ }
+{
+    let mut column = [0u8; 64];
+    let mut j = 0;
+    while j < 32 {
+        let allowed = subset_byte(count, j);
+        let members = member_byte(r, j);
+        column[j] = allowed;
+        column[32 + j] = allowed & members;
+        j += 1;
+    }
+    column
+}
+
+pub fn unary_column(u: Unary, operand: [u8; 64]) -> [u8; 64]
+    ensures { λ c. ⌜ c ≡ unaryColumn u operand ⌝ }
+{
+    let mut column = [0u8; 64];
+    let mut j = 0;
+    while j < 32 {
+        let bytes = unary_bytes(u, operand[j], operand[32 + j]);
+        column[j] = bytes.allowed;
+        column[32 + j] = bytes.output;
+        j += 1;
+    }
+    column
+}
+
+pub fn binary_column(op: BinaryOp, left: [u8; 64], right: [u8; 64]) -> [u8; 64]
+    ensures { λ c. ⌜ c ≡ binaryColumn op left right ⌝ }
+{
+    let mut column = [0u8; 64];
+    let mut j = 0;
+    while j < 32 {
+        let l = Bytes { allowed: left[j], output: left[32 + j] };
+        let r = Bytes { allowed: right[j], output: right[32 + j] };
+        let bytes = binary_bytes(op, l, r);
+        column[j] = bytes.allowed;
+        column[32 + j] = bytes.output;
+        j += 1;
+    }
+    column
+}

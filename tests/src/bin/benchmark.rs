@@ -1,0 +1,502 @@
+//! Formula and Verdict of the engine, in one run with the same operations by the
+//! reference and by a loop over 64-bit words, and with copying the bytes of the
+//! formulas. Prints medians and the ratio of the engine's to each.
+//!
+//! The work space and the schema are reused and not cleared between runs.
+
+#[cfg(not(verdict_in_archive))]
+fn main() {
+    eprintln!("the archive of the engine has no Verdict");
+}
+
+#[cfg(verdict_in_archive)]
+fn main() {
+    measurement::main();
+}
+
+/// Formula and Verdict by a loop over 64-bit words.
+#[cfg_attr(not(verdict_in_archive), allow(dead_code))]
+mod words {
+    use type_formula_tests::reference::{
+        read_file, Node, Verdict, COLUMNS, COLUMN_LENGTH, FORMULA_LENGTH, NODE_NOT_BELOW_COUNT,
+        OUTPUT_START, RESULT_SLICE_TOO_SHORT, SCHEMA_LENGTH, WORK_SPACE_TOO_SHORT,
+    };
+
+    /// 256 bits, one for each subset.
+    type Bits = [u64; 4];
+
+    /// The allowed subsets of a column and those that put its attribute in the output.
+    #[derive(Clone, Copy)]
+    struct Column {
+        allowed: Bits,
+        output: Bits,
+    }
+
+    /// A column, word by word.
+    fn column_of(word: impl Fn(usize) -> (u64, u64)) -> Column {
+        let mut column = Column {
+            allowed: [0; 4],
+            output: [0; 4],
+        };
+        for i in 0..4 {
+            (column.allowed[i], column.output[i]) = word(i);
+        }
+        column
+    }
+
+    fn read_bits(bytes: &[u8]) -> Bits {
+        let mut bits = [0; 4];
+        for (word, bytes) in bits.iter_mut().zip(bytes.chunks_exact(8)) {
+            *word = u64::from_le_bytes(bytes.try_into().expect("eight bytes"));
+        }
+        bits
+    }
+
+    fn write_bits(bytes: &mut [u8], bits: &Bits) {
+        for (bytes, word) in bytes.chunks_exact_mut(8).zip(bits) {
+            bytes.copy_from_slice(&word.to_le_bytes());
+        }
+    }
+
+    fn read_column(work: &[u8], node: u8, column: usize) -> Column {
+        let start = FORMULA_LENGTH * usize::from(node) + COLUMN_LENGTH * column;
+        let bytes = &work[start..start + COLUMN_LENGTH];
+        Column {
+            allowed: read_bits(&bytes[..OUTPUT_START]),
+            output: read_bits(&bytes[OUTPUT_START..]),
+        }
+    }
+
+    fn write_column(formula: &mut [u8], column: usize, words: &Column) {
+        let start = COLUMN_LENGTH * column;
+        let bytes = &mut formula[start..start + COLUMN_LENGTH];
+        write_bits(&mut bytes[..OUTPUT_START], &words.allowed);
+        write_bits(&mut bytes[OUTPUT_START..], &words.output);
+    }
+
+    /// The subsets below 2^m.
+    fn all_subsets(relations: u8) -> Bits {
+        match relations {
+            0..=5 => [(1 << (1 << relations)) - 1, 0, 0, 0],
+            6 => [u64::MAX, 0, 0, 0],
+            7 => [u64::MAX, u64::MAX, 0, 0],
+            _ => [u64::MAX; 4],
+        }
+    }
+
+    /// The subsets that hold the relation.
+    fn subsets_with(relation: u8) -> Bits {
+        match relation {
+            0 => [0xaaaa_aaaa_aaaa_aaaa; 4],
+            1 => [0xcccc_cccc_cccc_cccc; 4],
+            2 => [0xf0f0_f0f0_f0f0_f0f0; 4],
+            3 => [0xff00_ff00_ff00_ff00; 4],
+            4 => [0xffff_0000_ffff_0000; 4],
+            5 => [0xffff_ffff_0000_0000; 4],
+            6 => [0, u64::MAX, 0, u64::MAX],
+            _ => [0, 0, u64::MAX, u64::MAX],
+        }
+    }
+
+    fn equal_types(left: &Column, right: &Column) -> Column {
+        column_of(|i| {
+            let agree = !(left.output[i] ^ right.output[i]);
+            let allowed = left.allowed[i] & right.allowed[i] & agree;
+            (allowed, allowed & left.output[i])
+        })
+    }
+
+    fn join(left: &Column, right: &Column) -> Column {
+        column_of(|i| {
+            let allowed = left.allowed[i] & right.allowed[i];
+            (allowed, allowed & (left.output[i] | right.output[i]))
+        })
+    }
+
+    fn product(left: &Column, right: &Column) -> Column {
+        column_of(|i| {
+            let both = left.output[i] & right.output[i];
+            let allowed = left.allowed[i] & right.allowed[i] & !both;
+            (allowed, allowed & (left.output[i] | right.output[i]))
+        })
+    }
+
+    /// The attribute must be present; the result has it or not.
+    fn present(operand: &Column, stays: bool) -> Column {
+        column_of(|i| (operand.output[i], if stays { operand.output[i] } else { 0 }))
+    }
+
+    /// The attribute must be absent and comes.
+    fn absent(operand: &Column) -> Column {
+        column_of(|i| {
+            let allowed = operand.allowed[i] & !operand.output[i];
+            (allowed, allowed)
+        })
+    }
+
+    /// The result does not have the attribute.
+    fn dropped(operand: &Column) -> Column {
+        column_of(|i| (operand.allowed[i], 0))
+    }
+
+    const NOTHING: Column = Column {
+        allowed: [0; 4],
+        output: [0; 4],
+    };
+
+    /// The column of a node from those of the earlier nodes.
+    fn step(node: &Node, column: usize, relations: u8, earlier: &[u8]) -> Column {
+        let read = |operand| read_column(earlier, operand, column);
+        let is_listed = |set: u16| set >> column & 1 == 1;
+        let is_column = |attribute: u8| usize::from(attribute) == column;
+        match *node {
+            Node::Relation { relation } => {
+                let (all, with) = (all_subsets(relations), subsets_with(relation));
+                column_of(|i| (all[i], all[i] & with[i]))
+            }
+            Node::Union { left, right } | Node::Difference { left, right } => {
+                equal_types(&read(left), &read(right))
+            }
+            Node::NaturalJoin { left, right } => join(&read(left), &read(right)),
+            Node::Product { left, right } => product(&read(left), &read(right)),
+            Node::Selection { operand, set } if is_listed(set) => present(&read(operand), true),
+            Node::Selection { operand, .. } => read(operand),
+            Node::Projection { operand, set } if is_listed(set) => present(&read(operand), true),
+            Node::Projection { operand, .. } => dropped(&read(operand)),
+            Node::Renaming { operand, old, new } => match (is_column(old), is_column(new)) {
+                (true, true) => NOTHING,
+                (true, false) => present(&read(operand), false),
+                (false, true) => absent(&read(operand)),
+                (false, false) => read(operand),
+            },
+            Node::ProjectingOut { operand, old } if is_column(old) => {
+                present(&read(operand), false)
+            }
+            Node::ProjectingOut { operand, .. } => read(operand),
+        }
+    }
+
+    fn fill(relations: u8, nodes: &[Node], work: &mut [u8]) {
+        for (number, node) in nodes.iter().enumerate() {
+            let (earlier, formula) = work.split_at_mut(FORMULA_LENGTH * number);
+            for column in 0..COLUMNS {
+                write_column(formula, column, &step(node, column, relations, earlier));
+            }
+        }
+    }
+
+    /// Formula; reads the file as the reference does.
+    pub fn formula(bytes: &[u8], work: &mut [u8]) -> u8 {
+        let file = match read_file(bytes) {
+            Ok(file) => file,
+            Err(refusal) => return refusal,
+        };
+        if work.len() < FORMULA_LENGTH * file.nodes.len() {
+            return WORK_SPACE_TOO_SHORT;
+        }
+        fill(file.relations, &file.nodes, work);
+        0
+    }
+
+    fn lowest(bits: &Bits) -> Option<u32> {
+        let place = bits.iter().position(|&word| word != 0)?;
+        Some(64 * place as u32 + bits[place].trailing_zeros())
+    }
+
+    /// The maps of the witness, or the attribute whose column allows nothing.
+    fn witness(work: &[u8], node: u8) -> Result<[u16; 8], u8> {
+        let mut maps = [0; 8];
+        for column in 1..COLUMNS {
+            let allowed = read_column(work, node, column).allowed;
+            let s = lowest(&allowed).ok_or(column as u8)?;
+            for (relation, map) in maps.iter_mut().enumerate() {
+                *map |= (s as u16 >> relation & 1) << column;
+            }
+        }
+        Ok(maps)
+    }
+
+    /// Verdict; reads the file as the reference does.
+    pub fn verdict(bytes: &[u8], node: usize, work: &mut [u8], schema: &mut [u8]) -> Verdict {
+        let refused = |number| Verdict::Refused { number };
+        let file = match read_file(bytes) {
+            Ok(file) => file,
+            Err(refusal) => return refused(refusal),
+        };
+        if node >= file.nodes.len() {
+            return refused(NODE_NOT_BELOW_COUNT);
+        }
+        if work.len() < FORMULA_LENGTH * file.nodes.len() {
+            return refused(WORK_SPACE_TOO_SHORT);
+        }
+        if schema.len() < SCHEMA_LENGTH {
+            return refused(RESULT_SLICE_TOO_SHORT);
+        }
+        fill(file.relations, &file.nodes, work);
+        let maps = match witness(work, node as u8) {
+            Ok(maps) => maps,
+            Err(attribute) => return Verdict::Untypable { attribute },
+        };
+        let length = 2 * usize::from(file.relations);
+        for (record, map) in schema[..length].chunks_exact_mut(2).zip(maps) {
+            record.copy_from_slice(&map.to_le_bytes());
+        }
+        Verdict::Typable { length }
+    }
+}
+
+#[cfg(verdict_in_archive)]
+mod measurement {
+    use std::hint::black_box;
+    use std::mem::discriminant;
+    use std::time::{Duration, Instant};
+
+    use type_formula_tests::engine::{self, UNTYPABLE};
+    use type_formula_tests::examples::e1;
+    use type_formula_tests::random::Random;
+    use type_formula_tests::reference::{
+        self, encode_file, Node, Verdict, FORMULA_LENGTH, SCHEMA_LENGTH,
+    };
+
+    use super::words;
+
+    /// The number of samples of each row; the median is taken over them.
+    const SAMPLES: usize = 1_001;
+    /// The least time of a sample; the runs in it are averaged.
+    const SAMPLE_TIME: Duration = Duration::from_micros(200);
+
+    /// A file, its last node, and the slices that every run uses again.
+    struct Setting {
+        name: &'static str,
+        bytes: Vec<u8>,
+        last: usize,
+        work: Vec<u8>,
+        schema: Vec<u8>,
+    }
+
+    impl Setting {
+        fn new(name: &'static str, bytes: Vec<u8>) -> Self {
+            let count = usize::from(bytes[1]);
+            Setting {
+                name,
+                bytes,
+                last: count - 1,
+                work: vec![0; FORMULA_LENGTH * count],
+                schema: vec![0; SCHEMA_LENGTH],
+            }
+        }
+
+        fn slices(&self) -> (Vec<u8>, Vec<u8>) {
+            (self.work.clone(), self.schema.clone())
+        }
+    }
+
+    /// The first seeded file with m 8, n 64 and all cases of nodes whose last node is
+    /// typable and not a relation.
+    fn large_file() -> Vec<u8> {
+        let mut random = Random::new(50);
+        loop {
+            let nodes = random.mild_nodes(8, 64);
+            let bytes = encode_file(8, &nodes);
+            let inferred = reference::infer(&bytes).expect("accepted");
+            let typable = reference::untypable_attribute(&inferred.formulas[63]).is_none();
+            let last_is_relation = matches!(nodes[63], Node::Relation { .. });
+            if has_all_cases(&nodes) && typable && !last_is_relation {
+                return bytes;
+            }
+        }
+    }
+
+    /// Whether all nine cases of nodes occur.
+    fn has_all_cases(nodes: &[Node]) -> bool {
+        let mut cases = Vec::new();
+        for case in nodes.iter().map(discriminant) {
+            if !cases.contains(&case) {
+                cases.push(case);
+            }
+        }
+        cases.len() == 9
+    }
+
+    /// Asserts that the engine, the reference and the words give the same answers and
+    /// bytes.
+    fn check(setting: &Setting) {
+        let (bytes, last) = (&setting.bytes, setting.last);
+        let (mut wanted, mut schema) = setting.slices();
+        let verdict = reference::verdict(bytes, last, &mut wanted, &mut schema);
+        let (mut by_words, mut schema_by_words) = setting.slices();
+        assert_eq!(words::formula(bytes, &mut by_words), 0);
+        assert!(by_words == wanted, "{}: words, Formula", setting.name);
+        by_words.fill(0x55);
+        let verdict_by_words = words::verdict(bytes, last, &mut by_words, &mut schema_by_words);
+        assert_eq!(verdict_by_words, verdict);
+        assert!(by_words == wanted && schema_by_words == schema);
+        let (mut by_engine, mut schema_by_engine) = setting.slices();
+        assert_eq!(engine::formula(bytes, &mut by_engine), 0);
+        assert!(by_engine == wanted, "{}: engine, Formula", setting.name);
+        by_engine.fill(0x55);
+        let mut value = 0;
+        let answer = engine::verdict(
+            bytes,
+            last,
+            &mut by_engine,
+            &mut schema_by_engine,
+            &mut value,
+        );
+        let verdict_by_engine = match answer {
+            0 => Verdict::Typable { length: value },
+            UNTYPABLE => Verdict::Untypable {
+                attribute: value as u8,
+            },
+            number => Verdict::Refused { number },
+        };
+        assert_eq!(verdict_by_engine, verdict);
+        assert!(by_engine == wanted && schema_by_engine == schema);
+    }
+
+    /// Asserts that the words give the bytes of the reference on random files.
+    fn check_words() {
+        let mut random = Random::new(51);
+        let (mut work, mut wanted) = (vec![0; 64 * FORMULA_LENGTH], vec![0; 64 * FORMULA_LENGTH]);
+        for round in 0..500 {
+            let (relations, count) = (random.between(1, 8), random.between(1, 64));
+            let bytes = match round % 2 {
+                0 => random.accepted_file(relations, count),
+                _ => random.mild_file(relations, count),
+            };
+            words::formula(&bytes, &mut work);
+            reference::formula(&bytes, &mut wanted);
+            assert!(work == wanted, "words differ from the reference");
+        }
+    }
+
+    /// One row: a name and what to run.
+    type Row<'a> = (&'static str, Box<dyn FnMut() + 'a>);
+
+    /// The number of runs in a sample.
+    fn runs_in_sample(run: &mut dyn FnMut()) -> u32 {
+        let start = Instant::now();
+        let mut runs = 0;
+        while start.elapsed() < SAMPLE_TIME {
+            run();
+            runs += 1;
+        }
+        runs
+    }
+
+    /// The medians in nanoseconds of the rows; their samples alternate.
+    fn medians(rows: &mut [Row]) -> Vec<f64> {
+        let runs: Vec<u32> = rows
+            .iter_mut()
+            .map(|row| runs_in_sample(&mut row.1))
+            .collect();
+        let mut samples = vec![Vec::new(); rows.len()];
+        for _ in 0..SAMPLES {
+            for (place, (_, run)) in rows.iter_mut().enumerate() {
+                let start = Instant::now();
+                for _ in 0..runs[place] {
+                    run();
+                }
+                let nanoseconds = start.elapsed().as_secs_f64() * 1e9;
+                samples[place].push(nanoseconds / f64::from(runs[place]));
+            }
+        }
+        samples.into_iter().map(median).collect()
+    }
+
+    fn median(mut samples: Vec<f64>) -> f64 {
+        samples.sort_by(f64::total_cmp);
+        samples[samples.len() / 2]
+    }
+
+    /// Prints a table: the median of each row and the engine's ratio to it.
+    fn print(title: &str, rows: &mut [Row]) {
+        let medians = medians(rows);
+        println!("\n{title}");
+        println!(
+            "{:<12}{:>14}{:>24}",
+            "", "median ns", "engine's ratio to it"
+        );
+        for ((name, _), median) in rows.iter().zip(&medians) {
+            println!("{name:<12}{median:>14.0}{:>24.3}", medians[0] / median);
+        }
+    }
+
+    /// Copies the bytes of the formulas.
+    fn copy<'a>(setting: &Setting) -> Row<'a> {
+        let source = vec![0x55; setting.work.len()];
+        let mut target = setting.work.clone();
+        let run = move || black_box(&mut target[..]).copy_from_slice(black_box(&source));
+        ("copy", Box::new(run))
+    }
+
+    fn formula_rows(setting: &Setting) -> Vec<Row<'_>> {
+        let row = |name, formula: fn(&[u8], &mut [u8]) -> u8| -> Row {
+            let (bytes, mut work) = (&setting.bytes, setting.work.clone());
+            let run = move || {
+                black_box(formula(black_box(bytes), black_box(&mut work)));
+            };
+            (name, Box::new(run))
+        };
+        vec![
+            row("engine", engine::formula),
+            row("reference", reference::formula),
+            row("words", words::formula),
+            copy(setting),
+        ]
+    }
+
+    fn verdict_rows(setting: &Setting) -> Vec<Row<'_>> {
+        let row = |name, verdict: fn(&[u8], usize, &mut [u8], &mut [u8]) -> Verdict| -> Row {
+            let (bytes, last) = (&setting.bytes, setting.last);
+            let (mut work, mut schema) = setting.slices();
+            let run = move || {
+                let (work, schema) = (black_box(&mut work), black_box(&mut schema));
+                black_box(verdict(black_box(bytes), last, work, schema));
+            };
+            (name, Box::new(run))
+        };
+        let (bytes, last) = (&setting.bytes, setting.last);
+        let (mut work, mut schema) = setting.slices();
+        let by_engine = move || {
+            let (work, schema) = (black_box(&mut work), black_box(&mut schema));
+            let mut value = 0;
+            black_box(engine::verdict(
+                black_box(bytes),
+                last,
+                work,
+                schema,
+                &mut value,
+            ));
+            black_box(value);
+        };
+        vec![
+            ("engine", Box::new(by_engine)),
+            row("reference", reference::verdict),
+            row("words", words::verdict),
+            copy(setting),
+        ]
+    }
+
+    pub fn main() {
+        println!("The work space and the schema are reused and not cleared between runs.");
+        println!("Medians of {SAMPLES} samples; samples of the rows of a table alternate.");
+        println!("words and reference read the file by the same function.");
+        check_words();
+        let settings = [
+            Setting::new("n 7, m 3 (E1)", e1().bytes),
+            Setting::new("n 64, m 8", large_file()),
+        ];
+        for setting in &settings {
+            check(setting);
+            print(
+                &format!("Formula, {}", setting.name),
+                &mut formula_rows(setting),
+            );
+            print(
+                &format!("Verdict, {}", setting.name),
+                &mut verdict_rows(setting),
+            );
+        }
+    }
+}
