@@ -5,3 +5,5 @@ pub mod StepLaws
 pub mod Column
 pub mod ColumnLaws
 pub mod ColumnBytes
+pub mod Storage
+pub mod StorageLaws

@@ -2,7 +2,7 @@
 mod steps;
 mod tables;
 mod columns;
-//mod storage;
+mod storage;
 //mod operation;
 
 //pub use operation::{Formulas, formula};
