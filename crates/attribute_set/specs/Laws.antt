@@ -7,7 +7,7 @@ use borrow.Author.Tests.{ne-eqb}
 use lib.Dec.{eqb}
 use lib.Bits.{bitOr}
 use Rattle.bits.specs.Bit.{bit, bit-none, bit-or, bit-power}
-use Rattle.bits.specs.Range.{inRange, in-range}
+use Rattle.bits.specs.Range.{in-range, range-in}
 use Rattle.attribute_set.specs.declared.AttrSet.{AttrSet}
 use Rattle.attribute_set.specs.declared.Built.{Built}
 use Rattle.attribute_set.specs.declared.Built.the-variants.{Set, NoSet}
@@ -16,6 +16,10 @@ use Rattle.attribute_set.specs.AttrSet.{special, hasAttribute, emptySet,
 pub special-range : (a : ℕ) → special a ≡ true → (1 ≤ a) × (a ≤ 15)
 unfolding special
 special-range a e = in-range 1 15 a e
+
+pub special-in : (a : ℕ) → 1 ≤ a → a ≤ 15 → special a ≡ true
+unfolding special
+special-in a l h = range-in 1 15 a l h
 
 pub has-empty : (a : ℕ) → hasAttribute emptySet a ≡ false
 unfolding hasAttribute
@@ -41,6 +45,10 @@ has-with s a b = go (special a)
 -- a set has bit 0 clear
 unfoldable pub Clear : AttrSet → Type 0
 Clear s = hasAttribute s 0 ≡ false
+
+pub clear-lacks : (s : AttrSet) → Clear s → hasAttribute s 0 ≡ false
+unfolding Clear
+clear-lacks s h = h
 
 pub clear-empty : Clear emptySet
 unfolding Clear

@@ -55,3 +55,17 @@ module _ {A : Type 0} where
           let back : length a + (i - length a) ≡ i = omega arith in
           rest i h ∙ sym (getD-right a (drop (length a) old) i d h ∙ getD-drop (length a) old (i - length a) d ∙ ap (λ (k : ℕ). getD old k d) back)
       go i (no h) = let below : i < length a = omega arith in front i below ∙ sym (List·getD-append a (drop (length a) old) d i below)
+
+  pub over-length : (a old : List A) → length a ≤ length old → length (over a old) ≡ length old
+  unfolding over
+  over-length a old h = length-append a (drop (length a) old) ∙ (let l = length-drop (length a) old in omega arith)
+
+  pub over-front : (a old : List A) (i : ℕ) (d : A) → i < length a → getD (over a old) i d ≡ getD a i d
+  unfolding over
+  over-front a old i d h = List·getD-append a (drop (length a) old) d i h
+
+  pub over-back : (a old : List A) (i : ℕ) (d : A) → length a ≤ i → getD (over a old) i d ≡ getD old i d
+  unfolding over
+  over-back a old i d h =
+      let back : length a + (i - length a) ≡ i = omega arith in
+      getD-right a (drop (length a) old) i d h ∙ getD-drop (length a) old (i - length a) d ∙ ap (λ (k : ℕ). getD old k d) back

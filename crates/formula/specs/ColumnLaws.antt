@@ -103,3 +103,13 @@ filling-done allowed output column f = tab-is 64 _ 0 column (f .size) (λ q h. g
         let above = ltb-false q 32 e in
         let back : 32 + (q - 32) ≡ q = omega arith in
         sym (ap (λ (k : ℕ). getD column k 0) back) ∙ f .back (q - 32) (omega arith) ∙ ap (λ (t : Bool). cond t (mapByte allowed q) (mapByte output (q - 32))) (sym e)
+
+-- two tests that agree on the 256 subsets make one column
+pub column-same : (allowed output allowed′ output′ : ℕ → Bool) → ((s : ℕ) → s < 256 → allowed s ≡ allowed′ s) → ((s : ℕ) → s < 256 → output s ≡ output′ s) → columnOf allowed output ≡ columnOf allowed′ output′
+column-same allowed output allowed′ output′ ea eo =
+    filling-done allowed′ output′ (columnOf allowed output)
+    (record
+      { size = column-length allowed output
+      ; front = λ i h. column-front allowed output i h ∙ map-same allowed allowed′ ea i h
+      ; back = λ i h. column-back allowed output i h ∙ map-same output output′ eo i h
+      })

@@ -7,3 +7,8 @@ pub mod ColumnLaws
 pub mod ColumnBytes
 pub mod Storage
 pub mod StorageLaws
+pub mod Expressions
+pub mod Stored
+pub mod NodeColumn
+pub mod Filling
+pub mod StoredLaws

@@ -3,7 +3,7 @@ mod steps;
 mod tables;
 mod columns;
 mod storage;
-//mod operation;
+mod operation;
 
 //pub use operation::{Formulas, formula};
 //pub use storage::read_column;

@@ -1,0 +1,150 @@
+-- How the work space is filled, column by column, from the front.
+use Prim.Native.Nat.{ℕ, _+_, _-_, _*_, _/_, _%_, _^_, _≤_, _<_}
+use mathlib.Core.Path.{_≡_, refl, sym, ap, ap₂, subst, _∙_}
+use mathlib.Core.List.{List}
+use mathlib.Core.Logic.{_⊎_, inl, inr}
+use native.Mathlib.Decide.{decLe}
+use native.Mathlib.Omega.{arith}
+use borrow.Rule.Slice.PartMut.{putMid, midOf}
+use lib.ListN.{length, getD, take, drop, length-drop}
+use lib.Seq.{paste, length-paste, ext-getD, length-take-le, getD-take, getD-drop}
+use Rattle.bits.specs.Tab.{tab, length-tab, getD-tab, over, over-is}
+use Rattle.expression.specs.Legal.{LegalNode}
+use Rattle.expression.specs.ReadFile.{nodeAt, sizeAt, acceptance}
+use Rattle.expression.specs.ReadNode.{readNode}
+use Rattle.expression.specs.declared.reader.Reading.the-variants.{Read, Refused as NodeRefused}
+use Rattle.expression.specs.declared.nodes.Node.{Node}
+use Rattle.expression.specs.declared.files.Acceptance.the-variants.{Accepted}
+use Rattle.expression.specs.Accepted.{accepted-file}
+use Rattle.expression.specs.Walk.{Walk, walk-next}
+use Rattle.refusal.specs.declared.Refusal.{Refusal}
+use Rattle.algebra.specs.Expression.{Expression}
+use Rattle.formula.specs.Storage.{columnAt}
+use Rattle.formula.specs.StorageLaws.{lent-paste, paste-inside, paste-outside}
+use Rattle.formula.specs.ColumnLaws.{column-length}
+use Rattle.formula.specs.Expressions.{expressionAt, expression-is}
+use Rattle.formula.specs.NodeColumn.{nodeColumn, node-cells}
+use Rattle.formula.specs.Stored.{cellColumn, storedByte, formulasOf}
+
+-- node k stands at byte `at` of the file: what the walk over an accepted file's nodes gives
+pub record Here (file : List ℕ) (m k at : ℕ) : Type 0 where
+  pub relations : m ≤ 8
+  pub inside : at ≤ length file
+  pub fits : at + sizeAt file k ≤ length file
+  pub reading : readNode m k (take (length file - at) (drop at file)) ≡ Read (nodeAt file k) (sizeAt file k)
+  pub legal : LegalNode m k (nodeAt file k)
+
+-- what its reading gives
+pub here-read : (file : List ℕ) (m k at : ℕ) (node : Node) (size : ℕ) → Here file m k at → readNode m k (take (length file - at) (drop at file)) ≡ Read node size → (node ≡ nodeAt file k) × (size ≡ sizeAt file k)
+here-read file m k at node size here e =
+    let same : Read node size ≡ Read (nodeAt file k) (sizeAt file k) = sym e ∙ here .reading in
+    (cc, cc)
+
+pub here-reads : (file : List ℕ) (m k at : ℕ) (r : Refusal) → Here file m k at → readNode m k (take (length file - at) (drop at file)) ≡ NodeRefused r → ⊥
+here-reads file m k at r here e =
+    let same : NodeRefused r ≡ Read (nodeAt file k) (sizeAt file k) = sym e ∙ here .reading in
+    let z : _≡_ {A = ℕ} 0 1 = cc in
+    omega arith
+
+-- the walk over an accepted file's nodes is there
+pub walk-here : (file : List ℕ) (m n k at : ℕ) → acceptance file ≡ Accepted m n → k < n → Walk file m n k at → Here file m k at
+walk-here file m n k at e h w =
+    let step = walk-next file m n k at w h in
+    record
+      { relations = accepted-file file m n e .counts .relations .1
+      ; inside = w .inside
+      ; fits = step .next .inside
+      ; reading = step .reading
+      ; legal = step .legal
+      }
+
+-- the first p bytes are those of the formulas, the rest is as it was
+pub record FilledTo (file : List ℕ) (m p : ℕ) (old work : List ℕ) : Type 0 where
+  pub size : length work ≡ length old
+  pub front : (i : ℕ) → i < p → getD work i 0 ≡ storedByte file m i
+  pub back : (i : ℕ) → p ≤ i → getD work i 0 ≡ getD old i 0
+
+pub filled-none : (file : List ℕ) (m : ℕ) (work : List ℕ) → FilledTo file m 0 work work
+filled-none file m work = record { size = refl; front = λ i h. absurd (omega arith); back = λ i h. refl }
+
+pub filled-self : (file : List ℕ) (m p : ℕ) (old work : List ℕ) → FilledTo file m p old work → FilledTo file m p work work
+filled-self file m p old work filled = record { size = refl; front = filled .front; back = λ i h. refl }
+
+-- a filled work space stays so where more was filled after it
+pub filled-again : (file : List ℕ) (m p q : ℕ) (old work new : List ℕ) → p ≤ q → FilledTo file m p old work → FilledTo file m q work new → FilledTo file m q old new
+filled-again file m p q old work new h before after =
+    record
+      { size = after .size ∙ before .size
+      ; front = after .front
+      ; back = λ i above. after .back i above ∙ before .back i (omega arith)
+      }
+
+-- ---- a column
+
+pub cell-length : (m : ℕ) (e : Expression) (c : ℕ) → length (cellColumn m e c) ≡ 64
+unfolding cellColumn
+cell-length m e c = column-length _ _
+
+-- the byte at place i of column c of node k
+pub stored-at : (file : List ℕ) (m k c i : ℕ) → c < 16 → i < 64 → storedByte file m (k * 1024 + c * 64 + i) ≡ getD (cellColumn m (expressionAt file k) c) i 0
+unfolding storedByte
+stored-at file m k c i hc hi =
+    let node : (k * 1024 + c * 64 + i) / 1024 ≡ k = omega arith in
+    let column : (k * 1024 + c * 64 + i) % 1024 / 64 ≡ c = omega arith in
+    let place : (k * 1024 + c * 64 + i) % 64 ≡ i = omega arith in
+    rw (node, column, place)
+
+-- a column that was filled is read back
+pub filled-column : (file : List ℕ) (m p : ℕ) (old work : List ℕ) (l c : ℕ) → FilledTo file m p old work → p ≤ length work → l * 1024 + 1024 ≤ p → c < 16 → columnAt work l c ≡ cellColumn m (expressionAt file l) c
+unfolding columnAt
+filled-column file m p old work l c filled fits within hc =
+    let rest = length-drop (l * 1024 + c * 64) work in
+    let size = length-take-le 64 (drop (l * 1024 + c * 64) work) (omega arith) in
+    ext-getD 0 (take 64 (drop (l * 1024 + c * 64) work)) (cellColumn m (expressionAt file l) c) (size ∙ sym (cell-length m (expressionAt file l) c))
+    (λ i h. let below : i < 64 = omega arith in
+      getD-take 64 (drop (l * 1024 + c * 64) work) i 0 below
+      ∙ getD-drop (l * 1024 + c * 64) work i 0
+      ∙ filled .front (l * 1024 + c * 64 + i) (omega arith)
+      ∙ stored-at file m l c i hc below)
+
+-- writing the next column
+pub filled-more : (file : List ℕ) (m : ℕ) (old work : List ℕ) (k c : ℕ) → c < 16 → k * 1024 + c * 64 + 64 ≤ length work → FilledTo file m (k * 1024 + c * 64) old work → FilledTo file m (k * 1024 + c * 64 + 64) old (paste work (k * 1024 + c * 64) (cellColumn m (expressionAt file k) c) 64)
+filled-more file m old work k c hc fits filled =
+    record
+      { size = length-paste work (k * 1024 + c * 64) (cellColumn m (expressionAt file k) c) 64 fits (let l = cell-length m (expressionAt file k) c in omega arith) ∙ filled .size
+      ; front = λ i h. front i h (decLe (k * 1024 + c * 64) i)
+      ; back = λ i h. paste-outside work (cellColumn m (expressionAt file k) c) (k * 1024 + c * 64) 64 fits (cell-length m (expressionAt file k) c) i (inr h) ∙ filled .back i (omega arith)
+      }
+  where
+    front : (i : ℕ) → i < k * 1024 + c * 64 + 64 → Dec (k * 1024 + c * 64 ≤ i) → getD (paste work (k * 1024 + c * 64) (cellColumn m (expressionAt file k) c) 64) i 0 ≡ storedByte file m i
+    front i h (yes above) =
+        let back : k * 1024 + c * 64 + (i - (k * 1024 + c * 64)) ≡ i = omega arith in
+        let inside : i - (k * 1024 + c * 64) < 64 = omega arith in
+        sym (ap (λ (j : ℕ). getD (paste work (k * 1024 + c * 64) (cellColumn m (expressionAt file k) c) 64) j 0) back)
+        ∙ paste-inside work (cellColumn m (expressionAt file k) c) (k * 1024 + c * 64) 64 fits (cell-length m (expressionAt file k) c) (i - (k * 1024 + c * 64)) inside
+        ∙ sym (stored-at file m k c (i - (k * 1024 + c * 64)) hc inside)
+        ∙ ap (storedByte file m) back
+    front i h (no below) = paste-outside work (cellColumn m (expressionAt file k) c) (k * 1024 + c * 64) 64 fits (cell-length m (expressionAt file k) c) i (inl (omega arith)) ∙ filled .front i (omega arith)
+
+-- the next column of a node, from the columns that stand there already
+pub next-column : (file : List ℕ) (m : ℕ) (old work : List ℕ) (k c : ℕ) → c < 16 → LegalNode m k (nodeAt file k) → k * 1024 + c * 64 ≤ length work → FilledTo file m (k * 1024 + c * 64) old work → nodeColumn (2 ^ m) (nodeAt file k) c (λ l. columnAt work l c) ≡ cellColumn m (expressionAt file k) c
+next-column file m old work k c hc legal fits filled =
+    node-cells m k c (nodeAt file k) (λ l. columnAt work l c) (expressionAt file) hc legal
+    (λ l below. filled-column file m (k * 1024 + c * 64) old work l c filled fits (omega arith) hc)
+    ∙ ap (λ (e : Expression). cellColumn m e c) (sym (expression-is file m k legal))
+
+-- it is written into the part of the work space that starts with the node
+pub filled-part : (file : List ℕ) (m : ℕ) (old work : List ℕ) (k c : ℕ) (column part : List ℕ) → c < 16 → k * 1024 + 1024 ≤ length work → FilledTo file m (k * 1024 + c * 64) old work → column ≡ cellColumn m (expressionAt file k) c → part ≡ paste (midOf (k * 1024) (length work - k * 1024) work) (c * 64) column 64 → FilledTo file m (k * 1024 + (c + 1) * 64) old (putMid (k * 1024) (length work - k * 1024) work part)
+filled-part file m old work k c column part hc fits filled column-is part-is =
+    let place : k * 1024 + (c + 1) * 64 ≡ k * 1024 + c * 64 + 64 = omega arith in
+    rw (place, part-is, column-is, lent-paste work (cellColumn m (expressionAt file k) c) (k * 1024) (c * 64) 64 (omega arith))
+    (filled-more file m old work k c hc (omega arith) filled)
+
+-- all nodes
+pub filled-all : (file : List ℕ) (m n : ℕ) (old work : List ℕ) → n * 1024 ≤ length old → FilledTo file m (n * 1024) old work → work ≡ over (formulasOf file m n) old
+unfolding formulasOf
+filled-all file m n old work fits filled =
+    let size = length-tab (n * 1024) (storedByte file m) in
+    over-is (tab (n * 1024) (storedByte file m)) old work 0 (omega arith) (filled .size)
+    (λ i h. let below : i < n * 1024 = omega arith in filled .front i below ∙ sym (getD-tab (n * 1024) (storedByte file m) i 0 below))
+    (λ i h. filled .back i (omega arith))

@@ -1,0 +1,89 @@
+// Formula: fills the work space with the formulas of all nodes.
+ghost use mathlib.Core.Path.{_≡_};
+ghost use Prim.Native.Nat.{_+_, _*_, _^_, _≤_, _<_};
+ghost use lib.ListN.{length};
+ghost use Rattle.expression.specs.ReadFile.{acceptance, sizeAt};
+ghost use Rattle.expression.specs.declared.files.Acceptance.the-variants.{Accepted};
+ghost use Rattle.formula.specs.Storage.{columnAt};
+ghost use Rattle.formula.specs.NodeColumn.{OperandsFit, nodeColumn};
+ghost use Rattle.formula.specs.Stored.{formulaAnswer, formulaSpace};
+ghost use Rattle.formula.specs.Filling.{Here, FilledTo};
+
+use crate::columns::{binary_column, relation_column, unary_column};
+use crate::steps::{projecting_out_step, renaming_step, set_step};
+use crate::storage::{read_column, write_column};
+use expression::{Acceptance, Node, Reading, accept, read_node};
+use refusal::Refusal;
+
+// The counts m and n of a file whose formulas stand in the work space, or the first refusal.
+pub enum Formulas {
+    Filled(u8, u8),
+    Refused(Refusal),
+}
+
+// Column c of a node whose operands' formulas stand in the work space.
+fn node_column(work: &[u8], m: u8, node: Node, c: u8) -> [u8; 64]
+    requires { ⌜ (m ≤ 8) × (c < 16) ⌝ }
+    requires { ⌜ OperandsFit (length (now work)) node ⌝ }
+    ensures { λ r. ⌜ r ≡ nodeColumn (2 ^ m) node c (λ l. columnAt (now (work .entry)) l c) ⌝ }
+{
+    match node {
+        Node::Relation(r) => relation_column(1 << m, r),
+        Node::Binary(op, l, r) => binary_column(op, read_column(work, l, c), read_column(work, r, c)),
+        Node::WithSet(op, l, s) => unary_column(set_step(op, s.has(c)), read_column(work, l, c)),
+        Node::Renaming(l, old, new) => unary_column(renaming_step(c == old, c == new), read_column(work, l, c)),
+        Node::ProjectingOut(l, old) => unary_column(projecting_out_step(c == old), read_column(work, l, c)),
+    }
+}
+
+// Reads node k at byte `at` of the file, fills its formula, and gives the byte after it.
+fn fill_node(file: &[u8], m: u8, k: u8, at: usize, work: &mut [u8]) -> usize
+    requires { ⌜ Here (now file) m k at ⌝ }
+    requires { ⌜ k * 1024 + 1024 ≤ length (now work) ⌝ }
+    requires { ⌜ FilledTo (now file) m (k * 1024) (now work) (now work) ⌝ }
+    ensures { λ r. ⌜ r ≡ at + sizeAt (now (file .entry)) k ⌝ }
+    ensures { λ _. ⌜ FilledTo (now (file .entry)) m (k * 1024 + 1024) (now (work .entry)) (now (work .exit)) ⌝ }
+{
+    let Reading::Read(node, size) = read_node(m, k, &file[at..]) else {
+        return at;
+    };
+    let start = k as usize * 1024;
+    let mut c = 0;
+    while c < 16 {
+        let column = node_column(work, m, node, c);
+        write_column(&mut work[start..], c, column);
+        c += 1;
+    }
+    at + size
+}
+
+// The formulas of all nodes of an accepted file.
+fn fill(file: &[u8], m: u8, n: u8, work: &mut [u8])
+    requires { ⌜ acceptance (now file) ≡ Accepted m n ⌝ }
+    requires { ⌜ n * 1024 ≤ length (now work) ⌝ }
+    ensures { λ _. ⌜ FilledTo (now (file .entry)) m (n * 1024) (now (work .entry)) (now (work .exit)) ⌝ }
+{
+    let mut at = 2;
+    let mut k = 0;
+    while k < n {
+        at = fill_node(file, m, k, at, work);
+        k += 1;
+    }
+}
+
+// Formula: refusals 1 to 10 and 12; fills the first 1,024 n bytes of the work space, whatever they held.
+pub fn formula(file: &[u8], work: &mut [u8]) -> Formulas
+    ensures { λ r. ⌜ r ≡ formulaAnswer (now (file .entry)) (length (now (work .entry))) ⌝ }
+    ensures { λ _. ⌜ now (work .exit) ≡ formulaSpace (now (file .entry)) (now (work .entry)) ⌝ }
+{
+    match accept(file) {
+        Acceptance::Refused(r) => Formulas::Refused(r),
+        Acceptance::Accepted(m, n) => {
+            if work.len() < n as usize * 1024 {
+                return Formulas::Refused(Refusal::WorkSpace);
+            }
+            fill(file, m, n, work);
+            Formulas::Filled(m, n)
+        }
+    }
+}
