@@ -64,6 +64,13 @@ pub column-other : (a : ℕ) → (T (special a) → ⊥) → column a ≡ 0
 unfolding column
 column-other a h = ap (λ (b : Bool). cond b a 0) (is-false (special a) h)
 
+pub column-below : (a : ℕ) → column a < 16
+column-below a = go (decided (special a))
+  where
+    go : T (special a) ⊎ (T (special a) → ⊥) → column a < 16
+    go (inl h) = let bounds = special-bounds a h in rw (column-special a h) (omega arith)
+    go (inr h) = rw (column-other a h) (omega arith)
+
 -- ---- holders
 
 pub holders-bit : (m : ℕ) (A : Assignment) (a r : ℕ) → r < m → bit (holders m A a) r ≡ A r a

@@ -1,0 +1,1 @@
+// Principal type inference for expressions: theorems only.
