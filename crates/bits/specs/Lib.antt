@@ -3,3 +3,5 @@ pub mod Pack
 pub mod Range
 pub mod Part
 pub mod Tab
+pub mod Lowest
+pub mod Written

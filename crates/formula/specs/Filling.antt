@@ -8,7 +8,8 @@ use native.Mathlib.Omega.{arith}
 use borrow.Rule.Slice.PartMut.{putMid, midOf}
 use lib.ListN.{length, getD, take, drop, length-drop}
 use lib.Seq.{paste, length-paste, ext-getD, length-take-le, getD-take, getD-drop}
-use Rattle.bits.specs.Tab.{tab, length-tab, getD-tab, over, over-is}
+use Rattle.bits.specs.Tab.{over}
+use Rattle.bits.specs.Written.{Written, written-all}
 use Rattle.expression.specs.Legal.{LegalNode}
 use Rattle.expression.specs.ReadFile.{nodeAt, sizeAt, acceptance}
 use Rattle.expression.specs.ReadNode.{readNode}
@@ -58,26 +59,9 @@ walk-here file m n k at e h w =
       ; legal = step .legal
       }
 
--- the first p bytes are those of the formulas, the rest is as it was
-pub record FilledTo (file : List ℕ) (m p : ℕ) (old work : List ℕ) : Type 0 where
-  pub size : length work ≡ length old
-  pub front : (i : ℕ) → i < p → getD work i 0 ≡ storedByte file m i
-  pub back : (i : ℕ) → p ≤ i → getD work i 0 ≡ getD old i 0
-
-pub filled-none : (file : List ℕ) (m : ℕ) (work : List ℕ) → FilledTo file m 0 work work
-filled-none file m work = record { size = refl; front = λ i h. absurd (omega arith); back = λ i h. refl }
-
-pub filled-self : (file : List ℕ) (m p : ℕ) (old work : List ℕ) → FilledTo file m p old work → FilledTo file m p work work
-filled-self file m p old work filled = record { size = refl; front = filled .front; back = λ i h. refl }
-
--- a filled work space stays so where more was filled after it
-pub filled-again : (file : List ℕ) (m p q : ℕ) (old work new : List ℕ) → p ≤ q → FilledTo file m p old work → FilledTo file m q work new → FilledTo file m q old new
-filled-again file m p q old work new h before after =
-    record
-      { size = after .size ∙ before .size
-      ; front = after .front
-      ; back = λ i above. after .back i above ∙ before .back i (omega arith)
-      }
+-- the first p bytes of the work space are those of the formulas, the rest is as it was
+abbrev pub FilledTo : List ℕ → ℕ → ℕ → List ℕ → List ℕ → Type 0
+FilledTo file m p old work = Written (storedByte file m) p old work
 
 -- ---- a column
 
@@ -143,8 +127,4 @@ filled-part file m old work k c column part hc fits filled column-is part-is =
 -- all nodes
 pub filled-all : (file : List ℕ) (m n : ℕ) (old work : List ℕ) → n * 1024 ≤ length old → FilledTo file m (n * 1024) old work → work ≡ over (formulasOf file m n) old
 unfolding formulasOf
-filled-all file m n old work fits filled =
-    let size = length-tab (n * 1024) (storedByte file m) in
-    over-is (tab (n * 1024) (storedByte file m)) old work 0 (omega arith) (filled .size)
-    (λ i h. let below : i < n * 1024 = omega arith in filled .front i below ∙ sym (getD-tab (n * 1024) (storedByte file m) i 0 below))
-    (λ i h. filled .back i (omega arith))
+filled-all file m n old work fits filled = written-all (storedByte file m) (n * 1024) old work fits filled

@@ -5,5 +5,5 @@ mod columns;
 mod storage;
 mod operation;
 
-//pub use operation::{Formulas, formula};
-//pub use storage::read_column;
+pub use operation::{Formulas, fill, formula};
+pub use storage::read_column;

@@ -2,11 +2,12 @@
 ghost use mathlib.Core.Path.{_≡_};
 ghost use Prim.Native.Nat.{_+_, _*_, _^_, _≤_, _<_};
 ghost use lib.ListN.{length};
+ghost use Rattle.bits.specs.Tab.{over};
 ghost use Rattle.expression.specs.ReadFile.{acceptance, sizeAt};
 ghost use Rattle.expression.specs.declared.files.Acceptance.the-variants.{Accepted};
 ghost use Rattle.formula.specs.Storage.{columnAt};
 ghost use Rattle.formula.specs.NodeColumn.{OperandsFit, nodeColumn};
-ghost use Rattle.formula.specs.Stored.{formulaAnswer, formulaSpace};
+ghost use Rattle.formula.specs.Stored.{formulasOf, formulaAnswer, formulaSpace};
 ghost use Rattle.formula.specs.Filling.{Here, FilledTo};
 
 use crate::columns::{binary_column, relation_column, unary_column};
@@ -57,11 +58,11 @@ fn fill_node(file: &[u8], m: u8, k: u8, at: usize, work: &mut [u8]) -> usize
     at + size
 }
 
-// The formulas of all nodes of an accepted file.
-fn fill(file: &[u8], m: u8, n: u8, work: &mut [u8])
+// The formulas of all nodes of an accepted file, for operations that have read it.
+pub fn fill(file: &[u8], m: u8, n: u8, work: &mut [u8])
     requires { ⌜ acceptance (now file) ≡ Accepted m n ⌝ }
     requires { ⌜ n * 1024 ≤ length (now work) ⌝ }
-    ensures { λ _. ⌜ FilledTo (now (file .entry)) m (n * 1024) (now (work .entry)) (now (work .exit)) ⌝ }
+    ensures { λ _. ⌜ now (work .exit) ≡ over (formulasOf (now (file .entry)) m n) (now (work .entry)) ⌝ }
 {
     let mut at = 2;
     let mut k = 0;

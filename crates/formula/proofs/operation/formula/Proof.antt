@@ -1,6 +1,5 @@
 use mathlib.Core.Path.{sym, _∙_}
 use lib.ListN.{length}
-use Rattle.formula.specs.Filling.{filled-all}
 use Rattle.formula.specs.StoredLaws.{answer-refused, answer-short, answer-filled, space-refused, space-filled}
 use borrow.Author.Needs.{needs}
 use Rattle.formula.proofs.operation.formula.Statement.{statement}
@@ -35,12 +34,12 @@ returns-2 c =
     (sym answer, sym (space-refused (c .before .before .before .before .before .before .args .file .now) (c .before .before .before .before .before .before .args .work .now) _ answer))
 
 same-length : tie.Need-same-length
-same-length c = c .before .before .fill .ensures .size
+same-length c = c .before .before .fill .kept .1 .1 .1 .0
 
 returns-3 : tie.Need-returns-3
 returns-3 c =
     let answer = answer-filled (c .before .before .before .before .before .before .before .before .before .before .before .args .file .now) (length (c .before .before .before .before .before .before .before .before .before .before .before .args .work .now)) _ _ (sym (c .before .before .before .before .before .before .before .before .accept .ensures) ∙ c .before .before .before .before .before .before .m .given .1) (c .before .before .before .before .if1 .left) in
-    (sym answer, filled-all (c .before .before .before .before .before .before .before .before .before .before .before .args .file .now) _ _ (c .before .before .before .before .before .before .before .before .before .before .before .args .work .now) _ (c .before .before .before .before .if1 .left) (c .before .before .fill .ensures) ∙ sym (space-filled (c .before .before .before .before .before .before .before .before .before .before .before .args .file .now) (c .before .before .before .before .before .before .before .before .before .before .before .args .work .now) _ _ answer))
+    (sym answer, c .before .before .fill .ensures ∙ sym (space-filled (c .before .before .before .before .before .before .before .before .before .before .before .args .file .now) (c .before .before .before .before .before .before .before .before .before .before .before .args .work .now) _ _ answer))
 
 pub formula-spec : {M : Type 1} → statement M
 formula-spec =
