@@ -57,12 +57,12 @@ lowest-is (suc n) s test = go (lowest-is n (s + 1) test) (test s) refl
         let from = rest .from in
         let upTo = rest .upTo in
         rw e
-        (record
-          { from = omega arith
-          ; upTo = omega arith
-          ; before = λ y h k. ⊎-elim (λ same. ap test (sym same) ∙ e) (λ above. rest .before y (omega arith) k) (eq-or-lt-of-le h)
-          ; passes = λ h. rest .passes (omega arith)
-          })
+        (record {
+          from = omega arith;
+          upTo = omega arith;
+          before = λ y h k. ⊎-elim (λ same. ap test (sym same) ∙ e) (λ above. rest .before y (omega arith) k) (eq-or-lt-of-le h);
+          passes = λ h. rest .passes (omega arith);
+        })
 
 -- tests that agree on the range find the same
 pub lowest-same : (count s : ℕ) (f g : ℕ → Bool) → ((y : ℕ) → s ≤ y → y < s + count → f y ≡ g y) → lowestFrom count s f ≡ lowestFrom count s g

@@ -23,20 +23,20 @@ written-self f p old now w = record { size = refl; front = w .front; back = λ i
 -- what is written on, from a list that was written before
 pub written-again : (f : ℕ → ℕ) (p q : ℕ) (old mid now : List ℕ) → p ≤ q → Written f p old mid → Written f q mid now → Written f q old now
 written-again f p q old mid now h before after =
-    record
-      { size = after .size ∙ before .size
-      ; front = after .front
-      ; back = λ i above. after .back i above ∙ before .back i (omega arith)
-      }
+    record {
+      size = after .size ∙ before .size;
+      front = after .front;
+      back = λ i above. after .back i above ∙ before .back i (omega arith);
+    }
 
 -- one element more
 pub written-more : (f : ℕ → ℕ) (p : ℕ) (old now : List ℕ) (v : ℕ) → p < length now → Written f p old now → v ≡ f p → Written f (p + 1) old (set now p v)
 written-more f p old now v inside w e =
-    record
-      { size = length-set now p v ∙ w .size
-      ; front = λ i h. ⊎-elim (λ same. here i same) (λ before. getD-set-other now p i v 0 (λ k. omega arith) ∙ w .front i before) (eq-or-lt-of-le (le-of i h))
-      ; back = λ i h. getD-set-other now p i v 0 (λ k. omega arith) ∙ w .back i (omega arith)
-      }
+    record {
+      size = length-set now p v ∙ w .size;
+      front = λ i h. ⊎-elim (λ same. here i same) (λ before. getD-set-other now p i v 0 (λ k. omega arith) ∙ w .front i before) (eq-or-lt-of-le (le-of i h));
+      back = λ i h. getD-set-other now p i v 0 (λ k. omega arith) ∙ w .back i (omega arith);
+    }
   where
     le-of : (i : ℕ) → i < p + 1 → i ≤ p
     le-of i h = omega arith

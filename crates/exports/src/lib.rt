@@ -6,6 +6,7 @@ ghost use Rattle.expression.specs.ReadFile.{acceptance};
 ghost use Rattle.expression.specs.Record.{placeOf, recordOf};
 ghost use Rattle.exports.specs.Numbers.{acceptanceNumber, relationsOr, nodesOr, readingNumber};
 
+mod formulas;
 mod words;
 
 use expression::Acceptance;

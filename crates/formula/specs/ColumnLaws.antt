@@ -69,11 +69,11 @@ pub filling-more : (allowed output : ℕ → Bool) (j : ℕ) (column : List ℕ)
 filling-more allowed output j column a b h f ha hb =
     let size = f .size in
     let size′ = length-set column j a in
-    record
-      { size = length-set (set column j a) (32 + j) b ∙ size′ ∙ size
-      ; front = λ i below. getD-set-other (set column j a) (32 + j) i b 0 (λ e. omega arith) ∙ front i (eq-or-lt-of-le (le-of below))
-      ; back = λ i below. back i (eq-or-lt-of-le (le-of below))
-      }
+    record {
+      size = length-set (set column j a) (32 + j) b ∙ size′ ∙ size;
+      front = λ i below. getD-set-other (set column j a) (32 + j) i b 0 (λ e. omega arith) ∙ front i (eq-or-lt-of-le (le-of below));
+      back = λ i below. back i (eq-or-lt-of-le (le-of below));
+    }
   where
     le-of : {i : ℕ} → i < j + 1 → i ≤ j
     le-of below = omega arith
@@ -108,8 +108,8 @@ filling-done allowed output column f = tab-is 64 _ 0 column (f .size) (λ q h. g
 pub column-same : (allowed output allowed′ output′ : ℕ → Bool) → ((s : ℕ) → s < 256 → allowed s ≡ allowed′ s) → ((s : ℕ) → s < 256 → output s ≡ output′ s) → columnOf allowed output ≡ columnOf allowed′ output′
 column-same allowed output allowed′ output′ ea eo =
     filling-done allowed′ output′ (columnOf allowed output)
-    (record
-      { size = column-length allowed output
-      ; front = λ i h. column-front allowed output i h ∙ map-same allowed allowed′ ea i h
-      ; back = λ i h. column-back allowed output i h ∙ map-same output output′ eo i h
-      })
+    (record {
+      size = column-length allowed output;
+      front = λ i h. column-front allowed output i h ∙ map-same allowed allowed′ ea i h;
+      back = λ i h. column-back allowed output i h ∙ map-same output output′ eo i h;
+    })

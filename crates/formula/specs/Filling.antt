@@ -51,13 +51,13 @@ here-reads file m k at r here e =
 pub walk-here : (file : List ℕ) (m n k at : ℕ) → acceptance file ≡ Accepted m n → k < n → Walk file m n k at → Here file m k at
 walk-here file m n k at e h w =
     let step = walk-next file m n k at w h in
-    record
-      { relations = accepted-file file m n e .counts .relations .1
-      ; inside = w .inside
-      ; fits = step .next .inside
-      ; reading = step .reading
-      ; legal = step .legal
-      }
+    record {
+      relations = accepted-file file m n e .counts .relations .1;
+      inside = w .inside;
+      fits = step .next .inside;
+      reading = step .reading;
+      legal = step .legal;
+    }
 
 -- the first p bytes of the work space are those of the formulas, the rest is as it was
 abbrev pub FilledTo : List ℕ → ℕ → ℕ → List ℕ → List ℕ → Type 0
@@ -86,19 +86,19 @@ filled-column file m p old work l c filled fits within hc =
     let size = length-take-le 64 (drop (l * 1024 + c * 64) work) (omega arith) in
     ext-getD 0 (take 64 (drop (l * 1024 + c * 64) work)) (cellColumn m (expressionAt file l) c) (size ∙ sym (cell-length m (expressionAt file l) c))
     (λ i h. let below : i < 64 = omega arith in
-      getD-take 64 (drop (l * 1024 + c * 64) work) i 0 below
-      ∙ getD-drop (l * 1024 + c * 64) work i 0
-      ∙ filled .front (l * 1024 + c * 64 + i) (omega arith)
-      ∙ stored-at file m l c i hc below)
+    getD-take 64 (drop (l * 1024 + c * 64) work) i 0 below
+    ∙ getD-drop (l * 1024 + c * 64) work i 0
+    ∙ filled .front (l * 1024 + c * 64 + i) (omega arith)
+    ∙ stored-at file m l c i hc below)
 
 -- writing the next column
 pub filled-more : (file : List ℕ) (m : ℕ) (old work : List ℕ) (k c : ℕ) → c < 16 → k * 1024 + c * 64 + 64 ≤ length work → FilledTo file m (k * 1024 + c * 64) old work → FilledTo file m (k * 1024 + c * 64 + 64) old (paste work (k * 1024 + c * 64) (cellColumn m (expressionAt file k) c) 64)
 filled-more file m old work k c hc fits filled =
-    record
-      { size = length-paste work (k * 1024 + c * 64) (cellColumn m (expressionAt file k) c) 64 fits (let l = cell-length m (expressionAt file k) c in omega arith) ∙ filled .size
-      ; front = λ i h. front i h (decLe (k * 1024 + c * 64) i)
-      ; back = λ i h. paste-outside work (cellColumn m (expressionAt file k) c) (k * 1024 + c * 64) 64 fits (cell-length m (expressionAt file k) c) i (inr h) ∙ filled .back i (omega arith)
-      }
+    record {
+      size = length-paste work (k * 1024 + c * 64) (cellColumn m (expressionAt file k) c) 64 fits (let l = cell-length m (expressionAt file k) c in omega arith) ∙ filled .size;
+      front = λ i h. front i h (decLe (k * 1024 + c * 64) i);
+      back = λ i h. paste-outside work (cellColumn m (expressionAt file k) c) (k * 1024 + c * 64) 64 fits (cell-length m (expressionAt file k) c) i (inr h) ∙ filled .back i (omega arith);
+    }
   where
     front : (i : ℕ) → i < k * 1024 + c * 64 + 64 → Dec (k * 1024 + c * 64 ≤ i) → getD (paste work (k * 1024 + c * 64) (cellColumn m (expressionAt file k) c) 64) i 0 ≡ storedByte file m i
     front i h (yes above) =

@@ -40,11 +40,11 @@ unary-bit : (u : Unary) (a o i : ℕ) → a < 256 → o < 256 → i < 8 → bit 
 unary-bit u a o i ha ho h =
     bit-and (bitAnd a (bitOr o (255 - cond (u .need) 255 0))) (255 - bitAnd o (cond (u .forbid) 255 0)) i
     ∙ ap₂ _&&_
-      (bit-and a (bitOr o (255 - cond (u .need) 255 0)) i
-      ∙ ap (λ (t : Bool). bit a i && t)
-        (bit-or o (255 - cond (u .need) 255 0) i
-        ∙ ap (λ (t : Bool). bit o i || t) (bit-not (cond (u .need) 255 0) i (mask-below (u .need)) h ∙ ap not (mask-bit (u .need) i h))))
-      (not-and o (cond (u .forbid) 255 0) i ho h ∙ ap (λ (t : Bool). not (bit o i && t)) (mask-bit (u .forbid) i h))
+    (bit-and a (bitOr o (255 - cond (u .need) 255 0)) i
+    ∙ ap (λ (t : Bool). bit a i && t)
+    (bit-or o (255 - cond (u .need) 255 0) i
+    ∙ ap (λ (t : Bool). bit o i || t) (bit-not (cond (u .need) 255 0) i (mask-below (u .need)) h ∙ ap not (mask-bit (u .need) i h))))
+    (not-and o (cond (u .forbid) 255 0) i ho h ∙ ap (λ (t : Bool). not (bit o i && t)) (mask-bit (u .forbid) i h))
 
 unary-below : (u : Unary) (a o : ℕ) → a < 256 → unaryByte u a o < 256
 unary-below u a o ha = and-below (bitAnd a (bitOr o (255 - cond (u .need) 255 0))) _ (and-below a _ ha)
@@ -57,11 +57,11 @@ unary-output u a o ha ho =
     byte-is (bitAnd (unaryByte u a o) (bitOr (bitAnd o (cond (u .keep) 255 0)) (cond (u .give) 255 0))) (λ i. unaryOutput u (bit a i) (bit o i))
     (and-below (unaryByte u a o) _ (unary-below u a o ha))
     (λ i h. bit-and (unaryByte u a o) (bitOr (bitAnd o (cond (u .keep) 255 0)) (cond (u .give) 255 0)) i
-      ∙ ap₂ _&&_ (unary-bit u a o i ha ho h)
-        (bit-or (bitAnd o (cond (u .keep) 255 0)) (cond (u .give) 255 0) i
-        ∙ ap₂ _||_
-          (bit-and o (cond (u .keep) 255 0) i ∙ ap (λ (t : Bool). bit o i && t) (mask-bit (u .keep) i h))
-          (mask-bit (u .give) i h)))
+    ∙ ap₂ _&&_ (unary-bit u a o i ha ho h)
+    (bit-or (bitAnd o (cond (u .keep) 255 0)) (cond (u .give) 255 0) i
+    ∙ ap₂ _||_
+    (bit-and o (cond (u .keep) 255 0) i ∙ ap (λ (t : Bool). bit o i && t) (mask-bit (u .keep) i h))
+    (mask-bit (u .give) i h)))
 
 -- ---- operators of two operands
 
@@ -77,12 +77,12 @@ pub record MadeBy (op : BinaryOp) (la lo ra ro x y : ℕ) : Type 0 where
 
 pub binary-bytes : (op : BinaryOp) (la lo ra ro p g : ℕ) → la < 256 → Permits op lo ro p g → MadeBy op la lo ra ro (bitAnd (bitAnd la ra) p) (bitAnd (bitAnd (bitAnd la ra) p) g)
 binary-bytes op la lo ra ro p g h step =
-    record
-      { allowed = byte-is (bitAnd (bitAnd la ra) p) (λ i. binaryAllowed op (bit la i) (bit lo i) (bit ra i) (bit ro i)) small allowed
-      ; output =
+    record {
+      allowed = byte-is (bitAnd (bitAnd la ra) p) (λ i. binaryAllowed op (bit la i) (bit lo i) (bit ra i) (bit ro i)) small allowed;
+      output =
           byte-is (bitAnd (bitAnd (bitAnd la ra) p) g) (λ i. binaryOutput op (bit la i) (bit lo i) (bit ra i) (bit ro i)) (and-below (bitAnd (bitAnd la ra) p) g small)
-          (λ i below. bit-and (bitAnd (bitAnd la ra) p) g i ∙ ap₂ _&&_ (allowed i below) (step .given i below))
-      }
+          (λ i below. bit-and (bitAnd (bitAnd la ra) p) g i ∙ ap₂ _&&_ (allowed i below) (step .given i below));
+    }
   where
     small : bitAnd (bitAnd la ra) p < 256
     small = and-below (bitAnd la ra) p (and-below la ra h)

@@ -55,11 +55,11 @@ stored-column file work m n fits k c hk hc =
     let size = length-tab (n * 1024) (storedByte file m) in
     let whole = over-length (tab (n * 1024) (storedByte file m)) work (omega arith) in
     filled-column file m (n * 1024) work (over (tab (n * 1024) (storedByte file m)) work) k c
-    (record
-      { size = whole
-      ; front = λ i h. over-front (tab (n * 1024) (storedByte file m)) work i 0 (omega arith) ∙ getD-tab (n * 1024) (storedByte file m) i 0 h
-      ; back = λ i h. over-back (tab (n * 1024) (storedByte file m)) work i 0 (omega arith)
-      })
+    (record {
+      size = whole;
+      front = λ i h. over-front (tab (n * 1024) (storedByte file m)) work i 0 (omega arith) ∙ getD-tab (n * 1024) (storedByte file m) i 0 h;
+      back = λ i h. over-back (tab (n * 1024) (storedByte file m)) work i 0 (omega arith);
+    })
     (omega arith)
     (omega arith)
     hc

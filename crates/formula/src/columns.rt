@@ -2,9 +2,12 @@
 ghost use mathlib.Core.Path.{_≡_};
 ghost use Prim.Native.Nat.{_<_};
 ghost use Rattle.formula.specs.Column.{relationColumn, unaryColumn, binaryColumn};
-
-use crate::steps::{Bytes, Unary, binary_bytes, unary_bytes};
-use crate::tables::{member_byte, subset_byte};
+use crate::steps::Bytes;
+use crate::steps::Unary;
+use crate::steps::binary_bytes;
+use crate::steps::unary_bytes;
+use crate::tables::member_byte;
+use crate::tables::subset_byte;
 use expression::BinaryOp;
 
 // A relation's column, where there are `count` subsets.
@@ -44,8 +47,14 @@ pub fn binary_column(op: BinaryOp, left: [u8; 64], right: [u8; 64]) -> [u8; 64]
     let mut column = [0u8; 64];
     let mut j = 0;
     while j < 32 {
-        let l = Bytes { allowed: left[j], output: left[32 + j] };
-        let r = Bytes { allowed: right[j], output: right[32 + j] };
+        let l = Bytes {
+            allowed: left[j],
+            output: left[32 + j],
+        };
+        let r = Bytes {
+            allowed: right[j],
+            output: right[32 + j],
+        };
         let bytes = binary_bytes(op, l, r);
         column[j] = bytes.allowed;
         column[32 + j] = bytes.output;

@@ -1,9 +1,11 @@
 // Formula: the formulas of all nodes of a file, in the work space.
-mod steps;
-mod tables;
 mod columns;
-mod storage;
 mod operation;
+mod steps;
+mod storage;
+mod tables;
 
-pub use operation::{Formulas, fill, formula};
+pub use operation::Formulas;
+pub use operation::fill;
+pub use operation::formula;
 pub use storage::read_column;

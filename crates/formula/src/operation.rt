@@ -9,11 +9,19 @@ ghost use Rattle.formula.specs.Storage.{columnAt};
 ghost use Rattle.formula.specs.NodeColumn.{OperandsFit, nodeColumn};
 ghost use Rattle.formula.specs.Stored.{formulasOf, formulaAnswer, formulaSpace};
 ghost use Rattle.formula.specs.Filling.{Here, FilledTo};
-
-use crate::columns::{binary_column, relation_column, unary_column};
-use crate::steps::{projecting_out_step, renaming_step, set_step};
-use crate::storage::{read_column, write_column};
-use expression::{Acceptance, Node, Reading, accept, read_node};
+use crate::columns::binary_column;
+use crate::columns::relation_column;
+use crate::columns::unary_column;
+use crate::steps::projecting_out_step;
+use crate::steps::renaming_step;
+use crate::steps::set_step;
+use crate::storage::read_column;
+use crate::storage::write_column;
+use expression::Acceptance;
+use expression::Node;
+use expression::Reading;
+use expression::accept;
+use expression::read_node;
 use refusal::Refusal;
 
 // The counts m and n of a file whose formulas stand in the work space, or the first refusal.
@@ -30,10 +38,20 @@ fn node_column(work: &[u8], m: u8, node: Node, c: u8) -> [u8; 64]
 {
     match node {
         Node::Relation(r) => relation_column(1 << m, r),
-        Node::Binary(op, l, r) => binary_column(op, read_column(work, l, c), read_column(work, r, c)),
+        Node::Binary(op, l, r) => binary_column(
+            op,
+            read_column(work, l, c),
+            read_column(work, r, c),
+        ),
         Node::WithSet(op, l, s) => unary_column(set_step(op, s.has(c)), read_column(work, l, c)),
-        Node::Renaming(l, old, new) => unary_column(renaming_step(c == old, c == new), read_column(work, l, c)),
-        Node::ProjectingOut(l, old) => unary_column(projecting_out_step(c == old), read_column(work, l, c)),
+        Node::Renaming(l, old, new) => unary_column(
+            renaming_step(c == old, c == new),
+            read_column(work, l, c),
+        ),
+        Node::ProjectingOut(l, old) => unary_column(
+            projecting_out_step(c == old),
+            read_column(work, l, c),
+        ),
     }
 }
 

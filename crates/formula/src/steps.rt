@@ -5,7 +5,8 @@ ghost use Rattle.bits.specs.Bit.{bit};
 ghost use Rattle.bits.specs.Pack.{pack};
 ghost use Rattle.formula.specs.Steps.{unaryAllowed, unaryOutput, setStep, renamingStep, projectingOutStep};
 ghost use Rattle.formula.specs.StepLaws.{MadeBy};
-use expression::{BinaryOp, SetOp};
+use expression::BinaryOp;
+use expression::SetOp;
 
 // An operator of one operand, on one attribute.
 pub struct Unary {
@@ -24,8 +25,18 @@ pub fn set_step(op: SetOp, named: bool) -> Unary
     ensures { λ r. ⌜ r ≡ setStep op named ⌝ }
 {
     match op {
-        SetOp::Selection => Unary { need: named, forbid: false, keep: true, give: false },
-        SetOp::Projection => Unary { need: named, forbid: false, keep: named, give: false },
+        SetOp::Selection => Unary {
+            need: named,
+            forbid: false,
+            keep: true,
+            give: false,
+        },
+        SetOp::Projection => Unary {
+            need: named,
+            forbid: false,
+            keep: named,
+            give: false,
+        },
     }
 }
 
@@ -33,13 +44,23 @@ pub fn set_step(op: SetOp, named: bool) -> Unary
 pub fn renaming_step(is_old: bool, is_new: bool) -> Unary
     ensures { λ r. ⌜ r ≡ renamingStep «is_old» «is_new» ⌝ }
 {
-    Unary { need: is_old, forbid: is_new, keep: !is_old, give: is_new }
+    Unary {
+        need: is_old,
+        forbid: is_new,
+        keep: !is_old,
+        give: is_new,
+    }
 }
 
 pub fn projecting_out_step(is_old: bool) -> Unary
     ensures { λ r. ⌜ r ≡ projectingOutStep «is_old» ⌝ }
 {
-    Unary { need: is_old, forbid: false, keep: !is_old, give: false }
+    Unary {
+        need: is_old,
+        forbid: false,
+        keep: !is_old,
+        give: false,
+    }
 }
 
 // A byte of allowed bits and the byte of output bits that goes with it.

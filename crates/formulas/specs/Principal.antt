@@ -55,15 +55,15 @@ pub record Choice (F : Formula) : Type 0 where
   pub allowed : (i : ℕ) → T (special i) → F .allowed i (subset i) ≡ true
 
 -- a choice gives an assignment of special attributes alone: relation r has attribute i where r is in i's subset
-pub choice-fits : (F : Formula) → Grounded F → Choice F → Fitting F
-choice-fits F ground choice =
-    record {
-      assignment = assignment;
-      types = λ r below. special-type (λ a. bit (choice .subset a) r);
-      type = type;
-      isType = special-type (λ a. F .output a (choice .subset a));
-      fits = λ a. go a (decided (special a));
-    }
+abbrev pub chosen : {F : Formula} → Choice F → Assignment
+chosen choice r a = special a && bit (choice .subset a) r
+
+-- and its output
+abbrev pub chosenType : {F : Formula} → Choice F → Attrs
+chosenType {F} choice a = special a && F .output a (choice .subset a)
+
+pub choice-fits : (F : Formula) → Grounded F → (choice : Choice F) (a : ℕ) → Fits F (chosen choice) (chosenType choice) a
+choice-fits F ground choice a = go a (decided (special a))
   where
     assignment : Assignment
     assignment r a = special a && bit (choice .subset a) r
@@ -84,6 +84,22 @@ choice-fits F ground choice =
         (holders-none (F .relations) assignment a λ r below. ap (λ (b : Bool). b && bit (choice .subset a) r) e)
         .1
         (ground .allowed, ground .output ∙ sym (ap (λ (b : Bool). b && F .output a (choice .subset a)) e))
+
+pub choice-types : (F : Formula) (choice : Choice F) → IsAssignment (F .relations) (chosen choice)
+choice-types F choice r below = special-type (λ a. bit (choice .subset a) r)
+
+pub choice-type : (F : Formula) (choice : Choice F) → IsType (chosenType choice)
+choice-type F choice = special-type (λ a. F .output a (choice .subset a))
+
+choice-fitting : (F : Formula) → Grounded F → Choice F → Fitting F
+choice-fitting F ground choice =
+    record {
+      assignment = chosen choice;
+      types = choice-types F choice;
+      type = chosenType choice;
+      isType = choice-type F choice;
+      fits = choice-fits F ground choice;
+    }
 
 -- some special column allows nothing exactly where no assignment fits
 pub blocked-none : (F : Formula) → Blocked F → Fitting F → ⊥
@@ -113,7 +129,7 @@ none-blocked F ground none = go (search-below 16 blocked)
           isSpecial = left (special i) (not (isFound (allowed i))) h;
           nothing = λ s less. is-false (F .allowed i s) (found-none (allowed i) (T-not (isFound (allowed i)) (right (special i) (not (isFound (allowed i))) h)) s less);
         }
-    go (missing f) = absurd (none (choice-fits F ground (record {
+    go (missing f) = absurd (none (choice-fitting F ground (record {
       subset = λ i. taken (allowed i);
       below = λ i h. found-taken (allowed i) (open-column f i h) .0;
       allowed = λ i h. is-true (F .allowed i (taken (allowed i))) (found-taken (allowed i) (open-column f i h) .1);

@@ -15,7 +15,7 @@ use Rattle.algebra.specs.ByAttribute.{CellOf, typed-cells, cells-typed}
 use Rattle.formulas.specs.Formula.{Formula, Fits, Grounded}
 use Rattle.formulas.specs.Instantiation.{Instantiation, InImage, HasImage, HasOutput}
 use Rattle.formulas.specs.States.{holders-bit, holders-below, column-below}
-use Rattle.formulas.specs.Principal.{instantiate, image-fits, image-once, Blocked, Fitting, Choice, choice-fits, blocked-none, none-blocked}
+use Rattle.formulas.specs.Principal.{instantiate, image-fits, image-once, Blocked, Fitting, Choice, chosen, chosenType, choice-fits, blocked-none, none-blocked}
 
 -- F is a formula of e: its bits are the cells of e, at the columns and subsets that there are
 pub record FormulaOf (e : Expression) (F : Formula) : Type 0 where
@@ -41,10 +41,10 @@ module _ (e : Expression) (F : Formula) (legal : Legal (F .relations) e) (is : F
       let s = holders (F .relations) A a in
       let below = holders-below (F .relations) A a in
       let allowed : ok plain e (column a) (bit s) ≡ true = same-cell A a .0 ∙ cell .allowed in
-      record
-        { allowed = is .allowed (column a) s (column-below a) below ∙ allowed
-        ; output = is .output (column a) s (column-below a) below ∙ ap₂ _&&_ allowed (same-cell A a .1 ∙ cell .output)
-        }
+      record {
+        allowed = is .allowed (column a) s (column-below a) below ∙ allowed;
+        output = is .output (column a) s (column-below a) below ∙ ap₂ _&&_ allowed (same-cell A a .1 ∙ cell .output);
+      }
 
   fits-cell : (A : Assignment) (t : Attrs) (a : ℕ) → Fits F A t a → CellOf A e t a
   fits-cell A t a fits =
@@ -52,28 +52,28 @@ module _ (e : Expression) (F : Formula) (legal : Legal (F .relations) e) (is : F
       let below = holders-below (F .relations) A a in
       let allowed : ok plain e (column a) (bit s) ≡ true = sym (is .allowed (column a) s (column-below a) below) ∙ fits .allowed in
       let output : ok plain e (column a) (bit s) && out plain e (column a) (bit s) ≡ t a = sym (is .output (column a) s (column-below a) below) ∙ fits .output in
-      record
-        { allowed = sym (same-cell A a .0) ∙ allowed
-        ; output = sym (same-cell A a .1) ∙ (rw allowed at output)
-        }
+      record {
+        allowed = sym (same-cell A a .0) ∙ allowed;
+        output = sym (same-cell A a .1) ∙ (rw allowed at output);
+      }
 
   grounded : Grounded F
   grounded =
       let nobody = cell-depends plain (F .relations) e legal 0 (bit 0) (λ r. false) (λ r h. bit-none r) in
       let none = cell-none plain refl refl (F .relations) e legal in
-      record
-        { allowed = is .allowed 0 0 (lit< tt) (pow-pos (F .relations)) ∙ nobody .0 ∙ none .0
-        ; output = is .output 0 0 (lit< tt) (pow-pos (F .relations)) ∙ ap₂ _&&_ (nobody .0 ∙ none .0) (nobody .1 ∙ none .1)
-        }
+      record {
+        allowed = is .allowed 0 0 (lit< tt) (pow-pos (F .relations)) ∙ nobody .0 ∙ none .0;
+        output = is .output 0 0 (lit< tt) (pow-pos (F .relations)) ∙ ap₂ _&&_ (nobody .0 ∙ none .0) (nobody .1 ∙ none .1);
+      }
 
   -- ---- demand 3
 
   -- principal: the rules give e the type t under A exactly when an instantiation has that image and that output
   pub principal : (A : Assignment) → IsAssignment (F .relations) A → (t : Attrs) → IsType t → Typed A e t ↔ ((I : Instantiation F) × (HasImage I A × HasOutput I t))
-  principal A types t type =
-      ( (λ typed. instantiate F grounded A types t (λ a. cell-fits A t a (typed-cells (F .relations) e legal A t typed a)))
-      , (λ found. cells-typed (F .relations) e legal A t (λ a. fits-cell A t a (image-fits F grounded A types t type (found .0) (found .1 .0) (found .1 .1) a)))
-      )
+  principal A types t type = (
+    (λ typed. instantiate F grounded A types t (λ a. cell-fits A t a (typed-cells (F .relations) e legal A t typed a))),
+    (λ found. cells-typed (F .relations) e legal A t (λ a. fits-cell A t a (image-fits F grounded A types t type (found .0) (found .1 .0) (found .1 .1) a))),
+  )
 
   -- unique: no two instantiations have one image
   pub unique : (I J : Instantiation F) → ((r : ℕ) → r < F .relations → (a : ℕ) → InImage I r a ↔ InImage J r a) → I ≡ J
@@ -81,28 +81,28 @@ module _ (e : Expression) (F : Formula) (legal : Legal (F .relations) e) (is : F
 
   fitting-typing : Fitting F → Typing (F .relations) e
   fitting-typing f =
-      record
-        { assignment = f .assignment
-        ; types = f .types
-        ; type = f .type
-        ; isType = f .isType
-        ; typed = cells-typed (F .relations) e legal (f .assignment) (f .type) (λ a. fits-cell (f .assignment) (f .type) a (f .fits a))
-        }
+      record {
+        assignment = f .assignment;
+        types = f .types;
+        type = f .type;
+        isType = f .isType;
+        typed = cells-typed (F .relations) e legal (f .assignment) (f .type) (λ a. fits-cell (f .assignment) (f .type) a (f .fits a));
+      }
 
   typing-fitting : Typing (F .relations) e → Fitting F
   typing-fitting t =
-      record
-        { assignment = t .assignment
-        ; types = t .types
-        ; type = t .type
-        ; isType = t .isType
-        ; fits = λ a. cell-fits (t .assignment) (t .type) a (typed-cells (F .relations) e legal (t .assignment) (t .type) (t .typed) a)
-        }
+      record {
+        assignment = t .assignment;
+        types = t .types;
+        type = t .type;
+        isType = t .isType;
+        fits = λ a. cell-fits (t .assignment) (t .type) a (typed-cells (F .relations) e legal (t .assignment) (t .type) (t .typed) a);
+      }
 
   -- verdict: some special column allows nothing exactly when no assignment types e
   pub verdict : Blocked F ↔ (Typing (F .relations) e → ⊥)
   verdict = ((λ blocked t. blocked-none F blocked (typing-fitting t)), (λ none. none-blocked F grounded (λ f. none (fitting-typing f))))
 
-  -- a subset for each special attribute, allowed in its column, is an assignment that types e
-  pub choice-typed : Choice F → Typing (F .relations) e
-  choice-typed choice = fitting-typing (choice-fits F grounded choice)
+  -- a subset for each special attribute, allowed in its column, gives an assignment that types e
+  pub choice-typed : (choice : Choice F) → Typed (chosen choice) e (chosenType choice)
+  choice-typed choice = cells-typed (F .relations) e legal (chosen choice) (chosenType choice) (λ a. fits-cell (chosen choice) (chosenType choice) a (choice-fits F grounded choice a))

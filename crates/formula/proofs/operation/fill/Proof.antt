@@ -32,10 +32,10 @@ loop-less c = search needs
 loop-again : tie.Need-loop-again Inv-loop μ-loop
 loop-again c =
     let step = walk-next (c .before .before .before .before .before .before .before .before .args .file .now) (c .before .before .before .before .before .before .before .before .args .m) (c .before .before .before .before .before .before .before .before .args .n) (c .before .before .before .before .before .loop .k) (c .before .before .before .before .before .loop .at) (c .before .before .before .before .before .loop .inv .1) (c .before .before .before .before .loop-test .taken) in
-    let place : (c .before .before .before .before .before .loop .k + 1) * 1024 ≡ c .before .before .before .before .before .loop .k * 1024 + 1024 = omega arith in
-    ( omega arith
-    , rw (c .before .before .fill-node .ensures .0) (step .next)
-    , rw place (written-again (storedByte (c .before .before .before .before .before .before .before .before .args .file .now) (c .before .before .before .before .before .before .before .before .args .m)) (c .before .before .before .before .before .loop .k * 1024) (c .before .before .before .before .before .loop .k * 1024 + 1024) (c .before .before .before .before .before .before .before .before .args .work .now) (c .before .before .before .before .before .loop .work) _ (omega arith) (c .before .before .before .before .before .loop .inv .2) (c .before .before .fill-node .ensures .1))
+    let place : (c .before .before .before .before .before .loop .k + 1) * 1024 ≡ c .before .before .before .before .before .loop .k * 1024 + 1024 = omega arith in (
+      omega arith,
+      rw (c .before .before .fill-node .ensures .0) (step .next),
+      rw place (written-again (storedByte (c .before .before .before .before .before .before .before .before .args .file .now) (c .before .before .before .before .before .before .before .before .args .m)) (c .before .before .before .before .before .loop .k * 1024) (c .before .before .before .before .before .loop .k * 1024 + 1024) (c .before .before .before .before .before .before .before .before .args .work .now) (c .before .before .before .before .before .loop .work) _ (omega arith) (c .before .before .before .before .before .loop .inv .2) (c .before .before .fill-node .ensures .1)),
     )
 
 same-length : tie.Need-same-length Inv-loop μ-loop

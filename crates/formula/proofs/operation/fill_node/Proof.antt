@@ -80,11 +80,11 @@ loop-again c =
     let size = c .before .before .before .before .before .before .before .loop .inv .1 .size in
     let filled = c .before .before .before .before .before .before .before .loop .inv .1 in
     let next = next-column (c .before .before .before .before .before .before .before .before .before .before .before .before .before .before .before .args .file .now) (c .before .before .before .before .before .before .before .before .before .before .before .before .before .before .before .args .m) (c .before .before .before .before .before .before .before .before .before .before .before .before .before .before .before .args .work .now) (c .before .before .before .before .before .before .before .loop .work) (c .before .before .before .before .before .before .before .before .before .before .before .before .before .before .before .args .k) (c .before .before .before .before .before .before .before .loop .c) (c .before .before .before .before .before .before .loop-test .taken) (c .before .before .before .before .before .before .before .before .before .before .before .before .before .before .before .pre .0 .legal) (omega arith) filled in
-    let same = ap (λ (n : Node). nodeColumn (2 ^ c .before .before .before .before .before .before .before .before .before .before .before .before .before .before .before .args .m) n (c .before .before .before .before .before .before .before .loop .c) (λ l. columnAt (c .before .before .before .before .before .before .before .loop .work) l (c .before .before .before .before .before .before .before .loop .c))) (c .before .before .before .before .before .before .before .loop .inv .2) in
-    ( omega arith
-    , filled-part (c .before .before .before .before .before .before .before .before .before .before .before .before .before .before .before .args .file .now) (c .before .before .before .before .before .before .before .before .before .before .before .before .before .before .before .args .m) (c .before .before .before .before .before .before .before .before .before .before .before .before .before .before .before .args .work .now) (c .before .before .before .before .before .before .before .loop .work) (c .before .before .before .before .before .before .before .before .before .before .before .before .before .before .before .args .k) (c .before .before .before .before .before .before .before .loop .c) (c .before .before .before .before .node-column .result) _ (c .before .before .before .before .before .before .loop-test .taken) (omega arith) filled (c .before .before .before .before .node-column .ensures ∙ same ∙ next) (c .before .before .write-column .ensures)
-    , c .before .before .before .before .before .before .before .loop .inv .2
-    , c .before .before .before .before .before .before .before .loop .inv .3
+    let same = ap (λ (n : Node). nodeColumn (2 ^ c .before .before .before .before .before .before .before .before .before .before .before .before .before .before .before .args .m) n (c .before .before .before .before .before .before .before .loop .c) (λ l. columnAt (c .before .before .before .before .before .before .before .loop .work) l (c .before .before .before .before .before .before .before .loop .c))) (c .before .before .before .before .before .before .before .loop .inv .2) in (
+      omega arith,
+      filled-part (c .before .before .before .before .before .before .before .before .before .before .before .before .before .before .before .args .file .now) (c .before .before .before .before .before .before .before .before .before .before .before .before .before .before .before .args .m) (c .before .before .before .before .before .before .before .before .before .before .before .before .before .before .before .args .work .now) (c .before .before .before .before .before .before .before .loop .work) (c .before .before .before .before .before .before .before .before .before .before .before .before .before .before .before .args .k) (c .before .before .before .before .before .before .before .loop .c) (c .before .before .before .before .node-column .result) _ (c .before .before .before .before .before .before .loop-test .taken) (omega arith) filled (c .before .before .before .before .node-column .ensures ∙ same ∙ next) (c .before .before .write-column .ensures),
+      c .before .before .before .before .before .before .before .loop .inv .2,
+      c .before .before .before .before .before .before .before .loop .inv .3,
     )
 
 add-result : tie.Need-add-result Inv-loop μ-loop

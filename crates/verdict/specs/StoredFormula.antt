@@ -1,0 +1,97 @@
+-- Demand 3 on the stored bytes: the formula of a node of an accepted file, read off the work space as Formula and Verdict leave it.
+use Prim.Native.Nat.{ℕ, _*_, _^_, _≤_, _<_}
+use mathlib.Core.Path.{_≡_, refl, sym, ap, ap₂, subst, _∙_}
+use mathlib.Core.Logic.{_↔_}
+use mathlib.Core.Bool.{Bool, true, false, _&&_}
+use mathlib.Core.List.{List}
+use native.Mathlib.Nat.{lt-of-lt-of-le}
+use native.Mathlib.Omega.{arith}
+use borrow.Author.Tests.{lt-ltb, le-ltb}
+use lib.Dec.{ltb}
+use lib.ListN.{length}
+use lib.Pow.{pow-mono}
+use Rattle.bits.specs.Bit.{bit}
+use Rattle.bits.specs.Tab.{over}
+use Rattle.types.specs.Types.{Attrs, IsType, Assignment, IsAssignment}
+use Rattle.algebra.specs.Expression.{Expression}
+use Rattle.algebra.specs.Rules.{Typed}
+use Rattle.algebra.specs.Cell.{plain, out, ok}
+use Rattle.formulas.specs.Formula.{Formula}
+use Rattle.formulas.specs.Instantiation.{Instantiation, InImage, HasImage, HasOutput}
+use Rattle.formulas.specs.Principal.{Blocked, Choice, chosen, chosenType}
+use Rattle.principal.specs.Principal as Theorem
+use Rattle.expression.specs.declared.files.Acceptance.the-variants.{Accepted}
+use Rattle.expression.specs.ReadFile.{acceptance}
+use Rattle.expression.specs.Accepted.{accepted-file}
+use Rattle.formula.specs.Column.{allowedIn, outputIn}
+use Rattle.formula.specs.Storage.{columnAt}
+use Rattle.formula.specs.Expressions.{expressionAt, expression-legal}
+use Rattle.formula.specs.Stored.{allowedBit, outputBit, cellColumn, formulasOf}
+use Rattle.formula.specs.StoredLaws.{stored-column}
+use Rattle.formula.specs.NodeColumn.{cell-allowed, cell-output}
+
+-- the formula of node k that stands in a work space, for m relations: "A node's stored formula is what stands at the formula's place"
+abbrev pub formulaIn : List ℕ → ℕ → ℕ → Formula
+formulaIn work m k =
+    record {
+      relations = m;
+      allowed = λ c s. allowedIn (columnAt work k c) s;
+      output = λ c s. outputIn (columnAt work k c) s;
+    }
+
+-- a node of an accepted file, and a work space that is long enough
+module _ (file : List ℕ) (m n : ℕ) (accepted : acceptance file ≡ Accepted m n) (work : List ℕ) (enough : n * 1024 ≤ length work) (k : ℕ) (node : k < n) where
+  -- the work space once it is filled from the file
+  abbrev pub filled : List ℕ
+  filled = over (formulasOf file m n) work
+
+  -- ---- each stored bit is the cell
+
+  pub stored-allowed : (c s : ℕ) → c < 16 → s < 256 → allowedIn (columnAt filled k c) s ≡ allowedBit m (expressionAt file k) c s
+  stored-allowed c s hc hs = ap (λ (l : List ℕ). allowedIn l s) (stored-column file work m n enough k c node hc) ∙ cell-allowed m (expressionAt file k) c s hs
+
+  pub stored-output : (c s : ℕ) → c < 16 → s < 256 → outputIn (columnAt filled k c) s ≡ outputBit m (expressionAt file k) c s
+  stored-output c s hc hs = ap (λ (l : List ℕ). outputIn l s) (stored-column file work m n enough k c node hc) ∙ cell-output m (expressionAt file k) c s hs
+
+  -- "bits from 2^m up are zero"
+  pub stored-above : (c s : ℕ) → c < 16 → 2 ^ m ≤ s → s < 256 → allowedIn (columnAt filled k c) s ≡ false
+  unfolding allowedBit
+  stored-above c s hc above hs = stored-allowed c s hc hs ∙ ap (λ (t : Bool). t && ok plain (expressionAt file k) c (bit s)) (le-ltb s (2 ^ m) above)
+
+  -- "An output bit stands only where the allowed bit does"
+  pub stored-within : (c s : ℕ) → c < 16 → s < 256 → outputIn (columnAt filled k c) s ≡ true → allowedIn (columnAt filled k c) s ≡ true
+  unfolding outputBit
+  stored-within c s hc hs h = stored-allowed c s hc hs ∙ first (allowedBit m (expressionAt file k) c s) (out plain (expressionAt file k) c (bit s)) (sym (stored-output c s hc hs) ∙ h)
+    where
+      first : (a b : Bool) → a && b ≡ true → a ≡ true
+      first true b e = refl
+      first false b e = e
+
+  subsets-few : 2 ^ m ≤ 256
+  subsets-few = pow-mono {j = 8} (accepted-file file m n accepted .counts .relations .1)
+
+  is-formula : Theorem.FormulaOf (expressionAt file k) (formulaIn filled m k)
+  unfolding allowedBit outputBit
+  is-formula =
+      record {
+        allowed = λ c s hc hs. stored-allowed c s hc (lt-of-lt-of-le hs subsets-few) ∙ ap (λ (t : Bool). t && ok plain (expressionAt file k) c (bit s)) (lt-ltb s (2 ^ m) hs);
+        output = λ c s hc hs. stored-output c s hc (lt-of-lt-of-le hs subsets-few) ∙ ap (λ (t : Bool). t && ok plain (expressionAt file k) c (bit s) && out plain (expressionAt file k) c (bit s)) (lt-ltb s (2 ^ m) hs);
+      }
+
+  -- ---- demand 3
+
+  -- principal: the rules give the node the type t under A exactly when an instantiation of its stored formula has that image and output t
+  pub principal : (A : Assignment) → IsAssignment m A → (t : Attrs) → IsType t → Typed A (expressionAt file k) t ↔ ((I : Instantiation (formulaIn filled m k)) × (HasImage I A × HasOutput I t))
+  principal = Theorem.principal (expressionAt file k) (formulaIn filled m k) (expression-legal file m n accepted k node) is-formula
+
+  -- unique: no two instantiations have one image
+  pub unique : (I J : Instantiation (formulaIn filled m k)) → ((r : ℕ) → r < m → (a : ℕ) → InImage I r a ↔ InImage J r a) → I ≡ J
+  unique = Theorem.unique (expressionAt file k) (formulaIn filled m k) (expression-legal file m n accepted k node) is-formula
+
+  -- verdict: a special column allows nothing exactly when no assignment types the node
+  pub untypable : Blocked (formulaIn filled m k) ↔ (Theorem.Typing m (expressionAt file k) → ⊥)
+  untypable = Theorem.verdict (expressionAt file k) (formulaIn filled m k) (expression-legal file m n accepted k node) is-formula
+
+  -- a choice of allowed subsets types the node
+  pub choice-typed : (choice : Choice (formulaIn filled m k)) → Typed (chosen choice) (expressionAt file k) (chosenType choice)
+  choice-typed = Theorem.choice-typed (expressionAt file k) (formulaIn filled m k) (expression-legal file m n accepted k node) is-formula
