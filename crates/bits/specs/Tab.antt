@@ -6,7 +6,7 @@ use native.Mathlib.Omega.{arith}
 use native.Mathlib.Decide.{decLe}
 use native.Mathlib.Nat.{le-of-suc-le-suc}
 use lib.ListN.{length, getD, take, drop, length-append, length-drop, length-take, List·getD-append, List·getD-eq-default}
-use lib.Seq.{ext-getD, getD-append-add, getD-drop, getD-take, length-take-le, take-append-le, drop-append-le}
+use lib.Seq.{ext-getD, getD-append-add, getD-drop, getD-take, length-take-le, take-append-le, drop-append-le, take-append-seam}
 
 module _ {A : Type 0} where
   -- f 0, f 1, .., n elements
@@ -69,3 +69,7 @@ module _ {A : Type 0} where
   over-back a old i d h =
       let back : length a + (i - length a) ≡ i = omega arith in
       getD-right a (drop (length a) old) i d h ∙ getD-drop (length a) old (i - length a) d ∙ ap (λ (k : ℕ). getD old k d) back
+
+  pub take-over : (a old : List A) → take (length a) (over a old) ≡ a
+  unfolding over
+  take-over a old = take-append-seam a (drop (length a) old)

@@ -6,3 +6,4 @@ pub mod Verdict
 pub mod VerdictLaws
 pub mod StoredFormula
 pub mod Judged
+pub mod Theorems

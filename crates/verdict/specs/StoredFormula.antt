@@ -70,7 +70,7 @@ module _ (file : List ℕ) (m n : ℕ) (accepted : acceptance file ≡ Accepted 
   subsets-few : 2 ^ m ≤ 256
   subsets-few = pow-mono {j = 8} (accepted-file file m n accepted .counts .relations .1)
 
-  is-formula : Theorem.FormulaOf (expressionAt file k) (formulaIn filled m k)
+  pub is-formula : Theorem.FormulaOf (expressionAt file k) (formulaIn filled m k)
   unfolding allowedBit outputBit
   is-formula =
       record {
