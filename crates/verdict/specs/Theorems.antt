@@ -67,12 +67,12 @@ module _ (file : List ℕ) (m n : ℕ) (accepted : acceptance file ≡ Accepted 
     -- untypable is said exactly where no assignment types the node
     pub verdict-untypable : ((a : ℕ) × (verdictAnswer file k (length work) (length schema) ≡ Untypable a)) ↔ (Typing m (expressionAt file k) → ⊥)
     unfolding after
-    verdict-untypable =
-        ( (λ said. untypable-none (over (formulasOf file m n) work) m k few (expressionAt file k) (expression-legal file m n accepted k node) (Stored.is-formula file m n accepted work (goes .workSpace) k node) (Stored.stored-above file m n accepted work (goes .workSpace) k node) (said .0) (results .0 ∙ said .1))
-        , (λ none.
+    verdict-untypable = (
+      (λ said. untypable-none (over (formulasOf file m n) work) m k few (expressionAt file k) (expression-legal file m n accepted k node) (Stored.is-formula file m n accepted work (goes .workSpace) k node) (Stored.stored-above file m n accepted work (goes .workSpace) k node) (said .0) (results .0 ∙ said .1)),
+      (λ none.
           let found = none-untypable (over (formulasOf file m n) work) m k few (expressionAt file k) (expression-legal file m n accepted k node) (Stored.is-formula file m n accepted work (goes .workSpace) k node) (Stored.stored-above file m n accepted work (goes .workSpace) k node) none in
-          (found .0, sym (results .0) ∙ found .1))
-        )
+          (found .0, sym (results .0) ∙ found .1)),
+    )
 
     -- the witness types the node: what is written to the schema slice says an assignment under which the rules derive a type
     pub verdict-witness : (size : ℕ) → verdictAnswer file k (length work) (length schema) ≡ Typable size → (t : Attrs) × Typed (schemaHolds (take size (verdictSchema file k (length work) schema))) (expressionAt file k) t

@@ -58,11 +58,11 @@ unfolding formulasOf
 formulas-column file m n k c hk hc =
     let size = length-tab (n * 1024) (storedByte file m) in
     filled-column file m (n * 1024) (tab (n * 1024) (storedByte file m)) (tab (n * 1024) (storedByte file m)) k c
-    (record
-      { size = refl
-      ; front = λ i h. getD-tab (n * 1024) (storedByte file m) i 0 h
-      ; back = λ i h. refl
-      })
+    (record {
+      size = refl;
+      front = λ i h. getD-tab (n * 1024) (storedByte file m) i 0 h;
+      back = λ i h. refl;
+    })
     (omega arith)
     (omega arith)
     hc
@@ -116,24 +116,26 @@ module _ {A : Type 0} (stop : Refusal → A) (go : ℕ → ℕ → A) (a : Accep
 module _ (file : List ℕ) (k : ℕ) (work schema : List ℕ) where
   pub verdict-stops : (r : Refusal) → Stops (acceptance file) k (length work) (length schema) r → (Refused r ≡ verdictAnswer file k (length work) (length schema)) × ((work ≡ verdictSpace file k work (length schema)) × (schema ≡ verdictSchema file k (length work) schema))
   unfolding verdictAnswer verdictSpace verdictSchema
-  verdict-stops r s =
-      ( sym (stopped Refused (λ m n. judgement (formulasOf file m n) m k) (acceptance file) k (length work) (length schema) r s)
-      , ( sym (stopped (λ r. work) (λ m n. over (formulasOf file m n) work) (acceptance file) k (length work) (length schema) r s)
-        , sym (stopped (λ r. schema) (λ m n. judgedSchema (formulasOf file m n) m k schema) (acceptance file) k (length work) (length schema) r s)
-        )
-      )
+  verdict-stops r s = (
+    sym (stopped Refused (λ m n. judgement (formulasOf file m n) m k) (acceptance file) k (length work) (length schema) r s),
+    (
+      sym (stopped (λ r. work) (λ m n. over (formulasOf file m n) work) (acceptance file) k (length work) (length schema) r s),
+      sym (stopped (λ r. schema) (λ m n. judgedSchema (formulasOf file m n) m k schema) (acceptance file) k (length work) (length schema) r s),
+    ),
+  )
 
   pub verdict-goes : (m n : ℕ) (filled written : List ℕ) (o : Outcome) → Goes (acceptance file) k (length work) (length schema) m n → filled ≡ over (formulasOf file m n) work → o ≡ judgement filled m k → written ≡ judgedSchema filled m k schema → (o ≡ verdictAnswer file k (length work) (length schema)) × ((filled ≡ verdictSpace file k work (length schema)) × (written ≡ verdictSchema file k (length work) schema))
   unfolding verdictAnswer verdictSpace verdictSchema
-  verdict-goes m n filled written o g is answered wrote =
-      ( answered
+  verdict-goes m n filled written o g is answered wrote = (
+    answered
         ∙ ap (λ (w : List ℕ). judgement w m k) is
         ∙ same-judgement file work m n k (g .workSpace) (g .node)
-        ∙ sym (gone Refused (λ m n. judgement (formulasOf file m n) m k) (acceptance file) k (length work) (length schema) m n g)
-      , ( is ∙ sym (gone (λ r. work) (λ m n. over (formulasOf file m n) work) (acceptance file) k (length work) (length schema) m n g)
-        , wrote
+        ∙ sym (gone Refused (λ m n. judgement (formulasOf file m n) m k) (acceptance file) k (length work) (length schema) m n g),
+    (
+      is ∙ sym (gone (λ r. work) (λ m n. over (formulasOf file m n) work) (acceptance file) k (length work) (length schema) m n g),
+      wrote
           ∙ ap (λ (w : List ℕ). judgedSchema w m k schema) is
           ∙ same-schema file work m n k (g .workSpace) (g .node) schema
-          ∙ sym (gone (λ r. schema) (λ m n. judgedSchema (formulasOf file m n) m k schema) (acceptance file) k (length work) (length schema) m n g)
-        )
-      )
+          ∙ sym (gone (λ r. schema) (λ m n. judgedSchema (formulasOf file m n) m k schema) (acceptance file) k (length work) (length schema) m n g),
+    ),
+  )
