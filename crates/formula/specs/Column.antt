@@ -7,9 +7,9 @@ use lib.ListN.{getD}
 use Rattle.bits.specs.Bit.{bit}
 use Rattle.bits.specs.Pack.{pack}
 use Rattle.bits.specs.Tab.{tab}
-use Rattle.expression.specs.declared.nodes.BinaryOp.{BinaryOp}
 use Rattle.formula.specs.declared.steps.Unary.{Unary}
-use Rattle.formula.specs.Steps.{unaryAllowed, unaryOutput, binaryAllowed, binaryOutput}
+use Rattle.formula.specs.declared.steps.Combination.{Combination}
+use Rattle.formula.specs.Steps.{unaryAllowed, unaryOutput, combinedAllowed, combinedOutput}
 
 -- byte j of the map of a test on subsets
 unfoldable pub mapByte : (ℕ → Bool) → ℕ → ℕ
@@ -37,7 +37,7 @@ unaryColumn u column =
     columnOf (λ s. unaryAllowed u (allowedIn column s) (outputIn column s))
     (λ s. unaryOutput u (allowedIn column s) (outputIn column s))
 
-unfoldable pub binaryColumn : BinaryOp → List ℕ → List ℕ → List ℕ
-binaryColumn op left right =
-    columnOf (λ s. binaryAllowed op (allowedIn left s) (outputIn left s) (allowedIn right s) (outputIn right s))
-    (λ s. binaryOutput op (allowedIn left s) (outputIn left s) (allowedIn right s) (outputIn right s))
+unfoldable pub combinedColumn : Combination → List ℕ → List ℕ → List ℕ
+combinedColumn c left right =
+    columnOf (λ s. combinedAllowed c (allowedIn left s) (outputIn left s) (allowedIn right s) (outputIn right s))
+    (λ s. combinedOutput c (allowedIn left s) (outputIn left s) (allowedIn right s) (outputIn right s))

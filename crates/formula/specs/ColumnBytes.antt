@@ -10,10 +10,9 @@ use lib.Dec.{ltb}
 use lib.ListN.{getD}
 use Rattle.bits.specs.Bit.{bit, bit-and}
 use Rattle.bits.specs.Pack.{pack, bit-pack, pack-below, pack-same, byte-is}
-use Rattle.expression.specs.declared.nodes.BinaryOp.{BinaryOp}
-use Rattle.formula.specs.declared.steps.Unary.{Unary}
+use Rattle.formula.specs.declared.steps.Combination.{Combination}
 use Rattle.formula.specs.Tables.{memberByte, subsetByte}
-use Rattle.formula.specs.Steps.{unaryAllowed, unaryOutput, binaryAllowed, binaryOutput}
+use Rattle.formula.specs.Steps.{unaryAllowed, unaryOutput, combinedAllowed, combinedOutput}
 use Rattle.formula.specs.StepLaws.{MadeBy}
 use Rattle.formula.specs.Column.{mapByte, allowedIn, outputIn}
 
@@ -60,8 +59,8 @@ map-step2 step left right j =
     (λ i. step (allowedIn left (j * 8 + i)) (outputIn left (j * 8 + i)) (allowedIn right (j * 8 + i)) (outputIn right (j * 8 + i)))
     (λ i h. rw (allowed-byte left j i h, output-byte left j i h, allowed-byte right j i h, output-byte right j i h))
 
-pub binary-allowed : (op : BinaryOp) (left right : List ℕ) (j x y : ℕ) → MadeBy op (getD left j 0) (getD left (32 + j) 0) (getD right j 0) (getD right (32 + j) 0) x y → x ≡ mapByte (λ s. binaryAllowed op (allowedIn left s) (outputIn left s) (allowedIn right s) (outputIn right s)) j
-binary-allowed op left right j x y made = made .allowed ∙ map-step2 (binaryAllowed op) left right j
+pub combined-allowed : (c : Combination) (left right : List ℕ) (j x y : ℕ) → MadeBy c (getD left j 0) (getD left (32 + j) 0) (getD right j 0) (getD right (32 + j) 0) x y → x ≡ mapByte (λ s. combinedAllowed c (allowedIn left s) (outputIn left s) (allowedIn right s) (outputIn right s)) j
+combined-allowed c left right j x y made = made .allowed ∙ map-step2 (combinedAllowed c) left right j
 
-pub binary-output : (op : BinaryOp) (left right : List ℕ) (j x y : ℕ) → MadeBy op (getD left j 0) (getD left (32 + j) 0) (getD right j 0) (getD right (32 + j) 0) x y → y ≡ mapByte (λ s. binaryOutput op (allowedIn left s) (outputIn left s) (allowedIn right s) (outputIn right s)) j
-binary-output op left right j x y made = made .output ∙ map-step2 (binaryOutput op) left right j
+pub combined-output : (c : Combination) (left right : List ℕ) (j x y : ℕ) → MadeBy c (getD left j 0) (getD left (32 + j) 0) (getD right j 0) (getD right (32 + j) 0) x y → y ≡ mapByte (λ s. combinedOutput c (allowedIn left s) (outputIn left s) (allowedIn right s) (outputIn right s)) j
+combined-output c left right j x y made = made .output ∙ map-step2 (combinedOutput c) left right j

@@ -21,8 +21,8 @@ use Rattle.expression.specs.declared.nodes.Node.the-variants.{Relation, Binary,
 use Rattle.expression.specs.Legal.{LegalNode}
 use Rattle.expression.specs.ReadFile.{nodeAt}
 use Rattle.formula.specs.declared.steps.Unary.{Unary}
-use Rattle.formula.specs.Steps.{unaryAllowed, unaryOutput, setStep, renamingStep, projectingOutStep, permits, gives, binaryAllowed, binaryOutput}
-use Rattle.formula.specs.Column.{columnOf, allowedIn, outputIn, relationColumn, unaryColumn, binaryColumn}
+use Rattle.formula.specs.Steps.{unaryAllowed, unaryOutput, setStep, renamingStep, projectingOutStep, combinationOf, combinedAllowed, combinedOutput}
+use Rattle.formula.specs.Column.{columnOf, allowedIn, outputIn, relationColumn, unaryColumn, combinedColumn}
 use Rattle.formula.specs.ColumnLaws.{allowed-in, output-in, column-same}
 use Rattle.formula.specs.Expressions.{operatorOf, setOperatorOf, named, ofNode, expressionAt, expression-is}
 use Rattle.formula.specs.Stored.{allowedBit, outputBit, cellColumn}
@@ -30,7 +30,7 @@ use Rattle.formula.specs.Stored.{allowedBit, outputBit, cellColumn}
 -- column c of a node, where there are `count` subsets and `operand l` is column c of node l
 abbrev pub nodeColumn : ℕ → Node → ℕ → (ℕ → List ℕ) → List ℕ
 nodeColumn count (Relation r) c operand = relationColumn count r
-nodeColumn count (Binary op l r) c operand = binaryColumn op (operand l) (operand r)
+nodeColumn count (Binary op l r) c operand = combinedColumn (combinationOf op) (operand l) (operand r)
 nodeColumn count (WithSet op l s) c operand = unaryColumn (setStep op (hasAttribute s c)) (operand l)
 nodeColumn count (Renaming l old new) c operand = unaryColumn (renamingStep (eqb c old) (eqb c new)) (operand l)
 nodeColumn count (ProjectingOut l old) c operand = unaryColumn (projectingOutStep (eqb c old)) (operand l)
@@ -52,30 +52,23 @@ operands-fit m k size (ProjectingOut l old) legal few fits = let below = legal .
 
 -- ---- the bytes' steps are the cells' steps
 
-permits-is : (op : BinaryOp) (l r : Bool) → permits op l r ≡ not (breaks plain (operatorOf op) l r)
-permits-is Union true true = refl
-permits-is Union true false = refl
-permits-is Union false true = refl
-permits-is Union false false = refl
-permits-is Difference true true = refl
-permits-is Difference true false = refl
-permits-is Difference false true = refl
-permits-is Difference false false = refl
-permits-is Join true true = refl
-permits-is Join true false = refl
-permits-is Join false true = refl
-permits-is Join false false = refl
-permits-is Product true true = refl
-permits-is Product true false = refl
-permits-is Product false r = refl
-
-gives-is : (op : BinaryOp) (l r : Bool) → gives op l r ≡ yields plain (operatorOf op) l r
-gives-is Union l r = refl
-gives-is Difference l r = refl
-gives-is Join true r = refl
-gives-is Join false r = refl
-gives-is Product true r = refl
-gives-is Product false r = refl
+combined-is : (op : BinaryOp) (l r : Bool) → (not (differs l r && combinationOf op .agree || l && r && combinationOf op .disjoint) ≡ not (breaks plain (operatorOf op) l r)) × (l || r && combinationOf op .merge ≡ yields plain (operatorOf op) l r)
+combined-is Union true true = (refl, refl)
+combined-is Union true false = (refl, refl)
+combined-is Union false true = (refl, refl)
+combined-is Union false false = (refl, refl)
+combined-is Difference true true = (refl, refl)
+combined-is Difference true false = (refl, refl)
+combined-is Difference false true = (refl, refl)
+combined-is Difference false false = (refl, refl)
+combined-is Join true true = (refl, refl)
+combined-is Join true false = (refl, refl)
+combined-is Join false true = (refl, refl)
+combined-is Join false false = (refl, refl)
+combined-is Product true true = (refl, refl)
+combined-is Product true false = (refl, refl)
+combined-is Product false true = (refl, refl)
+combined-is Product false false = (refl, refl)
 
 -- a step on the operand's output bit that is an operator's on a value
 record StepIs (u : Unary) (broken given : Bool → Bool) : Type 0 where
@@ -137,11 +130,11 @@ unary-bits u broken given step false k o = (refl, refl)
 unary-bits u broken given step true false o = (refl, refl)
 unary-bits u broken given step true true o = (step .permitted o, ap₂ _&&_ (step .permitted o) (step .output o))
 
-binary-bits : (op : BinaryOp) (t k o k′ o′ : Bool) → (binaryAllowed op (t && k) (t && k && o) (t && k′) (t && k′ && o′) ≡ t && (k && k′ && not (breaks plain (operatorOf op) o o′))) × (binaryOutput op (t && k) (t && k && o) (t && k′) (t && k′ && o′) ≡ t && (k && k′ && not (breaks plain (operatorOf op) o o′)) && yields plain (operatorOf op) o o′)
+binary-bits : (op : BinaryOp) (t k o k′ o′ : Bool) → (combinedAllowed (combinationOf op) (t && k) (t && k && o) (t && k′) (t && k′ && o′) ≡ t && (k && k′ && not (breaks plain (operatorOf op) o o′))) × (combinedOutput (combinationOf op) (t && k) (t && k && o) (t && k′) (t && k′ && o′) ≡ t && (k && k′ && not (breaks plain (operatorOf op) o o′)) && yields plain (operatorOf op) o o′)
 binary-bits op false k o k′ o′ = (refl, refl)
 binary-bits op true false o k′ o′ = (refl, refl)
 binary-bits op true true o false o′ = (refl, refl)
-binary-bits op true true o true o′ = (permits-is op o o′, ap₂ _&&_ (permits-is op o o′) (gives-is op o o′))
+binary-bits op true true o true o′ = (combined-is op o o′ .0, ap₂ _&&_ (combined-is op o o′ .0) (combined-is op o o′ .1))
 
 relation-bit : (t b : Bool) → (t ≡ t && true) × (t && b ≡ t && true && b)
 relation-bit true b = (refl, refl)
@@ -169,8 +162,8 @@ cells-are : (m : ℕ) (e : Expression) (c : ℕ) → columnOf (allowedBit m e c)
 unfolding cellColumn
 cells-are m e c = refl
 
-binary-cells : (m : ℕ) (op : BinaryOp) (e f : Expression) (c : ℕ) → binaryColumn op (cellColumn m e c) (cellColumn m f c) ≡ cellColumn m (binary (operatorOf op) e f) c
-unfolding binaryColumn allowedBit outputBit
+binary-cells : (m : ℕ) (op : BinaryOp) (e f : Expression) (c : ℕ) → combinedColumn (combinationOf op) (cellColumn m e c) (cellColumn m f c) ≡ cellColumn m (binary (operatorOf op) e f) c
+unfolding combinedColumn allowedBit outputBit
 binary-cells m op e f c =
     column-same _ _ (allowedBit m (binary (operatorOf op) e f) c) (outputBit m (binary (operatorOf op) e f) c)
     (λ s h. rw (cell-allowed m e c s h, cell-output m e c s h, cell-allowed m f c s h, cell-output m f c s h) (binary-bits op (ltb s (2 ^ m)) (ok plain e c (bit s)) (out plain e c (bit s)) (ok plain f c (bit s)) (out plain f c (bit s)) .0))

@@ -2,15 +2,14 @@
 use Prim.Native.Nat.{ℕ, _-_, _<_}
 use mathlib.Core.Path.{_≡_, refl, ap, ap₂, _∙_}
 use mathlib.Core.Bool.{Bool, true, false, cond, not, _&&_, _||_}
-use native.Mathlib.Nat.{lt-of-le-of-lt, mod-eq-of-lt}
-use lib.Bits.{bitAnd, bitOr, bitXor, and-le-l, and-mask, xor-lt}
+use native.Mathlib.Nat.{lt-of-le-of-lt}
+use lib.Bits.{bitAnd, bitOr, bitXor, and-le-l, or-lt, xor-lt}
 use lib.Dec.{lit<}
 use Rattle.bits.specs.Bit.{bit, differs, bit-and, bit-or, bit-xor, bit-not, bit-ones, bit-none}
 use Rattle.bits.specs.Pack.{pack, byte-is}
-use Rattle.expression.specs.declared.nodes.BinaryOp.{BinaryOp}
-use Rattle.expression.specs.declared.nodes.BinaryOp.the-variants.{Union, Difference, Join, Product}
 use Rattle.formula.specs.declared.steps.Unary.{Unary}
-use Rattle.formula.specs.Steps.{unaryAllowed, unaryOutput, permits, gives, binaryAllowed, binaryOutput}
+use Rattle.formula.specs.declared.steps.Combination.{Combination}
+use Rattle.formula.specs.Steps.{unaryAllowed, unaryOutput, combinedAllowed, combinedOutput}
 
 -- ---- bits of bytes
 
@@ -27,9 +26,6 @@ and-below x y h = lt-of-le-of-lt (and-le-l x y) h
 
 not-and : (x y i : ℕ) → x < 256 → i < 8 → bit (255 - bitAnd x y) i ≡ not (bit x i && bit y i)
 not-and x y i hx h = bit-not (bitAnd x y) i (and-below x y hx) h ∙ ap not (bit-and x y i)
-
-not-xor : (x y i : ℕ) → x < 256 → y < 256 → i < 8 → bit (255 - bitXor x y) i ≡ not (differs (bit x i) (bit y i))
-not-xor x y i hx hy h = bit-not (bitXor x y) i (xor-lt 8 x y hx hy) h ∙ ap not (bit-xor x y i)
 
 -- ---- operators of one operand
 
@@ -65,45 +61,42 @@ unary-output u a o ha ho =
 
 -- ---- operators of two operands
 
--- the byte of what an operator permits, and of what it gives
-pub record Permits (op : BinaryOp) (l r p g : ℕ) : Type 0 where
-  pub permitted : (i : ℕ) → i < 8 → bit p i ≡ permits op (bit l i) (bit r i)
-  pub given : (i : ℕ) → i < 8 → bit g i ≡ gives op (bit l i) (bit r i)
-
 -- the bytes that an operator makes of its operands' bytes
-pub record MadeBy (op : BinaryOp) (la lo ra ro x y : ℕ) : Type 0 where
-  pub allowed : x ≡ pack 8 (λ i. binaryAllowed op (bit la i) (bit lo i) (bit ra i) (bit ro i))
-  pub output : y ≡ pack 8 (λ i. binaryOutput op (bit la i) (bit lo i) (bit ra i) (bit ro i))
+pub record MadeBy (c : Combination) (la lo ra ro x y : ℕ) : Type 0 where
+  pub allowed : x ≡ pack 8 (λ i. combinedAllowed c (bit la i) (bit lo i) (bit ra i) (bit ro i))
+  pub output : y ≡ pack 8 (λ i. combinedOutput c (bit la i) (bit lo i) (bit ra i) (bit ro i))
 
-pub binary-bytes : (op : BinaryOp) (la lo ra ro p g : ℕ) → la < 256 → Permits op lo ro p g → MadeBy op la lo ra ro (bitAnd (bitAnd la ra) p) (bitAnd (bitAnd (bitAnd la ra) p) g)
-binary-bytes op la lo ra ro p g h step =
-    record {
-      allowed = byte-is (bitAnd (bitAnd la ra) p) (λ i. binaryAllowed op (bit la i) (bit lo i) (bit ra i) (bit ro i)) small allowed;
-      output =
-          byte-is (bitAnd (bitAnd (bitAnd la ra) p) g) (λ i. binaryOutput op (bit la i) (bit lo i) (bit ra i) (bit ro i)) (and-below (bitAnd (bitAnd la ra) p) g small)
-          (λ i below. bit-and (bitAnd (bitAnd la ra) p) g i ∙ ap₂ _&&_ (allowed i below) (step .given i below));
-    }
-  where
-    small : bitAnd (bitAnd la ra) p < 256
-    small = and-below (bitAnd la ra) p (and-below la ra h)
+abbrev broken : Combination → ℕ → ℕ → ℕ
+broken c lo ro = bitOr (bitAnd (bitXor lo ro) (cond (c .agree) 255 0)) (bitAnd (bitAnd lo ro) (cond (c .disjoint) 255 0))
 
-    allowed : (i : ℕ) → i < 8 → bit (bitAnd (bitAnd la ra) p) i ≡ binaryAllowed op (bit la i) (bit lo i) (bit ra i) (bit ro i)
-    allowed i below = bit-and (bitAnd la ra) p i ∙ ap₂ _&&_ (bit-and la ra i) (step .permitted i below)
+module _ (c : Combination) (la lo ra ro : ℕ) (ha : la < 256) (hl : lo < 256) (hr : ro < 256) where
+  broken-below : broken c lo ro < 256
+  broken-below = or-lt 8 (bitAnd (bitXor lo ro) (cond (c .agree) 255 0)) (bitAnd (bitAnd lo ro) (cond (c .disjoint) 255 0)) (and-below (bitXor lo ro) _ (xor-lt 8 lo ro hl hr)) (and-below (bitAnd lo ro) _ (and-below lo ro hl))
 
-pub union-permits : (l r : ℕ) → l < 256 → r < 256 → Permits Union l r (255 - bitXor l r) l
-union-permits l r hl hr = record { permitted = λ i h. not-xor l r i hl hr h; given = λ i h. refl }
+  broken-bit : (i : ℕ) → i < 8 → bit (broken c lo ro) i ≡ differs (bit lo i) (bit ro i) && c .agree || bit lo i && bit ro i && c .disjoint
+  broken-bit i h =
+      bit-or (bitAnd (bitXor lo ro) (cond (c .agree) 255 0)) (bitAnd (bitAnd lo ro) (cond (c .disjoint) 255 0)) i
+      ∙ ap₂ _||_
+      (bit-and (bitXor lo ro) (cond (c .agree) 255 0) i ∙ ap₂ _&&_ (bit-xor lo ro i) (mask-bit (c .agree) i h))
+      (bit-and (bitAnd lo ro) (cond (c .disjoint) 255 0) i ∙ ap₂ _&&_ (bit-and lo ro i) (mask-bit (c .disjoint) i h))
 
-pub difference-permits : (l r : ℕ) → l < 256 → r < 256 → Permits Difference l r (255 - bitXor l r) l
-difference-permits l r hl hr = record { permitted = λ i h. not-xor l r i hl hr h; given = λ i h. refl }
+  allowed-bit : (i : ℕ) → i < 8 → bit (bitAnd (bitAnd la ra) (255 - broken c lo ro)) i ≡ combinedAllowed c (bit la i) (bit lo i) (bit ra i) (bit ro i)
+  allowed-bit i h =
+      bit-and (bitAnd la ra) (255 - broken c lo ro) i
+      ∙ ap₂ _&&_ (bit-and la ra i) (bit-not (broken c lo ro) i broken-below h ∙ ap not (broken-bit i h))
 
-join-permits : (l r : ℕ) → Permits Join l r 255 (bitOr l r)
-join-permits l r = record { permitted = λ i h. bit-ones 8 i h; given = λ i h. bit-or l r i }
+  small : bitAnd (bitAnd la ra) (255 - broken c lo ro) < 256
+  small = and-below (bitAnd la ra) _ (and-below la ra ha)
 
--- a join permits everything, so that its byte needs no mask
-pub join-bytes : (la lo ra ro : ℕ) → la < 256 → MadeBy Join la lo ra ro (bitAnd la ra) (bitAnd (bitAnd la ra) (bitOr lo ro))
-join-bytes la lo ra ro h =
-    let full : bitAnd (bitAnd la ra) 255 ≡ bitAnd la ra = and-mask (bitAnd la ra) 8 ∙ mod-eq-of-lt {m = 256} (and-below la ra h) in
-    rw full at (binary-bytes Join la lo ra ro 255 (bitOr lo ro) h (join-permits lo ro))
-
-pub product-permits : (l r : ℕ) → l < 256 → Permits Product l r (255 - bitAnd l r) (bitOr l r)
-product-permits l r hl = record { permitted = λ i h. not-and l r i hl h; given = λ i h. bit-or l r i }
+  pub combined-bytes : MadeBy c la lo ra ro (bitAnd (bitAnd la ra) (255 - broken c lo ro)) (bitAnd (bitAnd (bitAnd la ra) (255 - broken c lo ro)) (bitOr lo (bitAnd ro (cond (c .merge) 255 0))))
+  combined-bytes =
+      record {
+        allowed = byte-is (bitAnd (bitAnd la ra) (255 - broken c lo ro)) (λ i. combinedAllowed c (bit la i) (bit lo i) (bit ra i) (bit ro i)) small allowed-bit;
+        output =
+            byte-is (bitAnd (bitAnd (bitAnd la ra) (255 - broken c lo ro)) (bitOr lo (bitAnd ro (cond (c .merge) 255 0)))) (λ i. combinedOutput c (bit la i) (bit lo i) (bit ra i) (bit ro i))
+            (and-below (bitAnd (bitAnd la ra) (255 - broken c lo ro)) _ small)
+            (λ i h. bit-and (bitAnd (bitAnd la ra) (255 - broken c lo ro)) (bitOr lo (bitAnd ro (cond (c .merge) 255 0))) i
+            ∙ ap₂ _&&_ (allowed-bit i h)
+            (bit-or lo (bitAnd ro (cond (c .merge) 255 0)) i
+            ∙ ap (λ (t : Bool). bit lo i || t) (bit-and ro (cond (c .merge) 255 0) i ∙ ap (λ (t : Bool). bit ro i && t) (mask-bit (c .merge) i h))));
+      }

@@ -6,6 +6,7 @@ use Rattle.expression.specs.declared.nodes.BinaryOp.the-variants.{Union, Differ
 use Rattle.expression.specs.declared.nodes.SetOp.{SetOp}
 use Rattle.expression.specs.declared.nodes.SetOp.the-variants.{Selection, Projection}
 use Rattle.formula.specs.declared.steps.Unary.{Unary}
+use Rattle.formula.specs.declared.steps.Combination.{Combination}
 
 -- ---- operators of one operand
 
@@ -28,22 +29,17 @@ renamingStep isOld isNew = record { need = isOld; forbid = isNew; keep = not isO
 abbrev pub projectingOutStep : Bool → Unary
 projectingOutStep isOld = record { need = isOld; forbid = false; keep = not isOld; give = false }
 
--- ---- operators of two operands: their output bits
+-- ---- operators of two operands
 
-abbrev pub permits : BinaryOp → Bool → Bool → Bool
-permits Union l r = not (differs l r)
-permits Difference l r = not (differs l r)
-permits Join l r = true
-permits Product l r = not (l && r)
+abbrev pub combinationOf : BinaryOp → Combination
+combinationOf Union = record { agree = true; disjoint = false; merge = false }
+combinationOf Difference = record { agree = true; disjoint = false; merge = false }
+combinationOf Join = record { agree = false; disjoint = false; merge = true }
+combinationOf Product = record { agree = false; disjoint = true; merge = true }
 
-abbrev pub gives : BinaryOp → Bool → Bool → Bool
-gives Union l r = l
-gives Difference l r = l
-gives Join l r = l || r
-gives Product l r = l || r
+-- the operands' bits: allowed and output of the left, then of the right
+abbrev pub combinedAllowed : Combination → Bool → Bool → Bool → Bool → Bool
+combinedAllowed c la lo ra ro = la && ra && not (differs lo ro && c .agree || lo && ro && c .disjoint)
 
-abbrev pub binaryAllowed : BinaryOp → Bool → Bool → Bool → Bool → Bool
-binaryAllowed op la lo ra ro = la && ra && permits op lo ro
-
-abbrev pub binaryOutput : BinaryOp → Bool → Bool → Bool → Bool → Bool
-binaryOutput op la lo ra ro = binaryAllowed op la lo ra ro && gives op lo ro
+abbrev pub combinedOutput : Combination → Bool → Bool → Bool → Bool → Bool
+combinedOutput c la lo ra ro = combinedAllowed c la lo ra ro && (lo || ro && c .merge)

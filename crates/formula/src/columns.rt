@@ -1,27 +1,27 @@
 // A whole column, from the columns of the operands.
 ghost use mathlib.Core.Path.{_≡_};
 ghost use Prim.Native.Nat.{_<_};
-ghost use Rattle.formula.specs.Column.{relationColumn, unaryColumn, binaryColumn};
+ghost use Rattle.formula.specs.Column.{relationColumn, unaryColumn, combinedColumn};
 use crate::steps::Bytes;
+use crate::steps::Combination;
 use crate::steps::Unary;
-use crate::steps::binary_bytes;
+use crate::steps::combined_bytes;
 use crate::steps::unary_bytes;
-use crate::tables::member_byte;
+use crate::tables::member_map;
 use crate::tables::subset_byte;
-use expression::BinaryOp;
 
 // A relation's column, where there are `count` subsets.
 pub fn relation_column(count: usize, r: u8) -> [u8; 64]
     requires { ⌜ r < 8 ⌝ }
     ensures { λ c. ⌜ c ≡ relationColumn count r ⌝ }
 {
+    let members = member_map(r);
     let mut column = [0u8; 64];
     let mut j = 0;
     while j < 32 {
         let allowed = subset_byte(count, j);
-        let members = member_byte(r, j);
         column[j] = allowed;
-        column[32 + j] = allowed & members;
+        column[32 + j] = allowed & members[j];
         j += 1;
     }
     column
@@ -41,8 +41,8 @@ pub fn unary_column(u: Unary, operand: [u8; 64]) -> [u8; 64]
     column
 }
 
-pub fn binary_column(op: BinaryOp, left: [u8; 64], right: [u8; 64]) -> [u8; 64]
-    ensures { λ c. ⌜ c ≡ binaryColumn op left right ⌝ }
+pub fn combined_column(c: Combination, left: [u8; 64], right: [u8; 64]) -> [u8; 64]
+    ensures { λ l. ⌜ l ≡ combinedColumn c left right ⌝ }
 {
     let mut column = [0u8; 64];
     let mut j = 0;
@@ -55,7 +55,7 @@ pub fn binary_column(op: BinaryOp, left: [u8; 64], right: [u8; 64]) -> [u8; 64]
             allowed: right[j],
             output: right[32 + j],
         };
-        let bytes = binary_bytes(op, l, r);
+        let bytes = combined_bytes(c, l, r);
         column[j] = bytes.allowed;
         column[32 + j] = bytes.output;
         j += 1;

@@ -9,9 +9,10 @@ ghost use Rattle.formula.specs.Storage.{columnAt};
 ghost use Rattle.formula.specs.NodeColumn.{OperandsFit, nodeColumn};
 ghost use Rattle.formula.specs.Stored.{formulasOf, formulaAnswer, formulaSpace};
 ghost use Rattle.formula.specs.Filling.{Here, FilledTo};
-use crate::columns::binary_column;
+use crate::columns::combined_column;
 use crate::columns::relation_column;
 use crate::columns::unary_column;
+use crate::steps::combination_of;
 use crate::steps::projecting_out_step;
 use crate::steps::renaming_step;
 use crate::steps::set_step;
@@ -38,8 +39,8 @@ fn node_column(work: &[u8], m: u8, node: Node, c: u8) -> [u8; 64]
 {
     match node {
         Node::Relation(r) => relation_column(1 << m, r),
-        Node::Binary(op, l, r) => binary_column(
-            op,
+        Node::Binary(op, l, r) => combined_column(
+            combination_of(op),
             read_column(work, l, c),
             read_column(work, r, c),
         ),

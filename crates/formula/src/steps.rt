@@ -3,7 +3,7 @@ ghost use mathlib.Core.Path.{_≡_};
 ghost use mathlib.Core.Bool.{cond};
 ghost use Rattle.bits.specs.Bit.{bit};
 ghost use Rattle.bits.specs.Pack.{pack};
-ghost use Rattle.formula.specs.Steps.{unaryAllowed, unaryOutput, setStep, renamingStep, projectingOutStep};
+ghost use Rattle.formula.specs.Steps.{unaryAllowed, unaryOutput, setStep, renamingStep, projectingOutStep, combinationOf};
 ghost use Rattle.formula.specs.StepLaws.{MadeBy};
 use expression::BinaryOp;
 use expression::SetOp;
@@ -63,6 +63,43 @@ pub fn projecting_out_step(is_old: bool) -> Unary
     }
 }
 
+// An operator of two operands, on one attribute.
+pub struct Combination {
+    // both operands or neither must have the attribute
+    pub agree: bool,
+    // one of them must lack it
+    pub disjoint: bool,
+    // the result has it where the right operand does, and not only where the left one does
+    pub merge: bool,
+}
+
+pub fn combination_of(op: BinaryOp) -> Combination
+    ensures { λ r. ⌜ r ≡ combinationOf op ⌝ }
+{
+    match op {
+        BinaryOp::Union => Combination {
+            agree: true,
+            disjoint: false,
+            merge: false,
+        },
+        BinaryOp::Difference => Combination {
+            agree: true,
+            disjoint: false,
+            merge: false,
+        },
+        BinaryOp::Join => Combination {
+            agree: false,
+            disjoint: false,
+            merge: true,
+        },
+        BinaryOp::Product => Combination {
+            agree: false,
+            disjoint: true,
+            merge: true,
+        },
+    }
+}
+
 // A byte of allowed bits and the byte of output bits that goes with it.
 pub struct Bytes {
     pub allowed: u8,
@@ -86,35 +123,14 @@ pub fn unary_bytes(u: Unary, allowed: u8, output: u8) -> Bytes
     }
 }
 
-pub fn binary_bytes(op: BinaryOp, left: Bytes, right: Bytes) -> Bytes
-    ensures { λ r. ⌜ MadeBy op (left .allowed) (left .output) (right .allowed) (right .output) (r .allowed) (r .output) ⌝ }
+pub fn combined_bytes(c: Combination, left: Bytes, right: Bytes) -> Bytes
+    ensures { λ r. ⌜ MadeBy c (left .allowed) (left .output) (right .allowed) (right .output) (r .allowed) (r .output) ⌝ }
 {
-    let both = left.allowed & right.allowed;
-    match op {
-        BinaryOp::Union => {
-            let a = both & !(left.output ^ right.output);
-            Bytes {
-                allowed: a,
-                output: a & left.output,
-            }
-        }
-        BinaryOp::Difference => {
-            let a = both & !(left.output ^ right.output);
-            Bytes {
-                allowed: a,
-                output: a & left.output,
-            }
-        }
-        BinaryOp::Join => Bytes {
-            allowed: both,
-            output: both & (left.output | right.output),
-        },
-        BinaryOp::Product => {
-            let a = both & !(left.output & right.output);
-            Bytes {
-                allowed: a,
-                output: a & (left.output | right.output),
-            }
-        }
+    let apart = (left.output ^ right.output) & mask(c.agree);
+    let both = left.output & right.output & mask(c.disjoint);
+    let a = left.allowed & right.allowed & !(apart | both);
+    Bytes {
+        allowed: a,
+        output: a & (left.output | (right.output & mask(c.merge))),
     }
 }

@@ -1,6 +1,7 @@
 // Maps over the 256 subsets of eight relations, 32 bytes each: bit s mod 8 of byte s div 8.
 ghost use mathlib.Core.Path.{_≡_};
 ghost use Prim.Native.Nat.{_<_};
+ghost use Rattle.bits.specs.Tab.{tab};
 ghost use Rattle.formula.specs.Tables.{memberByte, subsetByte};
 
 // "A relation's membership map depends on its number alone": bit s stands where s holds relation r.
@@ -180,11 +181,12 @@ const MEMBERS: [[u8; 32]; 8] = [
     ],
 ];
 
-pub fn member_byte(r: u8, j: usize) -> u8
-    requires { ⌜ (r < 8) × (j < 32) ⌝ }
-    ensures { λ x. ⌜ x ≡ memberByte r j ⌝ }
+// The membership map of relation r.
+pub fn member_map(r: u8) -> [u8; 32]
+    requires { ⌜ r < 8 ⌝ }
+    ensures { λ l. ⌜ l ≡ tab 32 (memberByte r) ⌝ }
 {
-    MEMBERS[r as usize][j]
+    MEMBERS[r as usize]
 }
 
 // Byte j of the map of the subsets, of which there are `count`: bit s stands where s is below it.

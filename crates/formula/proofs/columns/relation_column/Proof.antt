@@ -1,10 +1,14 @@
 use Prim.Native.Nat.{ℕ, _-_, _≤_}
-use mathlib.Core.Path.{_≡_, refl, ap₂, _∙_}
+use mathlib.Core.Path.{_≡_, refl, ap, ap₂, _∙_}
 use mathlib.Core.Bool.{_&&_}
+use mathlib.Core.List.{List}
 use native.Mathlib.Omega.{arith}
 use lib.Bits.{bitAnd}
 use lib.Dec.{ltb}
+use lib.ListN.{getD}
 use Rattle.bits.specs.Bit.{bit}
+use Rattle.bits.specs.Tab.{tab, getD-tab}
+use Rattle.formula.specs.Tables.{memberByte}
 use Rattle.formula.specs.Column.{relationColumn}
 use Rattle.formula.specs.ColumnLaws.{Filling, filling-none, filling-more, filling-done}
 use Rattle.formula.specs.ColumnBytes.{relation-allowed, relation-output}
@@ -13,22 +17,25 @@ use Rattle.formula.proofs.columns.relation_column.Statement.{statement}
 use Rattle.formula.proofs.columns.relation_column.Tie as tie
 
 abbrev Inv-loop : tie.InvT-loop
-Inv-loop count r column₀ j₀ column j = (j ≤ 32) × Filling (λ s. ltb s count) (λ s. ltb s count && bit s r) j column
+Inv-loop count r members column₀ j₀ column j = (j ≤ 32) × Filling (λ s. ltb s count) (λ s. ltb s count && bit s r) j column × (members ≡ tab 32 (memberByte r))
 
 abbrev μ-loop : tie.MeasureT-loop
-μ-loop count r column₀ j₀ column j = 32 - j
+μ-loop count r members column₀ j₀ column j = 32 - j
+
+member-map-requires : tie.Need-member-map-requires Inv-loop μ-loop
+member-map-requires c κs = search needs
 
 loop-holds : tie.Need-loop-holds Inv-loop μ-loop
-loop-holds c = (omega arith, filling-none (λ s. ltb s (c .args .count)) (λ s. ltb s (c .args .count) && bit s (c .args .r)) _ refl)
+loop-holds c = (omega arith, filling-none (λ s. ltb s (c .before .args .count)) (λ s. ltb s (c .before .args .count) && bit s (c .before .args .r)) _ refl, c .member-map .ensures)
 
 subset-byte-requires : tie.Need-subset-byte-requires Inv-loop μ-loop
 subset-byte-requires c κs = search needs
 
-member-byte-requires : tie.Need-member-byte-requires Inv-loop μ-loop
-member-byte-requires c κs = search needs
-
 array-write-column : tie.Need-array-write-column Inv-loop μ-loop
 array-write-column c = omega arith
+
+array-read-column : tie.Need-array-read-column Inv-loop μ-loop
+array-read-column c = search needs
 
 add-column : tie.Need-add-column Inv-loop μ-loop
 add-column c = search needs
@@ -43,11 +50,18 @@ loop-less : tie.Need-loop-less Inv-loop μ-loop
 loop-less c = search needs
 
 loop-again : tie.Need-loop-again Inv-loop μ-loop
-loop-again c = (omega arith, filling-more (λ s. ltb s (c .before .before .before .before .args .count)) (λ s. ltb s (c .before .before .before .before .args .count) && bit s (c .before .before .before .before .args .r)) (c .before .before .before .loop .j) (c .before .before .before .loop .column) _ _ (c .before .before .loop-test .taken) (c .before .before .before .loop .inv .1) (c .before .subset-byte .ensures ∙ relation-allowed (c .before .before .before .before .args .count) (c .before .before .before .loop .j)) (ap₂ bitAnd (c .before .subset-byte .ensures) (c .member-byte .ensures) ∙ relation-output (c .before .before .before .before .args .count) (c .before .before .before .before .args .r) (c .before .before .before .loop .j)))
+loop-again c =
+    let members = ap (λ (l : List ℕ). getD l (c .before .before .loop .j) 0) (c .before .before .loop .inv .2) ∙ getD-tab 32 (memberByte (c .before .before .before .before .args .r)) (c .before .before .loop .j) 0 (c .before .loop-test .taken) in (
+      omega arith,
+      filling-more (λ s. ltb s (c .before .before .before .before .args .count)) (λ s. ltb s (c .before .before .before .before .args .count) && bit s (c .before .before .before .before .args .r)) (c .before .before .loop .j) (c .before .before .loop .column) _ _ (c .before .loop-test .taken) (c .before .before .loop .inv .1)
+          (c .subset-byte .ensures ∙ relation-allowed (c .before .before .before .before .args .count) (c .before .before .loop .j))
+          (ap₂ bitAnd (c .subset-byte .ensures) members ∙ relation-output (c .before .before .before .before .args .count) (c .before .before .before .before .args .r) (c .before .before .loop .j)),
+      c .before .before .loop .inv .2,
+    )
 
 returns : tie.Need-returns Inv-loop μ-loop
 unfolding relationColumn
-returns c = let all : c .before .loop .j ≡ 32 = omega arith in filling-done (λ s. ltb s (c .before .before .args .count)) (λ s. ltb s (c .before .before .args .count) && bit s (c .before .before .args .r)) (c .before .loop .column) (rw all at (c .before .loop .inv .1))
+returns c = let all : c .before .loop .j ≡ 32 = omega arith in filling-done (λ s. ltb s (c .before .before .before .args .count)) (λ s. ltb s (c .before .before .before .args .count) && bit s (c .before .before .before .args .r)) (c .before .loop .column) (rw all at (c .before .loop .inv .1))
 
 pub relation-column-spec : {M : Type 1} → statement M
 relation-column-spec =
@@ -55,10 +69,11 @@ relation-column-spec =
     (tie.spec
     Inv-loop
     μ-loop
+    member-map-requires
     loop-holds
     subset-byte-requires
-    member-byte-requires
     array-write-column
+    array-read-column
     add-column
     array-write-column-2
     add-j

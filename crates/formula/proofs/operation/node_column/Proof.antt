@@ -5,8 +5,9 @@ use native.Mathlib.Omega.{arith}
 use lib.ListN.{length}
 use lib.Pow.{pow-lt}
 use Rattle.expression.specs.declared.nodes.Node.{Node}
+use Rattle.formula.specs.declared.steps.Combination.{Combination}
 use Rattle.formula.specs.Steps.{setStep}
-use Rattle.formula.specs.Column.{relationColumn, unaryColumn, binaryColumn}
+use Rattle.formula.specs.Column.{relationColumn, unaryColumn, combinedColumn}
 use Rattle.formula.specs.Storage.{columnAt}
 use Rattle.formula.specs.NodeColumn.{OperandsFit, nodeColumn}
 use borrow.Author.Needs.{needs}
@@ -29,14 +30,17 @@ relation-column-requires c κs = subst (OperandsFit (length (c .before .before .
 enum-known-node-2 : tie.Need-enum-known-node-2
 enum-known-node-2 c = search needs
 
+combination-of-requires : tie.Need-combination-of-requires
+combination-of-requires c κs = search needs
+
 read-column-requires : tie.Need-read-column-requires
-read-column-requires c κs = let fit = subst (OperandsFit (length (c .before .before .before .before .args .work .now))) (c .before .node2 .given .1) (c .before .before .before .before .pre .1) in omega arith
+read-column-requires c κs = let fit = subst (OperandsFit (length (c .before .before .before .before .before .args .work .now))) (c .before .before .node2 .given .1) (c .before .before .before .before .before .pre .1) in omega arith
 
 read-column-requires-2 : tie.Need-read-column-requires-2
-read-column-requires-2 c κs = let fit = subst (OperandsFit (length (c .before .before .before .before .before .args .work .now))) (c .before .before .node2 .given .1) (c .before .before .before .before .before .pre .1) in omega arith
+read-column-requires-2 c κs = let fit = subst (OperandsFit (length (c .before .before .before .before .before .before .args .work .now))) (c .before .before .before .node2 .given .1) (c .before .before .before .before .before .before .pre .1) in omega arith
 
-binary-column-requires : tie.Need-binary-column-requires
-binary-column-requires c κs = search needs
+combined-column-requires : tie.Need-combined-column-requires
+combined-column-requires c κs = search needs
 
 enum-known-node-3 : tie.Need-enum-known-node-3
 enum-known-node-3 c = search needs
@@ -81,7 +85,7 @@ returns : tie.Need-returns
 returns c = c .relation-column .ensures ∙ ap (λ (count : ℕ). relationColumn count (c .before .before .node .given .0 .0)) (power (c .before .before .before .before .before .args .m) (c .before .before .before .before .before .pre .0 .0)) ∙ ap (λ (x : Node). nodeColumn (2 ^ c .before .before .before .before .before .args .m) x (c .before .before .before .before .before .args .c) (λ l. columnAt (c .before .before .before .before .before .args .work .now) l (c .before .before .before .before .before .args .c))) (sym (c .before .before .node .given .1))
 
 returns-2 : tie.Need-returns-2
-returns-2 c = c .binary-column .ensures ∙ ap₂ (binaryColumn _) (c .before .before .read-column .ensures) (c .before .read-column2 .ensures) ∙ ap (λ (x : Node). nodeColumn (2 ^ c .before .before .before .before .before .before .before .args .m) x (c .before .before .before .before .before .before .before .args .c) (λ l. columnAt (c .before .before .before .before .before .before .before .args .work .now) l (c .before .before .before .before .before .before .before .args .c))) (sym (c .before .before .before .before .node2 .given .1))
+returns-2 c = c .combined-column .ensures ∙ ap (λ (x : Combination). combinedColumn x (c .before .before .read-column .result) (c .before .read-column2 .result)) (c .before .before .before .combination-of .ensures) ∙ ap₂ (combinedColumn _) (c .before .before .read-column .ensures) (c .before .read-column2 .ensures) ∙ ap (λ (x : Node). nodeColumn (2 ^ c .before .before .before .before .before .before .before .before .args .m) x (c .before .before .before .before .before .before .before .before .args .c) (λ l. columnAt (c .before .before .before .before .before .before .before .before .args .work .now) l (c .before .before .before .before .before .before .before .before .args .c))) (sym (c .before .before .before .before .before .node2 .given .1))
 
 returns-3 : tie.Need-returns-3
 returns-3 c = c .unary-column .ensures ∙ ap₂ unaryColumn (c .before .before .set-step .ensures ∙ ap (setStep (c .before .before .before .before .before .node3 .given .0 .0)) (c .before .before .before .has .ensures)) (c .before .read-column3 .ensures) ∙ ap (λ (x : Node). nodeColumn (2 ^ c .before .before .before .before .before .before .before .before .args .m) x (c .before .before .before .before .before .before .before .before .args .c) (λ l. columnAt (c .before .before .before .before .before .before .before .before .args .work .now) l (c .before .before .before .before .before .before .before .before .args .c))) (sym (c .before .before .before .before .before .node3 .given .1))
@@ -100,9 +104,10 @@ node-column-spec =
     shl-relation-column
     relation-column-requires
     enum-known-node-2
+    combination-of-requires
     read-column-requires
     read-column-requires-2
-    binary-column-requires
+    combined-column-requires
     enum-known-node-3
     has-requires
     set-step-requires
