@@ -1,0 +1,118 @@
+-- The starred examples of document 01 that concern formulas and verdicts.
+use Prim.Native.Nat.{ℕ}
+use mathlib.Core.List.{List, [], _∷_}
+
+-- a column of the last node: its allowed subsets, and those of them that put the attribute in the output
+pub record Column : Type 0 where
+  pub number : ℕ
+  pub allowed : List ℕ
+  pub output : List ℕ
+
+pub record Case : Type 0 where
+  pub file : List ℕ
+  -- m and n
+  pub relations : ℕ
+  pub nodes : ℕ
+  pub columns : List Column
+  -- the lowest special attribute whose column allows nothing; 16 if the last node is typable
+  pub blocked : ℕ
+  -- the witness, of a typable node
+  pub witness : List ℕ
+
+abbrev pub column : ℕ → List ℕ → List ℕ → Column
+column c a o = record { number = c; allowed = a; output = o }
+
+-- σ{2,3}((ρ1/2(r0) ∪ r1) ⋈ r2), and E2, its witness
+abbrev pub e1 : Case
+e1 =
+    record {
+      file = 3 ∷ 7 ∷ 1 ∷ 0 ∷ 98 ∷ 0 ∷ 1 ∷ 2 ∷ 1 ∷ 1 ∷ 14 ∷ 1 ∷ 2 ∷ 1 ∷ 1 ∷ 2 ∷ 14 ∷ 3 ∷ 4 ∷ 3 ∷ 26 ∷ 5 ∷ 5 ∷ 12 ∷ 0 ∷ [];
+      relations = 3;
+      nodes = 7;
+      columns =
+          column 0 (0 ∷ 3 ∷ 4 ∷ 7 ∷ []) (3 ∷ 4 ∷ 7 ∷ [])
+          ∷ column 1 (1 ∷ 5 ∷ []) (5 ∷ [])
+          ∷ column 2 (2 ∷ 6 ∷ []) (2 ∷ 6 ∷ [])
+          ∷ column 3 (3 ∷ 4 ∷ 7 ∷ []) (3 ∷ 4 ∷ 7 ∷ [])
+          ∷ [];
+      blocked = 16;
+      witness = 10 ∷ 0 ∷ 12 ∷ 0 ∷ 0 ∷ 0 ∷ [];
+    }
+
+-- σ{1,2}(π{2,3}(r0)): untypable, attribute 1
+abbrev pub e5 : Case
+e5 =
+    record {
+      file = 1 ∷ 3 ∷ 1 ∷ 0 ∷ 26 ∷ 0 ∷ 6 ∷ 12 ∷ 0 ∷ 26 ∷ 1 ∷ 5 ∷ 6 ∷ 0 ∷ [];
+      relations = 1;
+      nodes = 3;
+      columns = column 1 [] [] ∷ column 2 (1 ∷ []) (1 ∷ []) ∷ [];
+      blocked = 1;
+      witness = [];
+    }
+
+-- ρ1/1(r0): the same
+abbrev pub e6 : Case
+e6 =
+    record {
+      file = 1 ∷ 2 ∷ 1 ∷ 0 ∷ 98 ∷ 0 ∷ 1 ∷ 1 ∷ [];
+      relations = 1;
+      nodes = 2;
+      columns = column 1 [] [] ∷ [];
+      blocked = 1;
+      witness = [];
+    }
+
+-- r0 × r0, m 1: only s = 0 allowed anywhere; typable
+abbrev pub e7 : Case
+e7 =
+    record {
+      file = 1 ∷ 2 ∷ 1 ∷ 0 ∷ 14 ∷ 0 ∷ 0 ∷ 4 ∷ [];
+      relations = 1;
+      nodes = 2;
+      columns = column 0 (0 ∷ []) [] ∷ column 1 (0 ∷ []) [] ∷ column 15 (0 ∷ []) [] ∷ [];
+      blocked = 16;
+      witness = 0 ∷ 0 ∷ [];
+    }
+
+-- π{}(r0), m 1: typed always, output empty
+abbrev pub e8 : Case
+e8 =
+    record {
+      file = 1 ∷ 2 ∷ 1 ∷ 0 ∷ 26 ∷ 0 ∷ 6 ∷ 0 ∷ 0 ∷ [];
+      relations = 1;
+      nodes = 2;
+      columns = column 0 (0 ∷ 1 ∷ []) [] ∷ column 1 (0 ∷ 1 ∷ []) [] ∷ column 15 (0 ∷ 1 ∷ []) [] ∷ [];
+      blocked = 16;
+      witness = 0 ∷ 0 ∷ [];
+    }
+
+-- r0 ∪ π{1}(r1), m 2: variable 02 only, not in the output; attribute 1 allows 03 only
+abbrev pub e9 : Case
+e9 =
+    record {
+      file = 2 ∷ 4 ∷ 1 ∷ 0 ∷ 1 ∷ 1 ∷ 26 ∷ 1 ∷ 6 ∷ 2 ∷ 0 ∷ 14 ∷ 0 ∷ 2 ∷ 1 ∷ [];
+      relations = 2;
+      nodes = 4;
+      columns = column 0 (0 ∷ 2 ∷ []) [] ∷ column 1 (3 ∷ []) (3 ∷ []) ∷ [];
+      blocked = 16;
+      witness = 2 ∷ 0 ∷ 2 ∷ 0 ∷ [];
+    }
+
+-- σ{1}(r0 ⋈ r1) ⋈ ((r0 × r2) − r3): variables 02 09 0b 0c 0e, all output; attribute 1: 02 09 0b 0e
+abbrev pub e10 : Case
+e10 =
+    record {
+      file = 4 ∷ 9 ∷ 1 ∷ 0 ∷ 1 ∷ 1 ∷ 14 ∷ 0 ∷ 1 ∷ 3 ∷ 26 ∷ 2 ∷ 5 ∷ 2 ∷ 0 ∷ 1 ∷ 2 ∷ 14 ∷ 0 ∷ 4 ∷ 4 ∷ 1 ∷ 3 ∷ 14 ∷ 5 ∷ 6 ∷ 2 ∷ 14 ∷ 3 ∷ 7 ∷ 3 ∷ [];
+      relations = 4;
+      nodes = 9;
+      columns =
+          column 0 (0 ∷ 2 ∷ 9 ∷ 11 ∷ 12 ∷ 14 ∷ []) (2 ∷ 9 ∷ 11 ∷ 12 ∷ 14 ∷ [])
+          ∷ column 1 (2 ∷ 9 ∷ 11 ∷ 14 ∷ []) (2 ∷ 9 ∷ 11 ∷ 14 ∷ [])
+          ∷ [];
+      blocked = 16;
+      witness = 0 ∷ 0 ∷ 2 ∷ 0 ∷ 0 ∷ 0 ∷ 0 ∷ 0 ∷ [];
+    }
+
+unfoldable pub table : List Case
+table = e1 ∷ e5 ∷ e6 ∷ e7 ∷ e8 ∷ e9 ∷ e10 ∷ []

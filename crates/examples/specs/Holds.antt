@@ -1,0 +1,171 @@
+-- Each case of the table holds: one computed test, and one theorem that turns it into the facts of a case.
+use Prim.Native.Nat.{ℕ, zero, suc, _+_, _-_, _*_, _^_, _<_}
+use mathlib.Core.Path.{_≡_, refl, ap₂, _∙_}
+use mathlib.Core.Bool.{Bool, true, false, _&&_}
+use mathlib.Core.List.{List, [], _∷_}
+use native.Mathlib.Omega.{arith}
+use lib.Dec.{T, eqb, eqb→eq}
+use lib.ListN.{length, getD}
+use Rattle.bits.specs.Bit.{bit}
+use Rattle.bits.specs.Lowest.{lowestFrom}
+use Rattle.bits.specs.Pack.{pack}
+use Rattle.bits.specs.Range.{inRange}
+use Rattle.bits.specs.Tab.{tab}
+use Rattle.attribute_set.specs.AttrSet.{special, hasAttribute, setOf}
+use Rattle.refusal.specs.Chain.{refuse}
+use Rattle.expression.specs.Operators.{binaryCode, setCode}
+use Rattle.expression.specs.ReadNode.{readNode, readFields, withBinary, withSet}
+use Rattle.expression.specs.ReadFile.{acceptance, parse, header, readNodes, entryAt, entriesOf}
+use Rattle.expression.specs.declared.files.Acceptance.{Acceptance}
+use Rattle.expression.specs.declared.files.Acceptance.the-variants.{Accepted, Refused}
+use Rattle.algebra.specs.Expression.{Expression}
+use Rattle.formula.specs.Expressions.{expressionAt, earlier}
+use Rattle.formula.specs.Stored.{allowedBit, outputBit}
+use Rattle.verdict.specs.Witness.{recordWord, recordByte}
+use Rattle.examples.specs.Cases.{Column, Case, table}
+
+-- ---- what is compared
+
+-- the numbers below n that pass a test, rising
+unfoldable pub passing : ℕ → (ℕ → Bool) → List ℕ
+passing n test = from n 0
+  where
+    from : ℕ → ℕ → List ℕ
+    from zero s = []
+    from (suc n) s = elim (test s) [ true ↦ s ∷ from n (s + 1) | false ↦ from n (s + 1) ]
+
+-- the lowest allowed subset of a special attribute's column
+unfoldable pub subsetOf : ℕ → Expression → ℕ → ℕ
+subsetOf m e i = lowestFrom 256 0 (allowedBit m e i)
+
+-- the lowest special attribute whose column allows nothing, or 16
+unfoldable pub blockedOf : ℕ → Expression → ℕ
+blockedOf m e = lowestFrom 15 1 (λ i. eqb (subsetOf m e i) 256)
+
+unfoldable pub witnessOf : ℕ → Expression → List ℕ
+witnessOf m e = tab (m * 2) (recordByte (subsetOf m e))
+
+-- the expression of a case's last node
+abbrev pub lastOf : Case → Expression
+lastOf x = expressionAt (x .file) (x .nodes - 1)
+
+-- what document 01 says of a case
+pub record ColumnHolds (m : ℕ) (e : Expression) (c : Column) : Type 0 where
+  pub allowed : passing (2 ^ m) (allowedBit m e (c .number)) ≡ c .allowed
+  pub output : passing (2 ^ m) (outputBit m e (c .number)) ≡ c .output
+
+abbrev pub AllHold : ℕ → Expression → List Column → Type 0
+AllHold m e [] = Unit
+AllHold m e (c ∷ cs) = ColumnHolds m e c × AllHold m e cs
+
+-- the witness of a typable node; of an untypable one nothing is said
+abbrev pub WitnessIs : Bool → ℕ → Expression → List ℕ → Type 0
+WitnessIs true m e w = witnessOf m e ≡ w
+WitnessIs false m e w = Unit
+
+pub record Holds (x : Case) : Type 0 where
+  pub accepted : acceptance (x .file) ≡ Accepted (x .relations) (x .nodes)
+  pub columns : AllHold (x .relations) (lastOf x) (x .columns)
+  pub verdict : blockedOf (x .relations) (lastOf x) ≡ x .blocked
+  pub witness : WitnessIs (eqb (x .blocked) 16) (x .relations) (lastOf x) (x .witness)
+
+-- ---- the test
+
+same : List ℕ → List ℕ → Bool
+same [] [] = true
+same [] (y ∷ ys) = false
+same (x ∷ xs) [] = false
+same (x ∷ xs) (y ∷ ys) = eqb x y && same xs ys
+
+accepts : Acceptance → ℕ → ℕ → Bool
+accepts (Accepted m n) m′ n′ = eqb m m′ && eqb n n′
+accepts (Refused r) m′ n′ = false
+
+columnsPass : ℕ → Expression → List Column → Bool
+columnsPass m e [] = true
+columnsPass m e (c ∷ cs) =
+    same (passing (2 ^ m) (allowedBit m e (c .number))) (c .allowed)
+    && same (passing (2 ^ m) (outputBit m e (c .number))) (c .output)
+    && columnsPass m e cs
+
+witnessPasses : Bool → ℕ → Expression → List ℕ → Bool
+witnessPasses true m e w = same (witnessOf m e) w
+witnessPasses false m e w = true
+
+passes : Case → Bool
+passes x =
+    accepts (acceptance (x .file)) (x .relations) (x .nodes)
+    && columnsPass (x .relations) (lastOf x) (x .columns)
+    && eqb (blockedOf (x .relations) (lastOf x)) (x .blocked)
+    && witnessPasses (eqb (x .blocked) 16) (x .relations) (lastOf x) (x .witness)
+
+every : List Case → Bool
+every [] = true
+every (x ∷ xs) = passes x && every xs
+
+-- ---- from the test to the facts
+
+first : (a b : Bool) → T (a && b) → T a
+first true b t = tt
+first false b t = t
+
+second : (a b : Bool) → T (a && b) → T b
+second true b t = t
+second false b t = absurd t
+
+same-is : (xs ys : List ℕ) → T (same xs ys) → xs ≡ ys
+unfolding same
+same-is [] [] t = refl
+same-is [] (y ∷ ys) t = absurd t
+same-is (x ∷ xs) [] t = absurd t
+same-is (x ∷ xs) (y ∷ ys) t = ap₂ _∷_ (eqb→eq x y (first (eqb x y) (same xs ys) t)) (same-is xs ys (second (eqb x y) (same xs ys) t))
+
+accepts-is : (a : Acceptance) (m n : ℕ) → T (accepts a m n) → a ≡ Accepted m n
+unfolding accepts
+accepts-is (Accepted m′ n′) m n t = ap₂ Accepted (eqb→eq m′ m (first (eqb m′ m) (eqb n′ n) t)) (eqb→eq n′ n (second (eqb m′ m) (eqb n′ n) t))
+accepts-is (Refused r) m n t = absurd t
+
+columns-hold : (m : ℕ) (e : Expression) (cs : List Column) → T (columnsPass m e cs) → AllHold m e cs
+unfolding columnsPass
+columns-hold m e [] t = tt
+columns-hold m e (c ∷ cs) t =
+    let head = first (same (passing (2 ^ m) (allowedBit m e (c .number))) (c .allowed) && same (passing (2 ^ m) (outputBit m e (c .number))) (c .output)) (columnsPass m e cs) t in (
+      record {
+        allowed = same-is (passing (2 ^ m) (allowedBit m e (c .number))) (c .allowed) (first (same (passing (2 ^ m) (allowedBit m e (c .number))) (c .allowed)) (same (passing (2 ^ m) (outputBit m e (c .number))) (c .output)) head);
+        output = same-is (passing (2 ^ m) (outputBit m e (c .number))) (c .output) (second (same (passing (2 ^ m) (allowedBit m e (c .number))) (c .allowed)) (same (passing (2 ^ m) (outputBit m e (c .number))) (c .output)) head);
+      },
+      columns-hold m e cs (second (same (passing (2 ^ m) (allowedBit m e (c .number))) (c .allowed) && same (passing (2 ^ m) (outputBit m e (c .number))) (c .output)) (columnsPass m e cs) t),
+    )
+
+witness-is : (t : Bool) (m : ℕ) (e : Expression) (w : List ℕ) → T (witnessPasses t m e w) → WitnessIs t m e w
+unfolding witnessPasses
+witness-is true m e w p = same-is (witnessOf m e) w p
+witness-is false m e w p = tt
+
+case-holds : (x : Case) → T (passes x) → Holds x
+unfolding passes
+case-holds x t =
+    let a = accepts (acceptance (x .file)) (x .relations) (x .nodes) in
+    let c = columnsPass (x .relations) (lastOf x) (x .columns) in
+    let b = eqb (blockedOf (x .relations) (lastOf x)) (x .blocked) in
+    let w = witnessPasses (eqb (x .blocked) 16) (x .relations) (lastOf x) (x .witness) in
+    record {
+      accepted = accepts-is (acceptance (x .file)) (x .relations) (x .nodes) (first a c (first (a && c) b (first (a && c && b) w t)));
+      columns = columns-hold (x .relations) (lastOf x) (x .columns) (second a c (first (a && c) b (first (a && c && b) w t)));
+      verdict = eqb→eq (blockedOf (x .relations) (lastOf x)) (x .blocked) (second (a && c) b (first (a && c && b) w t));
+      witness = witness-is (eqb (x .blocked) 16) (x .relations) (lastOf x) (x .witness) (second (a && c && b) w t);
+    }
+
+abbrev pub none : Case
+none = record { file = []; relations = 0; nodes = 0; columns = []; blocked = 0; witness = [] }
+
+each-holds : (xs : List Case) → T (every xs) → (i : ℕ) → i < length xs → Holds (getD xs i none)
+unfolding every
+each-holds [] t i h = absurd (omega arith)
+each-holds (x ∷ xs) t zero h = case-holds x (first (passes x) (every xs) t)
+each-holds (x ∷ xs) t (suc i) h = each-holds xs (second (passes x) (every xs) t) i (omega arith)
+
+-- the theorem: every case of the table holds; antt computes the test
+pub examples-hold : (i : ℕ) → i < length table → Holds (getD table i none)
+unfolding every passes same accepts columnsPass witnessPasses passing subsetOf blockedOf witnessOf recordByte recordWord pack tab bit lowestFrom allowedBit outputBit expressionAt earlier acceptance parse header readNodes readNode readFields refuse inRange special hasAttribute setOf binaryCode setCode withBinary withSet entryAt entriesOf table
+examples-hold = each-holds table tt
