@@ -1,0 +1,35 @@
+-- The entries of a list, read off a column's bits.
+use Prim.Native.Nat.{ℕ, _<_}
+use mathlib.Core.Bool.{Bool, cond, _&&_}
+use mathlib.Core.List.{List, [], _∷_, _++_}
+use lib.Dec.{ltb}
+use Rattle.bits.specs.Bit.{bit}
+use Rattle.formula.specs.Column.{allowedIn, outputIn}
+use Rattle.listing.specs.declared.entries.Kind.{Kind}
+use Rattle.listing.specs.declared.entries.Kind.the-variants.{Variables, Output, Signed}
+use Rattle.listing.specs.Text.{subsetText, each, whenSo, newline}
+
+-- a relation's number is below 8
+abbrev pub KindFits : Kind → Type 0
+KindFits (Variables r) = r < 8
+KindFits Output = Unit
+KindFits Signed = Unit
+
+-- whether subset s is in the list
+abbrev pub listed : Kind → List ℕ → ℕ → Bool
+listed (Variables r) column s = ltb 0 s && allowedIn column s && bit s r
+listed Output column s = ltb 0 s && outputIn column s
+listed Signed column s = allowedIn column s
+
+-- what follows its digits
+abbrev pub signText : Kind → List ℕ → ℕ → List ℕ
+signText (Variables r) column s = []
+signText Output column s = []
+signText Signed column s = cond (outputIn column s) 43 45 ∷ []
+
+unfoldable pub entryText : Kind → List ℕ → ℕ → List ℕ
+entryText kind column s = whenSo (listed kind column s) (subsetText s ++ signText kind column s)
+
+-- the whole list
+abbrev pub listText : Kind → List ℕ → List ℕ
+listText kind column = each 256 (entryText kind column)

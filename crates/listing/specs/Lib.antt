@@ -1,0 +1,11 @@
+pub mod Text
+pub mod Listing
+pub mod Put
+pub mod TextLaws
+pub mod Entries
+pub mod Blocked
+pub mod Lines
+pub mod Scan
+pub mod Naming
+pub mod ListingLaws
+pub mod Enough

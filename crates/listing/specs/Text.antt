@@ -1,0 +1,104 @@
+-- The text that the listing program prints for the last node of an expression file (document 01, E1 and the paragraph after it).
+use Prim.Native.Nat.{ℕ, zero, suc, _+_, _-_, _/_, _%_}
+use mathlib.Core.Bool.{Bool, true, false, cond, _&&_, _||_}
+use mathlib.Core.List.{List, [], _∷_, _++_}
+use lib.Dec.{eqb, ltb}
+use Rattle.bits.specs.Bit.{bit}
+use Rattle.bits.specs.Lowest.{lowestFrom}
+use Rattle.attribute_set.specs.AttrSet.{hasAttribute}
+use Rattle.refusal.specs.Number.{numberOf}
+use Rattle.algebra.specs.Expression.{Expression}
+use Rattle.expression.specs.declared.nodes.Node.{Node}
+use Rattle.expression.specs.declared.nodes.Node.the-variants.{Relation, Binary, WithSet, Renaming, ProjectingOut}
+use Rattle.expression.specs.declared.files.Acceptance.{Acceptance}
+use Rattle.expression.specs.declared.files.Acceptance.the-variants.{Accepted, Refused}
+use Rattle.expression.specs.ReadFile.{acceptance, nodeAt}
+use Rattle.formula.specs.Expressions.{expressionAt}
+use Rattle.formula.specs.Stored.{allowedBit, outputBit}
+
+-- ---- characters
+
+-- "decimal without leading zeros", for numbers below 100
+unfoldable pub decimal : ℕ → List ℕ
+decimal n = cond (ltb n 10) ((48 + n) ∷ []) ((48 + n / 10) ∷ (48 + n % 10) ∷ [])
+
+unfoldable pub hexDigit : ℕ → ℕ
+hexDigit d = cond (ltb d 10) (48 + d) (87 + d)
+
+-- "Subsets are two hexadecimal digits, rising, each after one space."
+unfoldable pub subsetText : ℕ → List ℕ
+subsetText s = 32 ∷ hexDigit (s / 16) ∷ hexDigit (s % 16) ∷ []
+
+-- f 0, f 1, .., n texts one after the other
+unfoldable pub each : ℕ → (ℕ → List ℕ) → List ℕ
+each zero f = []
+each (suc n) f = each n f ++ f n
+
+-- what is printed where a test holds
+abbrev pub whenSo : Bool → List ℕ → List ℕ
+whenSo true text = text
+whenSo false text = []
+
+-- ---- lines; every line has a line end
+
+abbrev pub newline : List ℕ
+newline = 10 ∷ []
+
+-- "untypable": some special column allows nothing
+unfoldable pub isBlocked : ℕ → Expression → Bool
+isBlocked m e = ltb (lowestFrom 15 1 (λ i. eqb (lowestFrom 256 0 (allowedBit m e i)) 256)) 16
+
+-- " typable" or " untypable"
+abbrev pub verdictText : Bool → List ℕ
+verdictText true = 32 ∷ 117 ∷ 110 ∷ 116 ∷ 121 ∷ 112 ∷ 97 ∷ 98 ∷ 108 ∷ 101 ∷ []
+verdictText false = 32 ∷ 116 ∷ 121 ∷ 112 ∷ 97 ∷ 98 ∷ 108 ∷ 101 ∷ []
+
+-- "node " number verdict
+unfoldable pub nodeLine : ℕ → Expression → ℕ → List ℕ
+nodeLine m e k = (110 ∷ 111 ∷ 100 ∷ 101 ∷ 32 ∷ []) ++ decimal k ++ verdictText (isBlocked m e) ++ newline
+
+-- "per relation its variables": "The type variables are the s above 0 allowed in column 0"
+unfoldable pub relationLine : ℕ → Expression → ℕ → List ℕ
+relationLine m e r = (114 ∷ []) ++ decimal r ++ (58 ∷ []) ++ each 256 (λ s. whenSo (ltb 0 s && allowedBit m e 0 s && bit s r) (subsetText s)) ++ newline
+
+-- "output variables"
+unfoldable pub outLine : ℕ → Expression → List ℕ
+outLine m e = (111 ∷ 117 ∷ 116 ∷ 58 ∷ []) ++ each 256 (λ s. whenSo (ltb 0 s && outputBit m e 0 s) (subsetText s)) ++ newline
+
+-- "its allowed subsets, + where in the output, - where not"
+unfoldable pub attributeLine : ℕ → Expression → ℕ → List ℕ
+attributeLine m e i =
+    (97 ∷ []) ++ decimal i ++ (58 ∷ [])
+    ++ each 256 (λ s. whenSo (allowedBit m e i s) (subsetText s ++ (cond (outputBit m e i s) 43 45 ∷ [])))
+    ++ newline
+
+-- ---- attributes "named anywhere in the file, rising"
+
+abbrev pub names : Node → ℕ → Bool
+names (Relation r) i = false
+names (Binary op l r) i = false
+names (WithSet op k s) i = hasAttribute s i
+names (Renaming k old new) i = eqb old i || eqb new i
+names (ProjectingOut k old) i = eqb old i
+
+-- one of the nodes below n names it
+unfoldable pub namedBelow : (ℕ → Node) → ℕ → ℕ → Bool
+namedBelow node zero i = false
+namedBelow node (suc n) i = namedBelow node n i || names (node n) i
+
+-- ---- the text
+
+unfoldable pub listing : List ℕ → ℕ → ℕ → List ℕ
+listing file m n =
+    nodeLine m (expressionAt file (n - 1)) (n - 1)
+    ++ each m (relationLine m (expressionAt file (n - 1)))
+    ++ outLine m (expressionAt file (n - 1))
+    ++ each 15 (λ j. whenSo (namedBelow (nodeAt file) n (j + 1)) (attributeLine m (expressionAt file (n - 1)) (j + 1)))
+
+-- "A refused file prints one line, as `refused 10`, the number in decimal."
+abbrev pub textAfter : Acceptance → List ℕ → List ℕ
+textAfter (Accepted m n) file = listing file m n
+textAfter (Refused r) file = (114 ∷ 101 ∷ 102 ∷ 117 ∷ 115 ∷ 101 ∷ 100 ∷ 32 ∷ []) ++ decimal (numberOf r) ++ newline
+
+unfoldable pub textOf : List ℕ → List ℕ
+textOf file = textAfter (acceptance file) file

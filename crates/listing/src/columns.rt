@@ -1,0 +1,51 @@
+// The bits of a node's columns, and whether the node can be typed.
+ghost use mathlib.Core.Path.{_≡_};
+ghost use Prim.Native.Nat.{_+_, _*_, _≤_, _<_};
+ghost use lib.ListN.{length};
+ghost use Rattle.formula.specs.Column.{allowedIn, outputIn};
+ghost use Rattle.listing.specs.Blocked.{allowsNothing, blockedIn};
+use formula::read_column;
+
+// Whether subset s is allowed in the column.
+pub fn allowed_in(column: [u8; 64], s: usize) -> bool
+    requires { ⌜ s < 256 ⌝ }
+    ensures { λ r. ⌜ r ≡ allowedIn column s ⌝ }
+{
+    (column[s / 8] >> (s % 8)) % 2 == 1
+}
+
+// Whether subset s puts the attribute in the output.
+pub fn output_in(column: [u8; 64], s: usize) -> bool
+    requires { ⌜ s < 256 ⌝ }
+    ensures { λ r. ⌜ r ≡ outputIn column s ⌝ }
+{
+    (column[32 + s / 8] >> (s % 8)) % 2 == 1
+}
+
+fn allows_nothing(column: [u8; 64]) -> bool
+    ensures { λ r. ⌜ r ≡ allowsNothing column ⌝ }
+{
+    let mut s = 0;
+    while s < 256 {
+        if allowed_in(column, s) {
+            return false;
+        }
+        s += 1;
+    }
+    true
+}
+
+// Whether some special column of the node allows nothing.
+pub fn is_blocked(work: &[u8], node: u8) -> bool
+    requires { ⌜ node * 1024 + 1024 ≤ length (now work) ⌝ }
+    ensures { λ r. ⌜ r ≡ blockedIn (now (work .entry)) node ⌝ }
+{
+    let mut i = 1;
+    while i < 16 {
+        if allows_nothing(read_column(work, node, i)) {
+            return true;
+        }
+        i += 1;
+    }
+    false
+}

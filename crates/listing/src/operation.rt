@@ -1,0 +1,54 @@
+// The library function of the listing program.
+ghost use mathlib.Core.Path.{_≡_};
+ghost use mathlib.Core.List.{[], _∷_, _++_};
+ghost use Prim.Native.Nat.{_≤_};
+ghost use lib.ListN.{length};
+ghost use Rattle.refusal.specs.Number.{numberOf};
+ghost use Rattle.listing.specs.Text.{decimal, newline};
+ghost use Rattle.listing.specs.Put.{Wrote};
+ghost use Rattle.listing.specs.Listing.{listedAnswer, listedText, listedSpace};
+use crate::characters::write_byte;
+use crate::characters::write_bytes;
+use crate::characters::write_decimal;
+use crate::lines::write_lines;
+use crate::naming::named_attributes;
+use formula::Formulas;
+use formula::formula;
+use refusal::Refusal;
+
+// The length of the text, or the refusal of a slice that is too short.
+pub enum Listed {
+    Text(usize),
+    Refused(Refusal),
+}
+
+// "A refused file prints one line".
+fn write_refused(text: &mut [u8], refusal: Refusal) -> usize
+    requires { ⌜ 11 ≤ length (now text) ⌝ }
+    ensures { λ r. ⌜ Wrote 0 ((114 ∷ 101 ∷ 102 ∷ 117 ∷ 115 ∷ 101 ∷ 100 ∷ 32 ∷ []) ++ decimal (numberOf refusal) ++ newline) (now (text .entry)) (now (text .exit)) r ⌝ }
+{
+    let number = write_bytes(text, 0, b"refused ");
+    let end = write_decimal(text, number, refusal.number());
+    write_byte(text, end, b'\n')
+}
+
+// Writes the text of the last node of the file to the front of `text`.
+pub fn write_listing(file: &[u8], work: &mut [u8], text: &mut [u8]) -> Listed
+    ensures { λ r. ⌜ r ≡ listedAnswer (now (file .entry)) (length (now (work .entry))) (length (now (text .entry))) ⌝ }
+    ensures { λ _. ⌜ now (text .exit) ≡ listedText (now (file .entry)) (length (now (work .entry))) (now (text .entry)) ⌝ }
+    ensures { λ _. ⌜ now (work .exit) ≡ listedSpace (now (file .entry)) (now (work .entry)) (length (now (text .entry))) ⌝ }
+{
+    if work.len() < 65536 {
+        return Listed::Refused(Refusal::WorkSpace);
+    }
+    if text.len() < 32768 {
+        return Listed::Refused(Refusal::ResultSlice);
+    }
+    match formula(file, work) {
+        Formulas::Filled(m, n) => {
+            let named = named_attributes(file, m, n);
+            Listed::Text(write_lines(text, work, m, n - 1, named))
+        }
+        Formulas::Refused(refusal) => Listed::Text(write_refused(text, refusal)),
+    }
+}
