@@ -194,13 +194,13 @@ pub fn subset_byte(count: usize, j: usize) -> u8
     requires { ⌜ j < 32 ⌝ }
     ensures { λ x. ⌜ x ≡ subsetByte count j ⌝ }
 {
-    let first = j * 8;
-    if count <= first {
-        return 0;
-    }
-    let left = count - first;
-    if 8 <= left {
+    let whole = count / 8;
+    let partial = (1u8 << (count % 8)) - 1;
+    if j < whole {
         return 255;
     }
-    (1u8 << left) - 1
+    if j == whole {
+        return partial;
+    }
+    0
 }

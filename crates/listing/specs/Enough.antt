@@ -1,25 +1,23 @@
 -- How much of a file the text depends on: its first 323 bytes.
-use Prim.Native.Nat.{ℕ, zero, suc, _+_, _-_, _*_, _≤_, _<_}
+use Prim.Native.Nat.{ℕ, zero, suc, _+_, _*_, _≤_, _<_}
 use mathlib.Core.Path.{_≡_, refl, sym, ap, subst, _∙_}
 use mathlib.Core.Bool.{Bool, true, false, not, _||_}
 use mathlib.Core.List.{List, [], _∷_, _++_}
 use native.Mathlib.Decide.{decLe}
 use native.Mathlib.Omega.{arith}
 use borrow.Author.Tests.{le-ltb, eqb-true}
-use lib.Dec.{eqb, ltb}
+use lib.Dec.{eqb}
 use lib.ListN.{length, take, drop, length-drop, take-append-drop}
 use lib.Seq.{length-take-le, take-all, drop-append-le}
 use Rattle.bits.specs.Range.{inRange}
 use Rattle.refusal.specs.Chain.{refuse}
-use Rattle.refusal.specs.declared.Refusal.{Refusal}
 use Rattle.refusal.specs.declared.Refusal.the-variants.{HeaderTruncated, RelationCount, NodeCount, NodeTruncated, NodeMap}
-use Rattle.expression.specs.declared.nodes.Node.{Node}
 use Rattle.expression.specs.declared.reader.Reading.{Reading}
 use Rattle.expression.specs.declared.reader.Reading.the-variants.{Read, Refused as NodeRefused}
 use Rattle.expression.specs.declared.files.Acceptance.{Acceptance}
 use Rattle.expression.specs.declared.files.Acceptance.the-variants.{Accepted, Refused}
-use Rattle.expression.specs.ReadNode.{fieldsOf, sizeOf, valueOf, judge, legal, nodeWith, readFields, readNode}
-use Rattle.expression.specs.ReadFile.{Entry, Nodes, nodesRead, nodesRefused, precede, follow, atEnd, readNodes, header, collect, afterHeader, parse, answer, acceptance}
+use Rattle.expression.specs.ReadNode.{fieldsOf, valueOf, judge, legal, nodeWith, readFields, readNode}
+use Rattle.expression.specs.ReadFile.{Entry, Nodes, nodesRead, nodesRefused, precede, follow, readNodes, header, collect, afterHeader, parse, answer, acceptance}
 use Rattle.expression.specs.Legal.{node-legal}
 use Rattle.expression.specs.Accepted.{header-counts}
 use Rattle.expression.specs.Walk.{file-most}

@@ -1,11 +1,13 @@
 pub mod Text
 pub mod Listing
-pub mod Put
 pub mod TextLaws
+pub mod Put
+pub mod Scan
 pub mod Entries
 pub mod Blocked
 pub mod Lines
-pub mod Scan
+pub mod LineLaws
 pub mod Naming
 pub mod ListingLaws
 pub mod Enough
+pub mod Example

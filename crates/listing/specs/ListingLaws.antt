@@ -1,108 +1,34 @@
--- Laws of the listing: the lines off the columns are the text, and the answer in each case.
-use Prim.Native.Nat.{ℕ, _+_, _-_, _*_, _≤_, _<_}
-use mathlib.Core.Path.{_≡_, refl, sym, ap, ap₂, _∙_}
-use mathlib.Core.Bool.{Bool, true, false, cond, _&&_}
+-- Laws of the listing: what was written is the text, and the answer in each case.
+use Prim.Native.Nat.{ℕ, _-_, _*_, _≤_, _<_}
+use mathlib.Core.Path.{_≡_, refl, sym, ap, _∙_}
+use mathlib.Core.Bool.{Bool, true, false}
 use mathlib.Core.List.{List, [], _∷_, _++_}
 use native.Mathlib.Omega.{arith}
 use borrow.Author.Tests.{lt-ltb, le-ltb}
-use lib.Dec.{eqb, ltb, lit≤}
+use lib.Dec.{ltb, lit≤}
 use lib.ListN.{length, drop, length-append}
-use Rattle.bits.specs.Bit.{bit}
-use Rattle.bits.specs.Lowest.{lowestFrom, lowest-same}
 use Rattle.bits.specs.Tab.{over}
 use Rattle.refusal.specs.Chain.{refuse}
 use Rattle.refusal.specs.Number.{numberOf}
 use Rattle.refusal.specs.declared.Refusal.{Refusal}
 use Rattle.refusal.specs.declared.Refusal.the-variants.{HeaderTruncated, RelationCount, NodeCount, NodeTruncated, NodeMap, OperatorCode, RelationNumber, Operand, Attribute, NodesFollowed, NodeNumber, WorkSpace, ResultSlice, InputTruncated, CountZero, ListedAttribute, InputFollowed, TooManyAttributes, RepeatedAttribute, TypeVariable, SpecialSubset}
 use Rattle.attribute_set.specs.declared.AttrSet.{AttrSet}
-use Rattle.attribute_set.specs.AttrSet.{hasAttribute}
-use Rattle.algebra.specs.Expression.{Expression}
 use Rattle.expression.specs.declared.files.Acceptance.{Acceptance}
 use Rattle.expression.specs.declared.files.Acceptance.the-variants.{Accepted, Refused as FileRefused}
 use Rattle.expression.specs.ReadFile.{acceptance, nodeAt}
 use Rattle.expression.specs.Accepted.{accepted-file}
-use Rattle.formula.specs.declared.operation.Formulas.{Formulas}
 use Rattle.formula.specs.declared.operation.Formulas.the-variants.{Filled, Refused as FormulaRefused}
-use Rattle.formula.specs.Expressions.{expressionAt}
-use Rattle.formula.specs.Column.{allowedIn, outputIn}
 use Rattle.formula.specs.Storage.{columnAt}
-use Rattle.formula.specs.Stored.{allowedBit, outputBit, cellColumn, afterFile, formulasOf, formulaAnswer, formulaSpace}
+use Rattle.formula.specs.Stored.{afterFile, formulasOf, formulaAnswer, formulaSpace}
 use Rattle.formula.specs.StoredLaws.{space-filled, stored-column}
-use Rattle.formula.specs.NodeColumn.{cell-allowed, cell-output}
 use Rattle.listing.specs.declared.operation.Listed.{Listed}
 use Rattle.listing.specs.declared.operation.Listed.the-variants.{Text, Refused}
-use Rattle.listing.specs.declared.entries.Kind.the-variants.{Variables, Output, Signed}
-use Rattle.listing.specs.Text.{decimal, subsetText, each, whenSo, newline, isBlocked, verdictText, nodeLine, relationLine, outLine, attributeLine, namedBelow, listing, textAfter, textOf}
-use Rattle.listing.specs.TextLaws.{each-same}
+use Rattle.listing.specs.Text.{decimal, newline, listing, textAfter, textOf}
 use Rattle.listing.specs.Listing.{listedAnswer, listedText, listedSpace}
 use Rattle.listing.specs.Put.{Wrote, wrote-as, wrote-front}
-use Rattle.listing.specs.Entries.{entryText, listText}
-use Rattle.listing.specs.Blocked.{allowsNothing, blockedIn}
-use Rattle.listing.specs.Lines.{nodeText, label, lineText, relationText, outText, attributeText, attributesText, linesText}
-use Rattle.listing.specs.Naming.{Named, named-is}
-
--- ---- lists off an expression's columns
-
-module _ (m : ℕ) (e : Expression) where
-  variables-list : (r : ℕ) → listText (Variables r) (cellColumn m e 0) ≡ each 256 (λ s. whenSo (ltb 0 s && allowedBit m e 0 s && bit s r) (subsetText s))
-  unfolding entryText subsetText
-  variables-list r = each-same 256 _ _ (λ s h. rw (cell-allowed m e 0 s h))
-
-  output-list : listText Output (cellColumn m e 0) ≡ each 256 (λ s. whenSo (ltb 0 s && outputBit m e 0 s) (subsetText s))
-  unfolding entryText subsetText
-  output-list = each-same 256 _ _ (λ s h. rw (cell-output m e 0 s h))
-
-  signed-list : (i : ℕ) → listText Signed (cellColumn m e i) ≡ each 256 (λ s. whenSo (allowedBit m e i s) (subsetText s ++ (cond (outputBit m e i s) 43 45 ∷ [])))
-  unfolding entryText
-  signed-list i = each-same 256 _ _ (λ s h. rw (cell-allowed m e i s h, cell-output m e i s h))
-
-  relation-line : (r : ℕ) → relationText (cellColumn m e 0) r ≡ relationLine m e r
-  unfolding relationText lineText label relationLine
-  relation-line r = ap (λ (l : List ℕ). (114 ∷ []) ++ decimal r ++ (58 ∷ []) ++ l ++ newline) (variables-list r)
-
-  out-line : outText (cellColumn m e 0) ≡ outLine m e
-  unfolding outText outLine
-  out-line = ap (λ (l : List ℕ). (111 ∷ 117 ∷ 116 ∷ 58 ∷ []) ++ l ++ newline) output-list
-
-  attribute-line : (i : ℕ) → lineText 97 i Signed (cellColumn m e i) ≡ attributeLine m e i
-  unfolding lineText label attributeLine
-  attribute-line i = ap (λ (l : List ℕ). (97 ∷ []) ++ decimal i ++ (58 ∷ []) ++ l ++ newline) (signed-list i)
-
--- ---- lines off a work space that holds the columns of expression e at a node
-
-module _ (work : List ℕ) (node m : ℕ) (e : Expression) (columns : (c : ℕ) → c < 16 → columnAt work node c ≡ cellColumn m e c) where
-  blocked-is : blockedIn work node ≡ isBlocked m e
-  unfolding blockedIn allowsNothing isBlocked
-  blocked-is =
-      ap (λ (x : ℕ). ltb x 16)
-      (lowest-same 15 1 _ _
-      (λ i low high. ap (λ (x : ℕ). eqb x 256)
-      (ap (λ (column : List ℕ). lowestFrom 256 0 (allowedIn column)) (columns i high)
-      ∙ lowest-same 256 0 _ _ (λ s from below. cell-allowed m e i s below))))
-
-  node-line : nodeText (blockedIn work node) node ≡ nodeLine m e node
-  unfolding nodeText nodeLine
-  node-line = ap (λ (b : Bool). (110 ∷ 111 ∷ 100 ∷ 101 ∷ 32 ∷ []) ++ decimal node ++ verdictText b ++ newline) blocked-is
-
-  relation-lines : each m (relationText (columnAt work node 0)) ≡ each m (relationLine m e)
-  relation-lines = each-same m _ _ (λ r h. ap (λ (column : List ℕ). relationText column r) (columns 0 (omega arith)) ∙ relation-line m e r)
-
-  attribute-lines : (named : AttrSet) (test : ℕ → Bool) → ((i : ℕ) → 1 ≤ i → i ≤ 15 → hasAttribute named i ≡ test i) → attributesText work node named ≡ each 15 (λ j. whenSo (test (j + 1)) (attributeLine m e (j + 1)))
-  unfolding attributesText attributeText
-  attribute-lines named test same =
-      each-same 15 _ _
-      (λ j h. ap₂ whenSo (same (j + 1) (omega arith) (omega arith))
-      (ap (lineText 97 (j + 1) Signed) (columns (j + 1) (omega arith)) ∙ attribute-line m e (j + 1)))
-
-pub lines-are : (file work : List ℕ) (m n : ℕ) (named : AttrSet) → ((c : ℕ) → c < 16 → columnAt work (n - 1) c ≡ cellColumn m (expressionAt file (n - 1)) c) → Named (nodeAt file) n named → linesText work m (n - 1) named ≡ listing file m n
-unfolding linesText listing
-lines-are file work m n named columns named-in =
-    let e = expressionAt file (n - 1) in
-    ap₂ _++_
-    (ap₂ _++_
-    (ap₂ _++_ (node-line work (n - 1) m e columns) (relation-lines work (n - 1) m e columns))
-    (ap outText (columns 0 (omega arith)) ∙ out-line m e))
-    (attribute-lines work (n - 1) m e columns named (namedBelow (nodeAt file) n) (named-is (nodeAt file) n named named-in))
+use Rattle.listing.specs.Lines.{linesText}
+use Rattle.listing.specs.Naming.{Named}
+use Rattle.listing.specs.LineLaws.{lines-are}
 
 -- ---- the file, from Formula's answer
 

@@ -1,12 +1,12 @@
 -- Bytes put into a list from a place on, and what a writer leaves.
-use Prim.Native.Nat.{ℕ, suc, _+_, _≤_, _<_}
+use Prim.Native.Nat.{ℕ, _+_, _≤_, _<_}
 use mathlib.Core.Path.{_≡_, refl, sym, ap, _∙_}
-use mathlib.Core.List.{List, [], _∷_, _++_, append-assoc, append-nil}
+use mathlib.Core.List.{List, [], _∷_, _++_, append-assoc}
 use native.Mathlib.Nat.{add-assoc, add-zero, zero-add}
 use native.Mathlib.Numerals.{add-one}
 use native.Mathlib.Omega.{arith}
 use lib.ListN.{length, getD, take, drop, set, length-append, length-drop, take-append-drop}
-use lib.Seq.{length-take-le, take-at, drop-at, drop-drop, take-suc, set-split, drop-append-add}
+use lib.Seq.{length-take-le, take-at, drop-drop, take-suc, set-split, drop-append-add}
 use Rattle.bits.specs.Tab.{over}
 
 -- the bytes from place `at` on, and the rest as it was

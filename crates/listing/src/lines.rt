@@ -1,8 +1,6 @@
 // The lines of a node.
-ghost use mathlib.Core.Path.{_≡_};
 ghost use Prim.Native.Nat.{_+_, _*_, _≤_, _<_};
 ghost use lib.ListN.{length};
-ghost use Rattle.formula.specs.Storage.{columnAt};
 ghost use Rattle.listing.specs.Put.{Wrote};
 ghost use Rattle.listing.specs.Text.{each, verdictText};
 ghost use Rattle.listing.specs.Entries.{KindFits};

@@ -1,7 +1,5 @@
 // The attributes that are named anywhere in a file.
 ghost use mathlib.Core.Path.{_≡_};
-ghost use mathlib.Core.Bool.{_||_};
-ghost use Prim.Native.Nat.{ℕ, _≤_};
 ghost use Rattle.attribute_set.specs.AttrSet.{hasAttribute};
 ghost use Rattle.expression.specs.ReadFile.{acceptance, nodeAt};
 ghost use Rattle.expression.specs.declared.files.Acceptance.the-variants.{Accepted};

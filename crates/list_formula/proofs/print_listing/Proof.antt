@@ -1,5 +1,5 @@
 use lib.Seq.{length-take-le}
-use mathlib.Core.Path.{_≡_, sym, _∙_}
+use mathlib.Core.Path.{sym, _∙_}
 use Rattle.listing.specs.ListingLaws.{listed-fits}
 use borrow.Author.Needs.{needs}
 use Rattle.list_formula.proofs.print_listing.Statement.{statement}

@@ -1,0 +1,32 @@
+-- The text of E1, as document 01 prints it.
+use mathlib.Core.Path.{_≡_, refl}
+use mathlib.Core.List.{List, [], _∷_}
+use Prim.Native.Nat.{ℕ}
+use Rattle.bits.specs.Bit.{bit}
+use Rattle.bits.specs.Lowest.{lowestFrom}
+use Rattle.bits.specs.Range.{inRange}
+use Rattle.attribute_set.specs.AttrSet.{hasAttribute, special, setOf}
+use Rattle.refusal.specs.Chain.{refuse}
+use Rattle.expression.specs.Operators.{binaryCode, setCode}
+use Rattle.expression.specs.ReadNode.{readNode, readFields, withBinary, withSet}
+use Rattle.expression.specs.ReadFile.{acceptance, parse, header, readNodes, entryAt, entriesOf}
+use Rattle.formula.specs.Expressions.{expressionAt, earlier}
+use Rattle.formula.specs.Stored.{allowedBit, outputBit}
+use Rattle.listing.specs.Text.{textOf, listing, nodeLine, relationLine, outLine, attributeLine, namedBelow, isBlocked, each, subsetText, hexDigit, decimal}
+
+-- σ{2,3}((ρ1/2(r0) ∪ r1) ⋈ r2)
+abbrev pub e1 : List ℕ
+e1 = 3 ∷ 7 ∷ 1 ∷ 0 ∷ 98 ∷ 0 ∷ 1 ∷ 2 ∷ 1 ∷ 1 ∷ 14 ∷ 1 ∷ 2 ∷ 1 ∷ 1 ∷ 2 ∷ 14 ∷ 3 ∷ 4 ∷ 3 ∷ 26 ∷ 5 ∷ 5 ∷ 12 ∷ 0 ∷ []
+
+pub e1-text :
+    textOf e1 ≡
+    110 ∷ 111 ∷ 100 ∷ 101 ∷ 32 ∷ 54 ∷ 32 ∷ 116 ∷ 121 ∷ 112 ∷ 97 ∷ 98 ∷ 108 ∷ 101 ∷ 10
+    ∷ 114 ∷ 48 ∷ 58 ∷ 32 ∷ 48 ∷ 51 ∷ 32 ∷ 48 ∷ 55 ∷ 10
+    ∷ 114 ∷ 49 ∷ 58 ∷ 32 ∷ 48 ∷ 51 ∷ 32 ∷ 48 ∷ 55 ∷ 10
+    ∷ 114 ∷ 50 ∷ 58 ∷ 32 ∷ 48 ∷ 52 ∷ 32 ∷ 48 ∷ 55 ∷ 10
+    ∷ 111 ∷ 117 ∷ 116 ∷ 58 ∷ 32 ∷ 48 ∷ 51 ∷ 32 ∷ 48 ∷ 52 ∷ 32 ∷ 48 ∷ 55 ∷ 10
+    ∷ 97 ∷ 49 ∷ 58 ∷ 32 ∷ 48 ∷ 49 ∷ 45 ∷ 32 ∷ 48 ∷ 53 ∷ 43 ∷ 10
+    ∷ 97 ∷ 50 ∷ 58 ∷ 32 ∷ 48 ∷ 50 ∷ 43 ∷ 32 ∷ 48 ∷ 54 ∷ 43 ∷ 10
+    ∷ 97 ∷ 51 ∷ 58 ∷ 32 ∷ 48 ∷ 51 ∷ 43 ∷ 32 ∷ 48 ∷ 52 ∷ 43 ∷ 32 ∷ 48 ∷ 55 ∷ 43 ∷ 10 ∷ []
+unfolding textOf listing nodeLine relationLine outLine attributeLine namedBelow isBlocked each subsetText hexDigit decimal acceptance expressionAt allowedBit outputBit bit lowestFrom hasAttribute parse header readNodes readNode readFields refuse inRange entryAt entriesOf earlier special setOf binaryCode setCode withBinary withSet
+e1-text = refl
