@@ -2,9 +2,7 @@ pub mod Text
 pub mod Listing
 pub mod TextLaws
 pub mod Put
-pub mod Scan
 pub mod Entries
-pub mod Blocked
 pub mod Lines
 pub mod LineLaws
 pub mod Naming

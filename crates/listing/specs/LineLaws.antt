@@ -16,11 +16,12 @@ use Rattle.formula.specs.Column.{allowedIn}
 use Rattle.formula.specs.Storage.{columnAt}
 use Rattle.formula.specs.Stored.{allowedBit, outputBit, cellColumn}
 use Rattle.formula.specs.NodeColumn.{cell-allowed, cell-output}
+use Rattle.verdict.specs.Verdict.{blockedIn}
+use Rattle.verdict.specs.VerdictLaws.{blocked-columns}
 use Rattle.listing.specs.declared.entries.Kind.the-variants.{Variables, Output, Signed}
 use Rattle.listing.specs.Text.{decimal, subsetText, each, whenSo, newline, isBlocked, verdictText, nodeLine, relationLine, outLine, attributeLine, namedBelow, listing}
 use Rattle.listing.specs.TextLaws.{each-same}
 use Rattle.listing.specs.Entries.{entryText, listText}
-use Rattle.listing.specs.Blocked.{allowsNothing, blockedIn}
 use Rattle.listing.specs.Lines.{nodeText, label, lineText, relationText, outText, attributeText, attributesText, linesText}
 use Rattle.listing.specs.Naming.{Named, named-is}
 
@@ -54,16 +55,16 @@ module _ (m : ℕ) (e : Expression) where
 -- ---- lines off a work space that holds the columns of expression e at a node
 
 module _ (work : List ℕ) (node m : ℕ) (e : Expression) (columns : (c : ℕ) → c < 16 → columnAt work node c ≡ cellColumn m e c) where
-  blocked-is : blockedIn work node ≡ isBlocked m e
-  unfolding blockedIn allowsNothing isBlocked
+  blocked-is : ltb (blockedIn work node) 16 ≡ isBlocked m e
+  unfolding isBlocked
   blocked-is =
       ap (λ (x : ℕ). ltb x 16)
-      (lowest-same 15 1 _ _
+      (blocked-columns work node ∙ lowest-same 15 1 _ _
       (λ i low high. ap (λ (x : ℕ). eqb x 256)
       (ap (λ (column : List ℕ). lowestFrom 256 0 (allowedIn column)) (columns i high)
       ∙ lowest-same 256 0 _ _ (λ s from below. cell-allowed m e i s below))))
 
-  node-line : nodeText (blockedIn work node) node ≡ nodeLine m e node
+  node-line : nodeText (ltb (blockedIn work node) 16) node ≡ nodeLine m e node
   unfolding nodeText nodeLine
   node-line = ap (λ (b : Bool). (110 ∷ 111 ∷ 100 ∷ 101 ∷ 32 ∷ []) ++ decimal node ++ verdictText b ++ newline) blocked-is
 

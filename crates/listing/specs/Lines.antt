@@ -2,14 +2,15 @@
 use Prim.Native.Nat.{ℕ, _+_}
 use mathlib.Core.Bool.{Bool}
 use mathlib.Core.List.{List, [], _∷_, _++_}
+use lib.Dec.{ltb}
 use Rattle.attribute_set.specs.declared.AttrSet.{AttrSet}
 use Rattle.attribute_set.specs.AttrSet.{hasAttribute}
 use Rattle.formula.specs.Storage.{columnAt}
+use Rattle.verdict.specs.Verdict.{blockedIn}
 use Rattle.listing.specs.declared.entries.Kind.{Kind}
 use Rattle.listing.specs.declared.entries.Kind.the-variants.{Variables, Output, Signed}
 use Rattle.listing.specs.Text.{decimal, each, whenSo, newline, verdictText}
 use Rattle.listing.specs.Entries.{listText}
-use Rattle.listing.specs.Blocked.{blockedIn}
 
 unfoldable pub nodeText : Bool → ℕ → List ℕ
 nodeText blocked k = (110 ∷ 111 ∷ 100 ∷ 101 ∷ 32 ∷ []) ++ decimal k ++ verdictText blocked ++ newline
@@ -36,7 +37,7 @@ attributesText work node named = each 15 (λ j. attributeText work node named (j
 
 unfoldable pub linesText : List ℕ → ℕ → ℕ → AttrSet → List ℕ
 linesText work m node named =
-    nodeText (blockedIn work node) node
+    nodeText (ltb (blockedIn work node) 16) node
     ++ each m (relationText (columnAt work node 0))
     ++ outText (columnAt work node 0)
     ++ attributesText work node named

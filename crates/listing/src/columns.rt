@@ -1,10 +1,12 @@
 // The bits of a node's columns, and whether the node can be typed.
 ghost use mathlib.Core.Path.{_≡_};
 ghost use Prim.Native.Nat.{_+_, _*_, _≤_, _<_};
+ghost use lib.Dec.{ltb};
 ghost use lib.ListN.{length};
 ghost use Rattle.formula.specs.Column.{allowedIn, outputIn};
-ghost use Rattle.listing.specs.Blocked.{allowsNothing, blockedIn};
-use formula::read_column;
+ghost use Rattle.verdict.specs.Verdict.{blockedIn};
+use verdict::first_blocked;
+use verdict::lowest_subsets;
 
 // Whether subset s is allowed in the column.
 pub fn allowed_in(column: [u8; 64], s: usize) -> bool
@@ -22,30 +24,10 @@ pub fn output_in(column: [u8; 64], s: usize) -> bool
     (column[32 + s / 8] >> (s % 8)) % 2 == 1
 }
 
-fn allows_nothing(column: [u8; 64]) -> bool
-    ensures { λ r. ⌜ r ≡ allowsNothing column ⌝ }
-{
-    let mut s = 0;
-    while s < 256 {
-        if allowed_in(column, s) {
-            return false;
-        }
-        s += 1;
-    }
-    true
-}
-
 // Whether some special column of the node allows nothing.
 pub fn is_blocked(work: &[u8], node: u8) -> bool
     requires { ⌜ node * 1024 + 1024 ≤ length (now work) ⌝ }
-    ensures { λ r. ⌜ r ≡ blockedIn (now (work .entry)) node ⌝ }
+    ensures { λ r. ⌜ r ≡ ltb (blockedIn (now (work .entry)) node) 16 ⌝ }
 {
-    let mut i = 1;
-    while i < 16 {
-        if allows_nothing(read_column(work, node, i)) {
-            return true;
-        }
-        i += 1;
-    }
-    false
+    first_blocked(lowest_subsets(work, node)) < 16
 }
