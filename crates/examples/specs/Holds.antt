@@ -1,16 +1,16 @@
 -- Each case of the table holds: one computed test, and one theorem that turns it into the facts of a case.
-use Prim.Native.Nat.{ℕ, zero, suc, _+_, _-_, _*_, _^_, _<_}
-use mathlib.Core.Path.{_≡_, refl, ap₂, _∙_}
-use mathlib.Core.Bool.{Bool, true, false, _&&_}
+use Prim.Native.Nat.{ℕ, zero, suc, _+_, _-_, _*_, _^_, _≤_, _<_}
+use mathlib.Core.Path.{_≡_, refl, ap, ap₂, _∙_}
+use mathlib.Core.Bool.{Bool, true, false, cond, _&&_}
 use mathlib.Core.List.{List, [], _∷_}
 use native.Mathlib.Omega.{arith}
-use lib.Dec.{T, eqb, eqb→eq}
+use lib.Dec.{T, eqb, ltb, eqb→eq, ltb→lt}
 use lib.ListN.{length, getD}
 use Rattle.bits.specs.Bit.{bit}
 use Rattle.bits.specs.Lowest.{lowestFrom}
 use Rattle.bits.specs.Pack.{pack}
 use Rattle.bits.specs.Range.{inRange}
-use Rattle.bits.specs.Tab.{tab}
+use Rattle.bits.specs.Tab.{tab, over}
 use Rattle.attribute_set.specs.AttrSet.{special, hasAttribute, setOf}
 use Rattle.refusal.specs.Chain.{refuse}
 use Rattle.expression.specs.Operators.{binaryCode, setCode}
@@ -22,6 +22,9 @@ use Rattle.algebra.specs.Expression.{Expression}
 use Rattle.formula.specs.Expressions.{expressionAt, earlier}
 use Rattle.formula.specs.Stored.{allowedBit, outputBit}
 use Rattle.verdict.specs.Witness.{recordWord, recordByte}
+use Rattle.verdict.specs.Verdict.{judged, verdictAnswer, verdictSchema}
+use Rattle.verdict.specs.VerdictLaws.{Goes}
+use Rattle.verdict.specs.Cells.{subsetOf, blockedOf, witnessOf, verdict-answer, verdict-schema}
 use Rattle.examples.specs.Cases.{Column, Case, table}
 
 -- ---- what is compared
@@ -33,17 +36,6 @@ passing n test = from n 0
     from : ℕ → ℕ → List ℕ
     from zero s = []
     from (suc n) s = elim (test s) [ true ↦ s ∷ from n (s + 1) | false ↦ from n (s + 1) ]
-
--- the lowest allowed subset of a special attribute's column
-unfoldable pub subsetOf : ℕ → Expression → ℕ → ℕ
-subsetOf m e i = lowestFrom 256 0 (allowedBit m e i)
-
--- the lowest special attribute whose column allows nothing, or 16
-unfoldable pub blockedOf : ℕ → Expression → ℕ
-blockedOf m e = lowestFrom 15 1 (λ i. eqb (subsetOf m e i) 256)
-
-unfoldable pub witnessOf : ℕ → Expression → List ℕ
-witnessOf m e = tab (m * 2) (recordByte (subsetOf m e))
 
 -- the expression of a case's last node
 abbrev pub lastOf : Case → Expression
@@ -58,16 +50,15 @@ abbrev pub AllHold : ℕ → Expression → List Column → Type 0
 AllHold m e [] = Unit
 AllHold m e (c ∷ cs) = ColumnHolds m e c × AllHold m e cs
 
--- the witness of a typable node; of an untypable one nothing is said
-abbrev pub WitnessIs : Bool → ℕ → Expression → List ℕ → Type 0
-WitnessIs true m e w = witnessOf m e ≡ w
-WitnessIs false m e w = Unit
+-- what Verdict does on the last node, in slices that are long enough: the answer, and the schema slice with the witness or as it was
+pub record VerdictHolds (x : Case) (work schema : List ℕ) : Type 0 where
+  pub answer : verdictAnswer (x .file) (x .nodes - 1) (length work) (length schema) ≡ judged (ltb (x .blocked) 16) (x .blocked) (x .relations)
+  pub slice : verdictSchema (x .file) (x .nodes - 1) (length work) schema ≡ cond (ltb (x .blocked) 16) schema (over (x .witness) schema)
 
 pub record Holds (x : Case) : Type 0 where
   pub accepted : acceptance (x .file) ≡ Accepted (x .relations) (x .nodes)
   pub columns : AllHold (x .relations) (lastOf x) (x .columns)
-  pub verdict : blockedOf (x .relations) (lastOf x) ≡ x .blocked
-  pub witness : WitnessIs (eqb (x .blocked) 16) (x .relations) (lastOf x) (x .witness)
+  pub verdict : (work schema : List ℕ) → x .nodes * 1024 ≤ length work → 4104 ≤ length schema → VerdictHolds x work schema
 
 -- ---- the test
 
@@ -88,16 +79,18 @@ columnsPass m e (c ∷ cs) =
     && same (passing (2 ^ m) (outputBit m e (c .number))) (c .output)
     && columnsPass m e cs
 
-witnessPasses : Bool → ℕ → Expression → List ℕ → Bool
-witnessPasses true m e w = same (witnessOf m e) w
-witnessPasses false m e w = true
+-- the witness of an untypable node is not asked for
+witnessPasses : Bool → List ℕ → List ℕ → Bool
+witnessPasses true w w′ = true
+witnessPasses false w w′ = same w w′
 
 passes : Case → Bool
 passes x =
     accepts (acceptance (x .file)) (x .relations) (x .nodes)
     && columnsPass (x .relations) (lastOf x) (x .columns)
     && eqb (blockedOf (x .relations) (lastOf x)) (x .blocked)
-    && witnessPasses (eqb (x .blocked) 16) (x .relations) (lastOf x) (x .witness)
+    && witnessPasses (ltb (x .blocked) 16) (witnessOf (x .relations) (lastOf x)) (x .witness)
+    && ltb 0 (x .nodes)
 
 every : List Case → Bool
 every [] = true
@@ -137,10 +130,21 @@ columns-hold m e (c ∷ cs) t =
       columns-hold m e cs (second (same (passing (2 ^ m) (allowedBit m e (c .number))) (c .allowed) && same (passing (2 ^ m) (outputBit m e (c .number))) (c .output)) (columnsPass m e cs) t),
     )
 
-witness-is : (t : Bool) (m : ℕ) (e : Expression) (w : List ℕ) → T (witnessPasses t m e w) → WitnessIs t m e w
+witness-is : (untypable : Bool) (w w′ schema : List ℕ) → T (witnessPasses untypable w w′) → cond untypable schema (over w schema) ≡ cond untypable schema (over w′ schema)
 unfolding witnessPasses
-witness-is true m e w p = same-is (witnessOf m e) w p
-witness-is false m e w p = tt
+witness-is true w w′ schema t = refl
+witness-is false w w′ schema t = ap (λ (l : List ℕ). over l schema) (same-is w w′ t)
+
+verdict-holds : (x : Case) → acceptance (x .file) ≡ Accepted (x .relations) (x .nodes) → blockedOf (x .relations) (lastOf x) ≡ x .blocked → T (witnessPasses (ltb (x .blocked) 16) (witnessOf (x .relations) (lastOf x)) (x .witness)) → 0 < x .nodes → (work schema : List ℕ) → x .nodes * 1024 ≤ length work → 4104 ≤ length schema → VerdictHolds x work schema
+verdict-holds x accepted blocked t some work schema space slice =
+    let goes : Goes (acceptance (x .file)) (x .nodes - 1) (length work) (length schema) (x .relations) (x .nodes) = record { accepted = accepted; node = omega arith; workSpace = space; slice = slice } in
+    record {
+      answer = verdict-answer (x .file) (x .nodes - 1) work schema (x .relations) (x .nodes) goes ∙ ap (λ (b : ℕ). judged (ltb b 16) b (x .relations)) blocked;
+      slice =
+          verdict-schema (x .file) (x .nodes - 1) work schema (x .relations) (x .nodes) goes
+          ∙ ap (λ (b : ℕ). cond (ltb b 16) schema (over (witnessOf (x .relations) (lastOf x)) schema)) blocked
+          ∙ witness-is (ltb (x .blocked) 16) (witnessOf (x .relations) (lastOf x)) (x .witness) schema t;
+    }
 
 case-holds : (x : Case) → T (passes x) → Holds x
 unfolding passes
@@ -148,12 +152,18 @@ case-holds x t =
     let a = accepts (acceptance (x .file)) (x .relations) (x .nodes) in
     let c = columnsPass (x .relations) (lastOf x) (x .columns) in
     let b = eqb (blockedOf (x .relations) (lastOf x)) (x .blocked) in
-    let w = witnessPasses (eqb (x .blocked) 16) (x .relations) (lastOf x) (x .witness) in
+    let w = witnessPasses (ltb (x .blocked) 16) (witnessOf (x .relations) (lastOf x)) (x .witness) in
+    let n = ltb 0 (x .nodes) in
+    let upToW = first (a && c && b && w) n t in
+    let upToB = first (a && c && b) w upToW in
+    let upToC = first (a && c) b upToB in
+    let accepted = accepts-is (acceptance (x .file)) (x .relations) (x .nodes) (first a c upToC) in
     record {
-      accepted = accepts-is (acceptance (x .file)) (x .relations) (x .nodes) (first a c (first (a && c) b (first (a && c && b) w t)));
-      columns = columns-hold (x .relations) (lastOf x) (x .columns) (second a c (first (a && c) b (first (a && c && b) w t)));
-      verdict = eqb→eq (blockedOf (x .relations) (lastOf x)) (x .blocked) (second (a && c) b (first (a && c && b) w t));
-      witness = witness-is (eqb (x .blocked) 16) (x .relations) (lastOf x) (x .witness) (second (a && c && b) w t);
+      accepted = accepted;
+      columns = columns-hold (x .relations) (lastOf x) (x .columns) (second a c upToC);
+      verdict =
+          verdict-holds x accepted (eqb→eq (blockedOf (x .relations) (lastOf x)) (x .blocked) (second (a && c) b upToB)) (second (a && c && b) w upToW)
+          (ltb→lt 0 (x .nodes) (second (a && c && b && w) n t));
     }
 
 abbrev pub none : Case

@@ -12,6 +12,7 @@ use Rattle.expression.specs.ReadNode.{readNode, readFields, withBinary, withSet
 use Rattle.expression.specs.ReadFile.{acceptance, parse, header, readNodes, entryAt, entriesOf}
 use Rattle.formula.specs.Expressions.{expressionAt, earlier}
 use Rattle.formula.specs.Stored.{allowedBit, outputBit}
+use Rattle.verdict.specs.Cells.{subsetOf, blockedOf}
 use Rattle.listing.specs.Text.{textOf, listing, nodeLine, relationLine, outLine, attributeLine, namedBelow, isBlocked, each, subsetText, hexDigit, decimal}
 
 -- σ{2,3}((ρ1/2(r0) ∪ r1) ⋈ r2)
@@ -28,5 +29,5 @@ pub e1-text :
     ∷ 97 ∷ 49 ∷ 58 ∷ 32 ∷ 48 ∷ 49 ∷ 45 ∷ 32 ∷ 48 ∷ 53 ∷ 43 ∷ 10
     ∷ 97 ∷ 50 ∷ 58 ∷ 32 ∷ 48 ∷ 50 ∷ 43 ∷ 32 ∷ 48 ∷ 54 ∷ 43 ∷ 10
     ∷ 97 ∷ 51 ∷ 58 ∷ 32 ∷ 48 ∷ 51 ∷ 43 ∷ 32 ∷ 48 ∷ 52 ∷ 43 ∷ 32 ∷ 48 ∷ 55 ∷ 43 ∷ 10 ∷ []
-unfolding textOf listing nodeLine relationLine outLine attributeLine namedBelow isBlocked each subsetText hexDigit decimal acceptance expressionAt allowedBit outputBit bit lowestFrom hasAttribute parse header readNodes readNode readFields refuse inRange entryAt entriesOf earlier special setOf binaryCode setCode withBinary withSet
+unfolding textOf listing nodeLine relationLine outLine attributeLine namedBelow isBlocked each subsetText hexDigit decimal acceptance expressionAt allowedBit outputBit bit subsetOf blockedOf lowestFrom hasAttribute parse header readNodes readNode readFields refuse inRange entryAt entriesOf earlier special setOf binaryCode setCode withBinary withSet
 e1-text = refl

@@ -4,20 +4,18 @@ use mathlib.Core.Path.{_≡_, ap, ap₂, _∙_}
 use mathlib.Core.Bool.{Bool, cond, _&&_}
 use mathlib.Core.List.{List, [], _∷_, _++_}
 use native.Mathlib.Omega.{arith}
-use lib.Dec.{eqb, ltb}
+use lib.Dec.{ltb}
 use Rattle.bits.specs.Bit.{bit}
-use Rattle.bits.specs.Lowest.{lowestFrom, lowest-same}
 use Rattle.attribute_set.specs.declared.AttrSet.{AttrSet}
 use Rattle.attribute_set.specs.AttrSet.{hasAttribute}
 use Rattle.algebra.specs.Expression.{Expression}
 use Rattle.expression.specs.ReadFile.{nodeAt}
 use Rattle.formula.specs.Expressions.{expressionAt}
-use Rattle.formula.specs.Column.{allowedIn}
 use Rattle.formula.specs.Storage.{columnAt}
 use Rattle.formula.specs.Stored.{allowedBit, outputBit, cellColumn}
 use Rattle.formula.specs.NodeColumn.{cell-allowed, cell-output}
 use Rattle.verdict.specs.Verdict.{blockedIn}
-use Rattle.verdict.specs.VerdictLaws.{blocked-columns}
+use Rattle.verdict.specs.Cells.{blocked-cells}
 use Rattle.listing.specs.declared.entries.Kind.the-variants.{Variables, Output, Signed}
 use Rattle.listing.specs.Text.{decimal, subsetText, each, whenSo, newline, isBlocked, verdictText, nodeLine, relationLine, outLine, attributeLine, namedBelow, listing}
 use Rattle.listing.specs.TextLaws.{each-same}
@@ -57,12 +55,7 @@ module _ (m : ℕ) (e : Expression) where
 module _ (work : List ℕ) (node m : ℕ) (e : Expression) (columns : (c : ℕ) → c < 16 → columnAt work node c ≡ cellColumn m e c) where
   blocked-is : ltb (blockedIn work node) 16 ≡ isBlocked m e
   unfolding isBlocked
-  blocked-is =
-      ap (λ (x : ℕ). ltb x 16)
-      (blocked-columns work node ∙ lowest-same 15 1 _ _
-      (λ i low high. ap (λ (x : ℕ). eqb x 256)
-      (ap (λ (column : List ℕ). lowestFrom 256 0 (allowedIn column)) (columns i high)
-      ∙ lowest-same 256 0 _ _ (λ s from below. cell-allowed m e i s below))))
+  blocked-is = ap (λ (x : ℕ). ltb x 16) (blocked-cells work node m e columns)
 
   node-line : nodeText (ltb (blockedIn work node) 16) node ≡ nodeLine m e node
   unfolding nodeText nodeLine

@@ -4,7 +4,6 @@ use mathlib.Core.Bool.{Bool, true, false, cond, _&&_, _||_}
 use mathlib.Core.List.{List, [], _∷_, _++_}
 use lib.Dec.{eqb, ltb}
 use Rattle.bits.specs.Bit.{bit}
-use Rattle.bits.specs.Lowest.{lowestFrom}
 use Rattle.attribute_set.specs.AttrSet.{hasAttribute}
 use Rattle.refusal.specs.Number.{numberOf}
 use Rattle.algebra.specs.Expression.{Expression}
@@ -15,6 +14,7 @@ use Rattle.expression.specs.declared.files.Acceptance.the-variants.{Accepted, R
 use Rattle.expression.specs.ReadFile.{acceptance, nodeAt}
 use Rattle.formula.specs.Expressions.{expressionAt}
 use Rattle.formula.specs.Stored.{allowedBit, outputBit}
+use Rattle.verdict.specs.Cells.{blockedOf}
 
 -- ---- characters
 
@@ -46,7 +46,7 @@ newline = 10 ∷ []
 
 -- "untypable": some special column allows nothing
 unfoldable pub isBlocked : ℕ → Expression → Bool
-isBlocked m e = ltb (lowestFrom 15 1 (λ i. eqb (lowestFrom 256 0 (allowedBit m e i)) 256)) 16
+isBlocked m e = ltb (blockedOf m e) 16
 
 -- " typable" or " untypable"
 abbrev pub verdictText : Bool → List ℕ

@@ -4,6 +4,7 @@ pub mod Witness
 pub mod WitnessLaws
 pub mod Verdict
 pub mod VerdictLaws
+pub mod Cells
 pub mod StoredFormula
 pub mod Judged
 pub mod Theorems

@@ -6,7 +6,7 @@ use native.Mathlib.Omega.{arith}
 use borrow.Author.Tests.{lt-ltb, le-ltb, le-leb, lt-leb}
 use lib.Dec.{eqb}
 use lib.ListN.{length, getD}
-use Rattle.bits.specs.Lowest.{lowestFrom, lowest-same}
+use Rattle.bits.specs.Lowest.{lowestFrom}
 use Rattle.bits.specs.Tab.{tab, length-tab, getD-tab, over}
 use Rattle.refusal.specs.Chain.{refuse}
 use Rattle.refusal.specs.declared.Refusal.{Refusal}
@@ -15,7 +15,6 @@ use Rattle.expression.specs.declared.files.Acceptance.{Acceptance}
 use Rattle.expression.specs.declared.files.Acceptance.the-variants.{Accepted, Refused as FileRefused}
 use Rattle.expression.specs.ReadFile.{acceptance}
 use Rattle.formula.specs.Expressions.{expressionAt}
-use Rattle.formula.specs.Column.{allowedIn}
 use Rattle.formula.specs.Storage.{columnAt}
 use Rattle.formula.specs.Stored.{cellColumn, storedByte, formulasOf}
 use Rattle.formula.specs.StoredLaws.{stored-column}
@@ -32,11 +31,6 @@ use Rattle.verdict.specs.declared.operation.Outcome.the-variants.{Typabl
 pub blocked-found : (work subsets : List ℕ) (k blocked : ℕ) → subsets ≡ subsetsIn work k → blocked ≡ lowestFrom 15 1 (λ i. eqb (getD subsets i 0) 256) → blocked ≡ blockedIn work k
 unfolding blockedIn subsetIn
 blocked-found work subsets k blocked are found = found ∙ ap (λ (s : List ℕ). lowestFrom 15 1 (λ i. eqb (getD s i 0) 256)) are
-
--- off the columns
-pub blocked-columns : (work : List ℕ) (k : ℕ) → blockedIn work k ≡ lowestFrom 15 1 (λ i. eqb (lowestFrom 256 0 (allowedIn (columnAt work k i))) 256)
-unfolding blockedIn subsetIn subsetsIn
-blocked-columns work k = lowest-same 15 1 _ _ (λ i low high. ap (λ (x : ℕ). eqb x 256) (getD-tab 16 (λ i. lowestFrom 256 0 (allowedIn (columnAt work k i))) i 0 high))
 
 module _ (work : List ℕ) (m k : ℕ) (schema subsets : List ℕ) (blocked : ℕ) (subsets-are : subsets ≡ subsetsIn work k) (found : blocked ≡ lowestFrom 15 1 (λ i. eqb (getD subsets i 0) 256)) where
   blocked-is : blocked ≡ blockedIn work k
