@@ -26,6 +26,19 @@ use Rattle.expression.specs.declared.reader.Reading.{Reading}
 use Rattle.expression.specs.declared.reader.Reading.the-variants.{Read, Refused}
 use Rattle.expression.specs.ReadNode.{withBinary, withSet, legal, readFields, readNode}
 
+-- a legal map is one of five
+pub legal-cases : (map : ℕ) (P : ℕ → Type 0) → P 1 → P 14 → P 26 → P 98 → P 34 → legal map ≡ true → P map
+legal-cases map P one fourteen twentysix ninetyeight thirtyfour =
+    go (eqb map 1) refl (eqb map 14) refl (eqb map 26) refl (eqb map 98) refl (eqb map 34) refl
+  where
+    go : (a : Bool) → eqb map 1 ≡ a → (b : Bool) → eqb map 14 ≡ b → (c : Bool) → eqb map 26 ≡ c → (d : Bool) → eqb map 98 ≡ d → (e : Bool) → eqb map 34 ≡ e → a || b || c || d || e ≡ true → P map
+    go true i b j c k d l e n h = subst P (sym (eqb-true map 1 i)) one
+    go false i true j c k d l e n h = subst P (sym (eqb-true map 14 j)) fourteen
+    go false i false j true k d l e n h = subst P (sym (eqb-true map 26 k)) twentysix
+    go false i false j false k true l e n h = subst P (sym (eqb-true map 98 l)) ninetyeight
+    go false i false j false k false l true n h = subst P (sym (eqb-true map 34 n)) thirtyfour
+    go false i false j false k false l false n h = absurd (let z : _≡_ {A = ℕ} 0 1 = cc in omega arith)
+
 -- node k of a file with m relations
 abbrev pub LegalNode : ℕ → ℕ → Node → Type 0
 LegalNode m k (Relation r) = r < m
@@ -112,27 +125,12 @@ module _ (m k : ℕ) (bytes : List ℕ) where
       by-refuse _ _ (lit≤ tt) λ old.
       by-read _ _ (leb-false _ _ operand, not-false _ old) (ltb-false _ _ enough) tt tt
 
-  -- a legal map is one of five
-  by-map : (map : ℕ) → legal map ≡ true → Judged m k bytes (readFields m k map bytes)
-  by-map map = go (eqb map 1) (eqb map 14) (eqb map 26) (eqb map 98) (eqb map 34) refl refl refl refl refl
-    where
-      at : (v : ℕ) → eqb map v ≡ true → Judged m k bytes (readFields m k v bytes) → Judged m k bytes (readFields m k map bytes)
-      at v e h = subst (λ (x : ℕ). Judged m k bytes (readFields m k x bytes)) (sym (eqb-true map v e)) h
-
-      go : (a b c d f : Bool) → eqb map 1 ≡ a → eqb map 14 ≡ b → eqb map 26 ≡ c → eqb map 98 ≡ d → eqb map 34 ≡ f → a || b || c || d || f ≡ true → Judged m k bytes (readFields m k map bytes)
-      go true b c d f ea eb ec ed ef h = at 1 ea relation-judged
-      go false true c d f ea eb ec ed ef h = at 14 eb binary-judged
-      go false false true d f ea eb ec ed ef h = at 26 ec with-set-judged
-      go false false false true f ea eb ec ed ef h = at 98 ed renaming-judged
-      go false false false false true ea eb ec ed ef h = at 34 ef projecting-out-judged
-      go false false false false false ea eb ec ed ef h = absurd (let z : _≡_ {A = ℕ} 0 1 = cc in omega arith)
-
   pub node-judged : Judged m k bytes (readNode m k bytes)
   unfolding readNode
   node-judged =
       by-refuse _ _ (lit≤ tt) λ some.
       by-refuse _ _ (lit≤ tt) λ map.
-      by-map (getD bytes 0 0) (not-false _ map)
+      legal-cases (getD bytes 0 0) (λ (map : ℕ). Judged m k bytes (readFields m k map bytes)) relation-judged binary-judged with-set-judged renaming-judged projecting-out-judged (not-false _ map)
 
 accepted-legal : {m k : ℕ} {bytes : List ℕ} {node : Node} {size : ℕ} → Judged m k bytes (Read node size) → LegalReading m k bytes node size
 accepted-legal (accepted h) = h

@@ -6,3 +6,4 @@ pub mod Legal
 pub mod Accepted
 pub mod Walk
 pub mod RecordLaws
+pub mod Enough

@@ -1,0 +1,117 @@
+-- How much of a file its acceptance depends on: its first 323 bytes.
+use Prim.Native.Nat.{ℕ, zero, suc, _+_, _*_, _≤_, _<_}
+use mathlib.Core.Path.{_≡_, refl, sym, ap, _∙_}
+use mathlib.Core.Bool.{Bool, true, false, not}
+use mathlib.Core.List.{List, [], _∷_, _++_}
+use native.Mathlib.Decide.{decLe}
+use native.Mathlib.Omega.{arith}
+use borrow.Author.Tests.{le-ltb}
+use lib.ListN.{length, take, drop, length-drop, take-append-drop}
+use lib.Seq.{length-take-le, take-all, drop-append-le}
+use Rattle.bits.specs.Range.{inRange}
+use Rattle.refusal.specs.Chain.{refuse}
+use Rattle.refusal.specs.declared.Refusal.the-variants.{HeaderTruncated, RelationCount, NodeCount, NodeTruncated, NodeMap}
+use Rattle.expression.specs.declared.reader.Reading.{Reading}
+use Rattle.expression.specs.declared.reader.Reading.the-variants.{Read, Refused as NodeRefused}
+use Rattle.expression.specs.declared.files.Acceptance.{Acceptance}
+use Rattle.expression.specs.declared.files.Acceptance.the-variants.{Accepted, Refused}
+use Rattle.expression.specs.ReadNode.{fieldsOf, valueOf, judge, legal, nodeWith, readFields, readNode}
+use Rattle.expression.specs.ReadFile.{Entry, Nodes, nodesRead, nodesRefused, precede, follow, readNodes, header, collect, afterHeader, parse, answer, acceptance}
+use Rattle.expression.specs.Legal.{legal-cases, node-legal}
+use Rattle.expression.specs.Accepted.{header-counts}
+
+-- ---- a node: five bytes are enough
+
+five-fields : (m k map x y z u v : ℕ) (r : List ℕ) → legal map ≡ true → readFields m k map (x ∷ y ∷ z ∷ u ∷ v ∷ r) ≡ readFields m k map (x ∷ y ∷ z ∷ u ∷ v ∷ [])
+unfolding readFields
+five-fields m k map x y z u v r =
+    legal-cases map (λ (c : ℕ). readFields m k c (x ∷ y ∷ z ∷ u ∷ v ∷ r) ≡ readFields m k c (x ∷ y ∷ z ∷ u ∷ v ∷ []))
+    (ap (λ (t : Bool). refuse NodeRefused t NodeTruncated (judge m k 1 (x ∷ y ∷ z ∷ u ∷ v ∷ []) (fieldsOf 1) (nodeWith 1 (valueOf 1 (x ∷ y ∷ z ∷ u ∷ v ∷ [])) 2))) (le-ltb (length (x ∷ y ∷ z ∷ u ∷ v ∷ r)) 2 (omega arith)))
+    (ap (λ (t : Bool). refuse NodeRefused t NodeTruncated (judge m k 14 (x ∷ y ∷ z ∷ u ∷ v ∷ []) (fieldsOf 14) (nodeWith 14 (valueOf 14 (x ∷ y ∷ z ∷ u ∷ v ∷ [])) 4))) (le-ltb (length (x ∷ y ∷ z ∷ u ∷ v ∷ r)) 4 (omega arith)))
+    (ap (λ (t : Bool). refuse NodeRefused t NodeTruncated (judge m k 26 (x ∷ y ∷ z ∷ u ∷ v ∷ []) (fieldsOf 26) (nodeWith 26 (valueOf 26 (x ∷ y ∷ z ∷ u ∷ v ∷ [])) 5))) (le-ltb (length (x ∷ y ∷ z ∷ u ∷ v ∷ r)) 5 (omega arith)))
+    (ap (λ (t : Bool). refuse NodeRefused t NodeTruncated (judge m k 98 (x ∷ y ∷ z ∷ u ∷ v ∷ []) (fieldsOf 98) (nodeWith 98 (valueOf 98 (x ∷ y ∷ z ∷ u ∷ v ∷ [])) 4))) (le-ltb (length (x ∷ y ∷ z ∷ u ∷ v ∷ r)) 4 (omega arith)))
+    (ap (λ (t : Bool). refuse NodeRefused t NodeTruncated (judge m k 34 (x ∷ y ∷ z ∷ u ∷ v ∷ []) (fieldsOf 34) (nodeWith 34 (valueOf 34 (x ∷ y ∷ z ∷ u ∷ v ∷ [])) 3))) (le-ltb (length (x ∷ y ∷ z ∷ u ∷ v ∷ r)) 3 (omega arith)))
+
+five-bytes : (m k x y z u v : ℕ) (r : List ℕ) → readNode m k (x ∷ y ∷ z ∷ u ∷ v ∷ r) ≡ readNode m k (x ∷ y ∷ z ∷ u ∷ v ∷ [])
+unfolding readNode refuse
+five-bytes m k x y z u v r =
+    ap (λ (t : Bool). refuse NodeRefused t NodeTruncated (refuse NodeRefused (not (legal x)) NodeMap (readFields m k x (x ∷ y ∷ z ∷ u ∷ v ∷ r)))) (le-ltb (length (x ∷ y ∷ z ∷ u ∷ v ∷ r)) 1 (omega arith))
+    ∙ ap (λ (n : Reading). refuse NodeRefused false NodeTruncated n) (go (legal x) refl)
+  where
+    refused : (p q : Reading) → refuse NodeRefused true NodeMap p ≡ refuse NodeRefused true NodeMap q
+    refused p q = refl
+
+    go : (t : Bool) → legal x ≡ t → refuse NodeRefused (not (legal x)) NodeMap (readFields m k x (x ∷ y ∷ z ∷ u ∷ v ∷ r)) ≡ refuse NodeRefused (not (legal x)) NodeMap (readFields m k x (x ∷ y ∷ z ∷ u ∷ v ∷ []))
+    go true e = ap (λ (n : Reading). refuse NodeRefused (not (legal x)) NodeMap n) (five-fields m k x x y z u v r e)
+    go false e =
+        ap (λ (t : Bool). refuse NodeRefused (not t) NodeMap (readFields m k x (x ∷ y ∷ z ∷ u ∷ v ∷ r))) e
+        ∙ refused (readFields m k x (x ∷ y ∷ z ∷ u ∷ v ∷ r)) (readFields m k x (x ∷ y ∷ z ∷ u ∷ v ∷ []))
+        ∙ sym (ap (λ (t : Bool). refuse NodeRefused (not t) NodeMap (readFields m k x (x ∷ y ∷ z ∷ u ∷ v ∷ []))) e)
+
+node-enough : (m k : ℕ) (a b : List ℕ) → 5 ≤ length a → readNode m k (a ++ b) ≡ readNode m k a
+node-enough m k (x ∷ y ∷ z ∷ u ∷ v ∷ r) b h = five-bytes m k x y z u v (r ++ b) ∙ sym (five-bytes m k x y z u v r)
+node-enough m k [] b h = absurd (omega arith)
+node-enough m k (x ∷ []) b h = absurd (omega arith)
+node-enough m k (x ∷ y ∷ []) b h = absurd (omega arith)
+node-enough m k (x ∷ y ∷ z ∷ []) b h = absurd (omega arith)
+node-enough m k (x ∷ y ∷ z ∷ u ∷ []) b h = absurd (omega arith)
+
+-- ---- so many nodes: more than five bytes each are enough
+
+-- the answer does not depend on the entries
+answer-precede : (m n : ℕ) (e : Entry) (ns : Nodes) → answer (collect m n (precede e ns)) ≡ answer (collect m n ns)
+answer-precede m n e (nodesRefused r) = refl
+answer-precede m n e (nodesRead es) = refl
+
+nodes-enough : (m n count k : ℕ) (a b : List ℕ) → 5 * count < length a → answer (collect m n (readNodes m count k (a ++ b))) ≡ answer (collect m n (readNodes m count k a))
+unfolding readNodes
+nodes-enough m n zero k [] b h = absurd (omega arith)
+nodes-enough m n zero k (x ∷ a) b h = refl
+nodes-enough m n (suc count) k a b h =
+    ap (λ (reading : Reading). answer (collect m n (follow reading (a ++ b) (λ rest. readNodes m count (k + 1) rest)))) (node-enough m k a b (omega arith))
+    ∙ go (nodes-enough m n count (k + 1)) (readNode m k a) refl
+  where
+    go : ((a b : List ℕ) → 5 * count < length a → answer (collect m n (readNodes m count (k + 1) (a ++ b))) ≡ answer (collect m n (readNodes m count (k + 1) a))) → (reading : Reading) → readNode m k a ≡ reading → answer (collect m n (follow reading (a ++ b) (λ rest. readNodes m count (k + 1) rest))) ≡ answer (collect m n (follow reading a (λ rest. readNodes m count (k + 1) rest)))
+    go rest (NodeRefused r) e = refl
+    go rest (Read node size) e =
+        let most = node-legal m k a node size e .most in
+        let left = length-drop size a in
+        answer-precede m n _ (readNodes m count (k + 1) (drop size (a ++ b)))
+        ∙ ap (λ (bytes : List ℕ). answer (collect m n (readNodes m count (k + 1) bytes))) (drop-append-le size a b (omega arith))
+        ∙ rest (drop size a) b (omega arith)
+        ∙ sym (answer-precede m n _ (readNodes m count (k + 1) (drop size a)))
+
+-- ---- the file
+
+header-enough : (a b : List ℕ) → 2 ≤ length a → header (a ++ b) ≡ header a
+unfolding header
+header-enough [] b h = absurd (omega arith)
+header-enough (x ∷ []) b h = absurd (omega arith)
+header-enough (x ∷ y ∷ a) b h =
+    let next =
+    refuse Refused (not (inRange 1 8 x)) RelationCount (refuse Refused (not (inRange 1 64 y)) NodeCount (Accepted x y))
+    in
+    ap (λ (t : Bool). refuse Refused t HeaderTruncated next) (le-ltb (length (x ∷ y ∷ (a ++ b))) 2 (omega arith) ∙ sym (le-ltb (length (x ∷ y ∷ a)) 2 (omega arith)))
+
+long-enough : (a b : List ℕ) → 323 ≤ length a → acceptance (a ++ b) ≡ acceptance a
+unfolding acceptance parse
+long-enough a b h =
+    ap (λ (x : Acceptance). answer (afterHeader x (a ++ b))) (header-enough a b (omega arith)) ∙ go (header a) refl
+  where
+    go : (x : Acceptance) → header a ≡ x → answer (afterHeader x (a ++ b)) ≡ answer (afterHeader x a)
+    go (Refused r) e = refl
+    go (Accepted m n) e =
+        let most = header-counts a m n e .nodes .1 in
+        let left = length-drop 2 a in
+        ap (λ (bytes : List ℕ). answer (collect m n (readNodes m n 0 bytes))) (drop-append-le 2 a b (omega arith))
+        ∙ nodes-enough m n n 0 (drop 2 a) b (omega arith)
+
+-- no acceptance and no refusal depends on later bytes
+pub enough : (file : List ℕ) → acceptance (take 323 file) ≡ acceptance file
+enough file = go (decLe (length file) 323)
+  where
+    go : Dec (length file ≤ 323) → acceptance (take 323 file) ≡ acceptance file
+    go (yes h) = ap acceptance (take-all 323 file h)
+    go (no h) =
+        let size = length-take-le 323 file (omega arith) in
+        sym (long-enough (take 323 file) (drop 323 file) (omega arith)) ∙ ap acceptance (take-append-drop 323 file)
