@@ -24,20 +24,31 @@ fn has_function(archive: &Path, name: &str) -> bool {
         .any(|part| part == name.as_bytes())
 }
 
-/// Sets `verdict_in_archive` if the archive has Verdict. The benchmark program, which is
-/// linked with every test, uses the engine only then.
+/// Functions that an archive may lack, each with the setting that tells that it has it.
+const FUNCTIONS: [(&str, &str); 2] = [
+    ("type_formula_verdict", "verdict_in_archive"),
+    ("type_formula_typing", "typing_in_archive"),
+];
+
+/// Sets `verdict_in_archive` if the archive has Verdict, and `typing_in_archive` if it
+/// has Typing. The benchmark program, which is linked with every test, uses each only
+/// then, and the tests of Typing are left out without it.
 fn main() {
     let directory = archive_directory();
     let archive = directory.join("libexports.a");
     println!("cargo:rerun-if-env-changed={DIRECTORY_VARIABLE}");
     println!("cargo:rerun-if-changed={}", archive.display());
-    println!("cargo:rustc-check-cfg=cfg(verdict_in_archive)");
+    for (_, setting) in FUNCTIONS {
+        println!("cargo:rustc-check-cfg=cfg({setting})");
+    }
     if !archive.exists() {
         println!("cargo:warning=no archive: only tests without the engine can be linked");
         return;
     }
-    if has_function(&archive, "type_formula_verdict") {
-        println!("cargo:rustc-cfg=verdict_in_archive");
+    for (function, setting) in FUNCTIONS {
+        if has_function(&archive, function) {
+            println!("cargo:rustc-cfg={setting}");
+        }
     }
     println!("cargo:rustc-link-search=native={}", directory.display());
     println!("cargo:rustc-link-lib=static=exports");

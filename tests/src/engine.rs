@@ -14,6 +14,9 @@ const LIST_PROGRAM_VARIABLE: &str = "TYPE_FORMULA_LIST_PROGRAM";
 /// The answer of Verdict for an untypable node.
 pub const UNTYPABLE: u8 = 255;
 
+/// The answer of Typing for a node that the schema does not type.
+pub const UNTYPED: u8 = 255;
+
 extern "C" {
     fn type_formula_accept(
         file: *const u8,
@@ -42,6 +45,17 @@ extern "C" {
         work_len: usize,
         schema: *mut u8,
         schema_len: usize,
+        value: *mut usize,
+    ) -> u8;
+
+    fn type_formula_typing(
+        file: *const u8,
+        file_len: usize,
+        node: usize,
+        schema: *const u8,
+        schema_len: usize,
+        out: *mut u8,
+        out_len: usize,
         value: *mut usize,
     ) -> u8;
 }
@@ -101,6 +115,27 @@ pub fn verdict(
             work.len(),
             schema.as_mut_ptr(),
             schema.len(),
+            value,
+        )
+    }
+}
+
+/// Typing: 0 if the schema types the node, and then writes the output record and its
+/// length; 255 if it does not; else the number of the first refusal. The result slice
+/// and the value stay unless the answer is 0.
+#[inline]
+pub fn typing(file: &[u8], node: usize, schema: &[u8], out: &mut [u8], value: &mut usize) -> u8 {
+    // SAFETY: pointers and lengths are those of slices; result slice and value are
+    // writable.
+    unsafe {
+        type_formula_typing(
+            file.as_ptr(),
+            file.len(),
+            node,
+            schema.as_ptr(),
+            schema.len(),
+            out.as_mut_ptr(),
+            out.len(),
             value,
         )
     }

@@ -102,6 +102,76 @@ pub fn e10() -> Example {
     }
 }
 
+/// Eight relations and their natural join, the last of 15 nodes.
+pub fn join_of_eight() -> Vec<Node> {
+    let mut nodes: Vec<Node> = (0..8).map(|relation| Node::Relation { relation }).collect();
+    nodes.push(Node::NaturalJoin { left: 0, right: 1 });
+    nodes.extend((2..8).map(|right| Node::NaturalJoin {
+        left: right + 6,
+        right,
+    }));
+    nodes
+}
+
+/// For each operator of two operands a file of 63 pairs of the node before, over
+/// relation 7 of 8.
+pub fn pairs_of_the_node_before() -> Vec<Vec<u8>> {
+    let pairs: [fn(u8) -> Node; 4] = [
+        |left| Node::Union { left, right: left },
+        |left| Node::Difference { left, right: left },
+        |left| Node::NaturalJoin { left, right: left },
+        |left| Node::Product { left, right: left },
+    ];
+    let file = |pair: fn(u8) -> Node| {
+        let first = Node::Relation { relation: 7 };
+        let nodes: Vec<Node> = [first].into_iter().chain((0..63).map(pair)).collect();
+        encode_file(8, &nodes)
+    };
+    pairs.into_iter().map(file).collect()
+}
+
+/// Each node with this number, of attributes 1 and 2.
+fn every_node(relations: u8, number: u8) -> Vec<Node> {
+    let mut nodes: Vec<Node> = (0..relations)
+        .map(|relation| Node::Relation { relation })
+        .collect();
+    for left in 0..number {
+        for right in 0..number {
+            nodes.extend([
+                Node::Union { left, right },
+                Node::Difference { left, right },
+                Node::NaturalJoin { left, right },
+                Node::Product { left, right },
+            ]);
+        }
+        let operand = left;
+        for set in [0, 2, 4, 6] {
+            nodes.push(Node::Selection { operand, set });
+            nodes.push(Node::Projection { operand, set });
+        }
+        for old in [1, 2] {
+            nodes.push(Node::ProjectingOut { operand, old });
+            nodes.extend([1, 2].map(|new| Node::Renaming { operand, old, new }));
+        }
+    }
+    nodes
+}
+
+/// Every file with m 1 or 2, three nodes, and attributes 1 and 2.
+pub fn smallest_files() -> Vec<Vec<u8>> {
+    let mut files = Vec::new();
+    for relations in 1..=2 {
+        for first in every_node(relations, 0) {
+            for second in every_node(relations, 1) {
+                for third in every_node(relations, 2) {
+                    files.push(encode_file(relations, &[first, second, third]));
+                }
+            }
+        }
+    }
+    files
+}
+
 /// Node numbers to ask: each node of an accepted file, or a few of a refused one;
 /// n; and numbers that would be below n if cut to fewer bits.
 pub fn node_numbers(bytes: &[u8], expected: &Result<File, u8>) -> Vec<usize> {

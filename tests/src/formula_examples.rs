@@ -1,4 +1,5 @@
-//! Examples of document 01 with the formula, verdict and listing of their last node.
+//! Examples of document 01 with the formula, verdict, typings and listing of their last
+//! node.
 
 use crate::examples::{e10_nodes, e1_nodes};
 use crate::reference::{
@@ -17,6 +18,8 @@ pub struct FormulaExample {
     pub other_columns: &'static str,
     /// The witness as hexadecimal pairs, or the attribute whose column allows nothing.
     pub verdict: Result<&'static str, u8>,
+    /// Schemas with the output record under them, none if untyped; hexadecimal pairs.
+    pub typings: &'static [(&'static str, Option<&'static str>)],
     /// The text that the listing program prints.
     pub listing: &'static str,
 }
@@ -63,16 +66,8 @@ fn projection(operand: u8, set: u16) -> Node {
     Node::Projection { operand, set }
 }
 
-/// E1 with the witness of E2.
-fn e1() -> FormulaExample {
-    FormulaExample {
-        name: "E1",
-        relations: 3,
-        nodes: e1_nodes(),
-        columns: &[(1, "01- 05+"), (2, "02+ 06+"), (3, "03+ 04+ 07+")],
-        other_columns: "00- 03+ 04+ 07+",
-        verdict: Ok("0a 00 0c 00 00 00"),
-        listing: "\
+/// The text that the listing program prints for E1, as document 01 has it.
+pub const E1_LISTING: &str = "\
 node 6 typable
 r0: 03 07
 r1: 03 07
@@ -81,7 +76,56 @@ out: 03 04 07
 a1: 01- 05+
 a2: 02+ 06+
 a3: 03+ 04+ 07+
-",
+";
+
+/// The witness of E1.
+pub const E2_SCHEMA: &str = "0a 00 0c 00 00 00";
+
+/// The columns of E1's last node: the first byte of the allowed and of the output
+/// subsets; all other bytes are zero.
+pub fn e1_columns() -> [[u8; COLUMN_LENGTH]; COLUMNS] {
+    let mut columns = [[0; COLUMN_LENGTH]; COLUMNS];
+    for (number, column) in columns.iter_mut().enumerate() {
+        (column[0], column[OUTPUT_START]) = match number {
+            1 => (0x22, 0x20),
+            2 => (0x44, 0x44),
+            3 => (0x98, 0x98),
+            _ => (0x99, 0x98),
+        };
+    }
+    columns
+}
+
+/// E1 with the witness of E2.
+fn e1() -> FormulaExample {
+    FormulaExample {
+        name: "E1",
+        relations: 3,
+        nodes: e1_nodes(),
+        columns: &[(1, "01- 05+"), (2, "02+ 06+"), (3, "03+ 04+ 07+")],
+        other_columns: "00- 03+ 04+ 07+",
+        verdict: Ok(E2_SCHEMA),
+        typings: &[
+            ("0a 00 0d 00 01 14 00 00 00", None),
+            ("0a 00 0c 00 01 00 01 14 00", Some("0d 00 01 14 00")),
+            ("0b 00 01 14 00 0c 00 01 00 01 14 00", None),
+            (
+                "0b 00 01 14 00 0d 00 01 14 00 01 00 01 14 00",
+                Some("0d 00 01 14 00"),
+            ),
+            (
+                "0b 00 02 10 00 ff ff 0d 00 02 10 00 ff ff 01 00 01 00 01",
+                Some("0d 00 03 10 00 00 01 ff ff"),
+            ),
+            ("0a 00 0c 00 fe ff", Some("fe ff")),
+            ("fa ff fc ff 00 00", Some("fc ff")),
+            ("08 00 0c 00 00 00", None),
+            ("0e 00 0c 00 00 00", None),
+            ("0a 00 0e 00 00 00", None),
+            ("02 00 04 00 00 00", None),
+            ("00 00 00 00 00 00", None),
+        ],
+        listing: E1_LISTING,
     }
 }
 
@@ -98,6 +142,7 @@ fn e5() -> FormulaExample {
         columns: &[(1, ""), (2, "01+"), (3, "01+")],
         other_columns: "00- 01-",
         verdict: Err(1),
+        typings: &[("00 00", None), ("0e 00", None), ("fe ff", None)],
         listing: "\
 node 2 untypable
 r0: 01
@@ -123,6 +168,7 @@ fn e6() -> FormulaExample {
         columns: &[(1, "")],
         other_columns: "00- 01+",
         verdict: Err(1),
+        typings: &[("00 00", None), ("02 00", None), ("04 00", None)],
         listing: "\
 node 1 untypable
 r0: 01
@@ -141,6 +187,12 @@ fn e7() -> FormulaExample {
         columns: &[],
         other_columns: "00-",
         verdict: Ok("00 00"),
+        typings: &[
+            ("00 00", Some("00 00")),
+            ("02 00", None),
+            ("00 80", None),
+            ("01 00 01 14 00", None),
+        ],
         listing: "\
 node 1 typable
 r0:
@@ -158,6 +210,11 @@ fn e8() -> FormulaExample {
         columns: &[],
         other_columns: "00- 01-",
         verdict: Ok("00 00"),
+        typings: &[
+            ("00 00", Some("00 00")),
+            ("fe ff", Some("00 00")),
+            ("ff ff 02 10 00 ff ff", Some("00 00")),
+        ],
         listing: "\
 node 1 typable
 r0: 01
@@ -176,6 +233,16 @@ fn e9() -> FormulaExample {
         columns: &[(1, "03+")],
         other_columns: "00- 02-",
         verdict: Ok("02 00 02 00"),
+        typings: &[
+            ("02 00 02 00", Some("02 00")),
+            ("02 00 03 00 01 14 00", Some("02 00")),
+            ("02 00 fe ff", Some("02 00")),
+            ("03 00 01 14 00 03 00 01 14 00", None),
+            ("03 00 01 14 00 02 00", None),
+            ("02 00 00 00", None),
+            ("00 00 02 00", None),
+            ("06 00 06 00", None),
+        ],
         listing: "\
 node 3 typable
 r0:
@@ -195,6 +262,18 @@ fn e10() -> FormulaExample {
         columns: &[(1, "02+ 09+ 0b+ 0e+")],
         other_columns: "00- 02+ 09+ 0b+ 0c+ 0e+",
         verdict: Ok("00 00 02 00 00 00 00 00"),
+        typings: &[
+            ("00 00 02 00 00 00 00 00", Some("02 00")),
+            ("02 00 00 00 00 00 02 00", Some("02 00")),
+            (
+                "01 00 01 10 00 02 00 01 00 01 11 00 01 00 02 10 00 11 00",
+                Some("03 00 02 10 00 11 00"),
+            ),
+            ("00 00 00 00 00 00 00 00", None),
+            ("02 00 00 00 02 00 02 00", None),
+            ("00 00 00 00 02 00 02 00", None),
+            ("04 00 02 00 04 00 04 00", None),
+        ],
         listing: "\
 node 8 typable
 r0: 09 0b

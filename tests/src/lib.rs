@@ -4,9 +4,14 @@
 pub mod engine;
 /// Examples and edges of document 01 with their answers.
 pub mod examples;
-/// Examples of document 01 with the formula, verdict and listing of their last node.
+/// Examples of document 01 with the formula, verdict, typings and listing of their last
+/// node.
 pub mod formula_examples;
-/// Seeded generation of files and bytes.
+/// Slices to lend to the engine.
+pub mod lent;
+/// Seeded generation of files, assignments and bytes.
 pub mod random;
 /// The other implementation, written from document 01.
 pub mod reference;
+/// Calls of Typing with their answers.
+pub mod typing_examples;

@@ -1,6 +1,8 @@
-//! Seeded generation of files and bytes.
+//! Seeded generation of files, assignments and bytes.
 
-use crate::reference::{encode_file, Node, LEGAL_MAPS};
+use crate::reference::{
+    allowed_subsets, assignment_of, encode_file, Formula, Node, Type, COLUMNS, LEGAL_MAPS,
+};
 
 /// The generator splitmix64.
 pub struct Random {
@@ -169,6 +171,74 @@ impl Random {
             }
             _ if within => bytes[place] = self.likely_byte(),
             _ => bytes.push(self.likely_byte()),
+        }
+    }
+
+    /// An allowed subset of the column if there is one, else the empty one.
+    pub fn allowed_subset(&mut self, formula: &Formula, column: usize) -> usize {
+        match allowed_subsets(formula, column).as_slice() {
+            [] => 0,
+            allowed => allowed[self.below(allowed.len())],
+        }
+    }
+
+    /// An ordinary attribute: most often a low one, sometimes any, sometimes one at a
+    /// limit of a byte or of two.
+    fn ordinary_attribute(&mut self) -> u32 {
+        match self.below(8) {
+            0 => [16, 255, 256, 65_535][self.below(4)],
+            1..=3 => 16 + self.below(65_520) as u32,
+            _ => 16 + self.below(40) as u32,
+        }
+    }
+
+    /// So many different ordinary attributes.
+    pub fn ordinary_attributes(&mut self, count: usize) -> Type {
+        let mut attributes = Type::new();
+        while attributes.len() < count {
+            attributes.insert(self.ordinary_attribute());
+        }
+        attributes
+    }
+
+    /// The image of an instantiation of the formula: each special attribute has a
+    /// subset that its column allows, and so many ordinary attributes are in lists of
+    /// type variables. Where there is no such subset or variable, no relation has the
+    /// attribute.
+    pub fn image(&mut self, formula: &Formula, relations: u8, ordinary: usize) -> Vec<Type> {
+        let mut subsets: Vec<(u32, usize)> = (1..COLUMNS)
+            .map(|column| (column as u32, self.allowed_subset(formula, column)))
+            .collect();
+        let variables = &allowed_subsets(formula, 0)[1..];
+        if !variables.is_empty() {
+            for attribute in self.ordinary_attributes(ordinary) {
+                subsets.push((attribute, variables[self.below(variables.len())]));
+            }
+        }
+        assignment_of(relations, subsets)
+    }
+
+    /// An attribute that some relation has, if there is one; one time in four any.
+    fn likely_attribute(&mut self, assignment: &[Type]) -> u32 {
+        let held: Vec<u32> = assignment.iter().flatten().copied().collect();
+        match self.below(8) {
+            0 => u32::from(self.attribute()),
+            1 => self.ordinary_attribute(),
+            _ if held.is_empty() => u32::from(self.attribute()),
+            _ => held[self.below(held.len())],
+        }
+    }
+
+    /// Adds an attribute to a relation, or drops it there, or moves it to another one.
+    pub fn disturb_assignment(&mut self, assignment: &mut [Type]) {
+        let attribute = self.likely_attribute(assignment);
+        let relation = self.below(assignment.len());
+        let had = assignment[relation].remove(&attribute);
+        if !had {
+            assignment[relation].insert(attribute);
+        } else if self.below(2) == 0 {
+            let other = self.below(assignment.len());
+            assignment[other].insert(attribute);
         }
     }
 }

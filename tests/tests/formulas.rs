@@ -1,17 +1,17 @@
 //! The engine against the reference: Formula and Verdict.
 
-use std::ops::Range;
 use std::time::{Duration, Instant};
 
 use type_formula_tests::engine::{self, UNTYPABLE};
 use type_formula_tests::examples::{
-    cases, e1, from_hexadecimal, longest_accepted, node_numbers, to_hexadecimal,
+    cases, e1, from_hexadecimal, longest_accepted, node_numbers, pairs_of_the_node_before,
+    smallest_files, to_hexadecimal,
 };
-use type_formula_tests::formula_examples::{formula_examples, FormulaExample};
+use type_formula_tests::formula_examples::{e1_columns, formula_examples, FormulaExample};
+use type_formula_tests::lent::Lent;
 use type_formula_tests::random::Random;
 use type_formula_tests::reference::{
-    encode_file, infer, Inferred, Node, Verdict, COLUMNS, COLUMN_LENGTH, FORMULA_LENGTH,
-    OUTPUT_START, SCHEMA_LENGTH,
+    infer, Inferred, Verdict, COLUMN_LENGTH, FORMULA_LENGTH, SCHEMA_LENGTH,
 };
 
 /// The least number of comparisons of each test.
@@ -47,9 +47,6 @@ const SCHEMA_LENGTHS: [usize; 5] = [
     2 * SCHEMA_LENGTH,
 ];
 
-/// The bytes after each lent slice that must stay too.
-const AFTER: usize = 64;
-
 /// An input with what the reference makes of it.
 struct Input<'a> {
     bytes: &'a [u8],
@@ -77,57 +74,6 @@ impl<'a> Input<'a> {
     fn node_numbers(&self) -> Vec<usize> {
         let file = self.inferred.as_ref().map(|inferred| inferred.file.clone());
         node_numbers(self.bytes, &file.map_err(|&refusal| refusal))
-    }
-}
-
-/// A slice to lend, within a buffer that is filled before; the same bytes again for
-/// the reference.
-#[derive(Default)]
-struct Lent {
-    engine: Vec<u8>,
-    reference: Vec<u8>,
-    place: Range<usize>,
-}
-
-impl Lent {
-    /// Fills the buffers with noise, sometimes with zeros or ones, and places a slice
-    /// of this length at any alignment.
-    fn prepare(&mut self, random: &mut Random, noise: &[u8], length: usize) {
-        let before = random.below(16);
-        let whole = before + length + AFTER;
-        self.place = before..before + length;
-        self.engine.clear();
-        match random.below(8) {
-            0 => self.engine.resize(whole, 0),
-            1 => self.engine.resize(whole, 0xff),
-            _ => {
-                let start = random.below(noise.len() - whole);
-                self.engine.extend_from_slice(&noise[start..start + whole]);
-            }
-        }
-        self.reference.clone_from(&self.engine);
-    }
-
-    fn for_engine(&mut self) -> &mut [u8] {
-        &mut self.engine[self.place.clone()]
-    }
-
-    fn for_reference(&mut self) -> &mut [u8] {
-        &mut self.reference[self.place.clone()]
-    }
-
-    /// The first byte that differs, within the slice or around it.
-    fn difference(&self) -> Option<String> {
-        if self.engine == self.reference {
-            return None;
-        }
-        let mut pairs = self.engine.iter().zip(&self.reference);
-        let at = pairs.position(|(given, wanted)| given != wanted)?;
-        let place = at as isize - self.place.start as isize;
-        let (given, wanted) = (self.engine[at], self.reference[at]);
-        Some(format!(
-            "byte {place}: engine {given:02x}, reference {wanted:02x}"
-        ))
     }
 }
 
@@ -169,7 +115,7 @@ impl Comparisons {
         );
         for (name, lent) in [("work space", &self.work), ("schema", &self.schema)] {
             if let Some(difference) = lent.difference() {
-                let length = lent.place.len();
+                let length = lent.length();
                 let text = to_hexadecimal(before);
                 panic!("{what}, {name} of {length} bytes, {difference}\n{text}");
             }
@@ -346,26 +292,15 @@ fn e1_with_its_witness_and_e5_to_e10_have_their_formulas_and_verdicts() {
     }
 }
 
-/// The first byte of the allowed and of the output subsets of each column of E1's
-/// last node; all other bytes are zero.
 #[test]
 fn e1_has_these_bytes() {
     let mut work = vec![0x55; 7 * FORMULA_LENGTH];
     assert_eq!(engine::formula(&e1().bytes, &mut work), 0);
-    for column in 0..COLUMNS {
-        let (allowed, output) = match column {
-            1 => (0x22, 0x20),
-            2 => (0x44, 0x44),
-            3 => (0x98, 0x98),
-            _ => (0x99, 0x98),
-        };
-        let mut wanted = [0; COLUMN_LENGTH];
-        wanted[0] = allowed;
-        wanted[OUTPUT_START] = output;
+    for (column, wanted) in e1_columns().iter().enumerate() {
         let start = 6 * FORMULA_LENGTH + column * COLUMN_LENGTH;
         assert_eq!(
             work[start..start + COLUMN_LENGTH],
-            wanted,
+            *wanted,
             "column {column}"
         );
     }
@@ -466,45 +401,11 @@ fn every_node_of_random_accepted_files() {
     comparisons.finish("every node", IN_EVERY_NODE);
 }
 
-/// Each node with this number, of attributes 1 and 2.
-fn every_node(relations: u8, number: u8) -> Vec<Node> {
-    let mut nodes: Vec<Node> = (0..relations)
-        .map(|relation| Node::Relation { relation })
-        .collect();
-    for left in 0..number {
-        for right in 0..number {
-            nodes.extend([
-                Node::Union { left, right },
-                Node::Difference { left, right },
-                Node::NaturalJoin { left, right },
-                Node::Product { left, right },
-            ]);
-        }
-        let operand = left;
-        for set in [0, 2, 4, 6] {
-            nodes.push(Node::Selection { operand, set });
-            nodes.push(Node::Projection { operand, set });
-        }
-        for old in [1, 2] {
-            nodes.push(Node::ProjectingOut { operand, old });
-            nodes.extend([1, 2].map(|new| Node::Renaming { operand, old, new }));
-        }
-    }
-    nodes
-}
-
-/// Every file with m 1 or 2, three nodes, and attributes 1 and 2.
 #[test]
 fn all_files_of_three_nodes_two_relations_and_two_attributes() {
     let mut comparisons = Comparisons::new();
-    for relations in 1..=2 {
-        for first in every_node(relations, 0) {
-            for second in every_node(relations, 1) {
-                for third in every_node(relations, 2) {
-                    comparisons.every_node(&encode_file(relations, &[first, second, third]));
-                }
-            }
-        }
+    for bytes in smallest_files() {
+        comparisons.every_node(&bytes);
     }
     assert!(comparisons.typable >= 5_000 && comparisons.untypable >= 500);
     comparisons.finish("all smallest files", IN_ALL_SMALLEST_FILES);
@@ -582,28 +483,14 @@ fn one_work_space_for_many_files() {
     }
 }
 
-/// 63 pairs of the node before, over relation 7 of 8.
-fn pairs_of_the_node_before(pair: fn(u8) -> Node) -> Vec<u8> {
-    let first = Node::Relation { relation: 7 };
-    let nodes: Vec<Node> = [first].into_iter().chain((0..63).map(pair)).collect();
-    encode_file(8, &nodes)
-}
-
 /// Each node is visited once: visits of operands for each use would be 2 to the 63
 /// here and would not end.
 #[test]
 fn sixty_three_pairs_of_the_node_before_end_quickly() {
-    let pairs: [fn(u8) -> Node; 4] = [
-        |left| Node::Union { left, right: left },
-        |left| Node::Difference { left, right: left },
-        |left| Node::NaturalJoin { left, right: left },
-        |left| Node::Product { left, right: left },
-    ];
     let mut comparisons = Comparisons::new();
     let (mut work, mut schema) = (vec![0; 64 * FORMULA_LENGTH], vec![0; SCHEMA_LENGTH]);
     let mut elapsed = Duration::ZERO;
-    for pair in pairs {
-        let bytes = pairs_of_the_node_before(pair);
+    for bytes in pairs_of_the_node_before() {
         comparisons.file(&bytes);
         let start = Instant::now();
         for _ in 0..50 {

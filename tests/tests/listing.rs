@@ -1,8 +1,8 @@
 //! The listing program against the text of the reference. Needs the program.
 
 use type_formula_tests::engine;
-use type_formula_tests::examples::{cases, e1, longest_accepted, to_hexadecimal};
-use type_formula_tests::formula_examples::formula_examples;
+use type_formula_tests::examples::{cases, e1, join_of_eight, longest_accepted, to_hexadecimal};
+use type_formula_tests::formula_examples::{formula_examples, E1_LISTING};
 use type_formula_tests::random::Random;
 use type_formula_tests::reference::{encode_file, listing, Node};
 
@@ -26,19 +26,9 @@ fn relation(relation: u8) -> Node {
 /// The text as document 01 has it.
 #[test]
 fn e1_has_this_text() {
-    let text = "\
-node 6 typable
-r0: 03 07
-r1: 03 07
-r2: 04 07
-out: 03 04 07
-a1: 01- 05+
-a2: 02+ 06+
-a3: 03+ 04+ 07+
-";
     let given = engine::list(&e1().bytes);
-    assert_eq!(String::from_utf8_lossy(&given), text);
-    assert_eq!(compare(&e1().bytes), text);
+    assert_eq!(String::from_utf8_lossy(&given), E1_LISTING);
+    assert_eq!(compare(&e1().bytes), E1_LISTING);
 }
 
 /// E1, which is the file of E2 to E4 too, and E5 to E10, E5 and E6 untypable.
@@ -125,12 +115,7 @@ fn long_random_inputs() {
 /// 255 type variables.
 #[test]
 fn a_join_of_eight_relations() {
-    let mut nodes: Vec<Node> = (0..8).map(relation).collect();
-    nodes.push(Node::NaturalJoin { left: 0, right: 1 });
-    nodes.extend((2..8).map(|right| Node::NaturalJoin {
-        left: right + 6,
-        right,
-    }));
+    let mut nodes = join_of_eight();
     let text = compare(&encode_file(8, &nodes));
     let output = text.lines().last().expect("a line");
     assert!(output.starts_with("out: 01 02 03 "));

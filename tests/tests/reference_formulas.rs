@@ -3,13 +3,13 @@
 
 use std::time::{Duration, Instant};
 
-use type_formula_tests::examples::{cases, e1, from_hexadecimal};
-use type_formula_tests::formula_examples::formula_examples;
+use type_formula_tests::examples::{cases, e1, from_hexadecimal, join_of_eight};
+use type_formula_tests::formula_examples::{e1_columns, formula_examples, E2_SCHEMA};
 use type_formula_tests::random::Random;
 use type_formula_tests::reference::{
-    allowed_subsets, encode_file, formula, infer, is_allowed, is_output, listing, type_of, verdict,
-    Formula, Inferred, Node, Type, Verdict, COLUMNS, COLUMN_LENGTH, FORMULA_LENGTH, OUTPUT_START,
-    SCHEMA_LENGTH,
+    allowed_subsets, assignment_of, encode_file, formula, infer, is_allowed, is_output, listing,
+    read_schema, type_of, verdict, Formula, Inferred, Node, Type, Verdict, COLUMNS, COLUMN_LENGTH,
+    FORMULA_LENGTH, SCHEMA_LENGTH,
 };
 
 /// The ordinary attributes of the random assignments.
@@ -41,17 +41,11 @@ fn holders(assignment: &[Type], attribute: u32) -> usize {
 }
 
 /// The assignment in which each attribute is held by the relations of its subset.
-fn assignment_of(relations: u8, mut subset: impl FnMut(u32) -> usize) -> Vec<Type> {
-    let mut assignment = vec![Type::new(); usize::from(relations)];
-    for attribute in attributes() {
-        let s = subset(attribute);
-        for (relation, held) in assignment.iter_mut().enumerate() {
-            if s >> relation & 1 == 1 {
-                held.insert(attribute);
-            }
-        }
-    }
-    assignment
+fn assignment_by(relations: u8, mut subset: impl FnMut(u32) -> usize) -> Vec<Type> {
+    assignment_of(
+        relations,
+        attributes().map(|attribute| (attribute, subset(attribute))),
+    )
 }
 
 /// The type by the formula: the attributes in the output, or none if the holders of
@@ -75,14 +69,6 @@ fn any_subset(random: &mut Random, relations: u8) -> usize {
     }
 }
 
-/// An allowed subset of the column if there is one, else the empty one.
-fn allowed_subset(random: &mut Random, formula: &Formula, column: usize) -> usize {
-    match allowed_subsets(formula, column).as_slice() {
-        [] => 0,
-        allowed => allowed[random.below(allowed.len())],
-    }
-}
-
 /// An assignment of subsets that the formula allows, but for `others` attributes on
 /// average, which have any subset.
 fn likely_assignment(
@@ -91,18 +77,18 @@ fn likely_assignment(
     relations: u8,
     others: usize,
 ) -> Vec<Type> {
-    assignment_of(relations, |attribute| {
+    assignment_by(relations, |attribute| {
         if random.below(15 + ORDINARY.len()) < others {
             random.below(1 << relations)
         } else {
-            allowed_subset(random, formula, column_of(attribute))
+            random.allowed_subset(formula, column_of(attribute))
         }
     })
 }
 
 /// Assignments of unrelated and of likely subsets.
 fn assignments(random: &mut Random, formula: &Formula, relations: u8) -> Vec<Vec<Type>> {
-    let unrelated = assignment_of(relations, |_| any_subset(random, relations));
+    let unrelated = assignment_by(relations, |_| any_subset(random, relations));
     let likely =
         [0, 0, 2, 6, 12].map(|others| likely_assignment(random, formula, relations, others));
     [vec![unrelated], likely.into()].concat()
@@ -119,15 +105,6 @@ fn files(random: &mut Random) -> Vec<Inferred> {
     }
     let infer = |bytes: &Vec<u8>| infer(bytes).expect("accepted");
     files.iter().map(infer).collect()
-}
-
-/// The sets of a schema without ordinary attributes.
-fn sets_of(schema: &[u8]) -> Vec<Type> {
-    let set = |map: u16| (0..16).filter(|bit| map >> bit & 1 == 1).collect();
-    schema
-        .chunks_exact(2)
-        .map(|record| set(u16::from_le_bytes([record[0], record[1]])))
-        .collect()
 }
 
 /// Verdict with slices that are long enough, and the bytes written.
@@ -178,7 +155,7 @@ fn every_small_assignment_is_typed_as_the_formula_says() {
         let inferred = infer(&encode_file(relations, &nodes)).expect("accepted");
         let node = nodes.len() - 1;
         for subsets in 0..1_usize << (3 * relations) {
-            let assignment = assignment_of(relations, |attribute| {
+            let assignment = assignment_by(relations, |attribute| {
                 let place = match attribute {
                     1 => 0,
                     2 => relations,
@@ -253,7 +230,7 @@ fn a_witness_types_its_node_and_nothing_types_an_untypable_node() {
             } else {
                 let length = 2 * usize::from(file.relations);
                 assert_eq!(answer, Verdict::Typable { length });
-                let witness = sets_of(&schema);
+                let witness = read_schema(file.relations, &schema).expect("a schema");
                 let by_rules = type_of(file, node, &witness);
                 assert!(by_rules.is_some(), "node {node} of {file:?}");
                 assert_eq!(by_rules, type_by_formula(formula, &witness));
@@ -309,26 +286,15 @@ fn examples_have_their_formulas_verdicts_and_listings() {
     }
 }
 
-/// The first byte of the allowed and of the output subsets of each column of E1's
-/// last node; all other bytes are zero.
 #[test]
 fn e1_has_these_bytes() {
     let mut work = vec![0xaa; 7 * FORMULA_LENGTH];
     assert_eq!(formula(&e1().bytes, &mut work), 0);
-    for column in 0..COLUMNS {
-        let (allowed, output) = match column {
-            1 => (0x22, 0x20),
-            2 => (0x44, 0x44),
-            3 => (0x98, 0x98),
-            _ => (0x99, 0x98),
-        };
-        let mut wanted = [0; COLUMN_LENGTH];
-        wanted[0] = allowed;
-        wanted[OUTPUT_START] = output;
+    for (column, wanted) in e1_columns().iter().enumerate() {
         let start = 6 * FORMULA_LENGTH + column * COLUMN_LENGTH;
         assert_eq!(
             work[start..start + COLUMN_LENGTH],
-            wanted,
+            *wanted,
             "column {column}"
         );
     }
@@ -338,7 +304,7 @@ fn e1_has_these_bytes() {
 #[test]
 fn e1_is_typed_by_the_rules_as_e2_to_e4_say() {
     let file = infer(&e1().bytes).expect("accepted").file;
-    let e2 = sets_of(&from_hexadecimal("0a 00 0c 00 00 00"));
+    let e2 = read_schema(3, &from_hexadecimal(E2_SCHEMA)).expect("a schema");
     assert_eq!(type_of(&file, 6, &e2), Some(Type::from([2, 3])));
     let mut e4 = e2.clone();
     e4[0].insert(20);
@@ -406,13 +372,7 @@ fn sixty_three_pairs_of_the_node_before_end_quickly() {
 
 #[test]
 fn a_join_of_eight_relations_has_255_variables() {
-    let mut nodes: Vec<Node> = (0..8).map(|relation| Node::Relation { relation }).collect();
-    nodes.push(Node::NaturalJoin { left: 0, right: 1 });
-    nodes.extend((2..8).map(|right| Node::NaturalJoin {
-        left: right + 6,
-        right,
-    }));
-    let text = listing(&encode_file(8, &nodes));
+    let text = listing(&encode_file(8, &join_of_eight()));
     let lines: Vec<&str> = text.lines().collect();
     assert_eq!(lines.len(), 10);
     assert_eq!(lines[0], "node 14 typable");

@@ -1,8 +1,9 @@
 //! Formula and Verdict of the engine, in one run with the same operations by the
 //! reference and by a loop over 64-bit words, and with copying the bytes of the
-//! formulas. Prints medians and the ratio of the engine's to each.
+//! formulas; and Typing, with that of the reference and with copying schema and output
+//! record. Prints medians and the ratio of the engine's to each.
 //!
-//! The work space and the schema are reused and not cleared between runs.
+//! Work space, schema and result slice are reused and not cleared between runs.
 
 #[cfg(not(verdict_in_archive))]
 fn main() {
@@ -422,10 +423,9 @@ mod measurement {
         }
     }
 
-    /// Copies the bytes of the formulas.
-    fn copy<'a>(setting: &Setting) -> Row<'a> {
-        let source = vec![0x55; setting.work.len()];
-        let mut target = setting.work.clone();
+    /// Copies so many bytes.
+    fn copy<'a>(length: usize) -> Row<'a> {
+        let (source, mut target) = (vec![0x55; length], vec![0; length]);
         let run = move || black_box(&mut target[..]).copy_from_slice(black_box(&source));
         ("copy", Box::new(run))
     }
@@ -442,7 +442,7 @@ mod measurement {
             row("engine", engine::formula),
             row("reference", reference::formula),
             row("words", words::formula),
-            copy(setting),
+            copy(setting.work.len()),
         ]
     }
 
@@ -474,12 +474,166 @@ mod measurement {
             ("engine", Box::new(by_engine)),
             row("reference", reference::verdict),
             row("words", words::verdict),
-            copy(setting),
+            copy(setting.work.len()),
         ]
     }
 
+    #[cfg(not(typing_in_archive))]
+    fn print_typing() {
+        println!("\nthe archive of the engine has no Typing");
+    }
+
+    #[cfg(typing_in_archive)]
+    fn print_typing() {
+        for setting in typing::settings() {
+            setting.check();
+            print(&format!("Typing, {}", setting.name), &mut setting.rows());
+        }
+    }
+
+    #[cfg(typing_in_archive)]
+    mod typing {
+        use std::hint::black_box;
+
+        use type_formula_tests::engine;
+        use type_formula_tests::examples::{e1, join_of_eight};
+        use type_formula_tests::reference::{
+            self, assignment_of, encode_file, encode_schema, Node, Typing, OUTPUT_LENGTH,
+        };
+
+        use super::{copy, has_all_cases, Row};
+
+        /// A file, its last node, a schema that types it, and the length of the output
+        /// record.
+        pub struct Setting {
+            pub name: &'static str,
+            bytes: Vec<u8>,
+            last: usize,
+            schema: Vec<u8>,
+            length: usize,
+        }
+
+        /// E1 with three ordinary attributes, one for each of its type variables. The
+        /// relations have 10 columns in all: r0 has 1, 3, 20 and 21, r1 has 2, 3, 20 and
+        /// 21, r2 has 20 and 22.
+        fn e1_with_10_columns() -> Setting {
+            let subsets = [(1, 1), (2, 2), (3, 3), (20, 7), (21, 3), (22, 4)];
+            Setting {
+                name: "n 7, m 3 (E1), 10 columns in all",
+                bytes: e1().bytes,
+                last: 6,
+                schema: encode_schema(&assignment_of(3, subsets)),
+                length: 9,
+            }
+        }
+
+        /// Seven nodes, from the given number on, over a node that has attribute 1 and
+        /// not 2; the last of them has the same type. The relation has attribute 1.
+        fn seven_nodes(number: u8, relation: u8) -> [Node; 7] {
+            let before = number - 1;
+            let pair = match relation % 2 {
+                0 => |left, right| Node::Union { left, right },
+                _ => |left, right| Node::Difference { left, right },
+            };
+            [
+                Node::Selection {
+                    operand: before,
+                    set: 0b10,
+                },
+                Node::Renaming {
+                    operand: number,
+                    old: 1,
+                    new: 2,
+                },
+                Node::ProjectingOut {
+                    operand: number + 1,
+                    old: 2,
+                },
+                Node::NaturalJoin {
+                    left: number + 2,
+                    right: relation,
+                },
+                pair(number + 3, before),
+                Node::Projection {
+                    operand: number + 4,
+                    set: 0,
+                },
+                Node::Product {
+                    left: number + 4,
+                    right: number + 5,
+                },
+            ]
+        }
+
+        /// The join of eight relations, then seven times seven nodes. All cases of nodes
+        /// occur, and every node is in the last one's expression.
+        fn large_nodes() -> Vec<Node> {
+            let mut nodes = join_of_eight();
+            for relation in 0..7 {
+                nodes.extend(seven_nodes(15 + 7 * relation, relation));
+            }
+            assert!(nodes.len() == 64 && has_all_cases(&nodes));
+            nodes
+        }
+
+        /// Attribute 1 in each relation and 255 ordinary attributes, one for each
+        /// subset above 0; all are in the output.
+        fn large() -> Setting {
+            let subsets = (1..256).map(|s| (15 + s as u32, s));
+            let schema = assignment_of(8, subsets.chain([(1, 255)]));
+            Setting {
+                name: "n 64, m 8, 255 ordinary attributes",
+                bytes: encode_file(8, &large_nodes()),
+                last: 63,
+                schema: encode_schema(&schema),
+                length: OUTPUT_LENGTH,
+            }
+        }
+
+        pub fn settings() -> [Setting; 2] {
+            [e1_with_10_columns(), large()]
+        }
+
+        impl Setting {
+            /// Asserts that the engine and the reference give the same answer and bytes.
+            pub fn check(&self) {
+                let (bytes, last, schema) = (&self.bytes, self.last, &self.schema);
+                let (mut out, mut wanted) = ([0x55; 600], [0x55; 600]);
+                let typing = reference::typing(bytes, last, schema, &mut wanted);
+                let length = self.length;
+                assert_eq!(typing, Typing::Typed { length }, "{}", self.name);
+                let mut value = 0;
+                let answer = engine::typing(bytes, last, schema, &mut out, &mut value);
+                assert_eq!((answer, value), (0, length), "{}", self.name);
+                assert!(out == wanted, "{}", self.name);
+            }
+
+            pub fn rows(&self) -> Vec<Row<'_>> {
+                let (bytes, last, schema) = (&self.bytes, self.last, &self.schema);
+                let (mut out, mut value) = ([0; OUTPUT_LENGTH], 0);
+                let by_engine = move || {
+                    let (bytes, schema) = (black_box(bytes), black_box(schema));
+                    let out = black_box(&mut out);
+                    black_box(engine::typing(bytes, last, schema, out, &mut value));
+                    black_box(value);
+                };
+                let mut out = [0; OUTPUT_LENGTH];
+                let by_reference = move || {
+                    let (bytes, schema) = (black_box(bytes), black_box(schema));
+                    let out = black_box(&mut out);
+                    black_box(reference::typing(bytes, last, schema, out));
+                };
+                vec![
+                    ("engine", Box::new(by_engine)),
+                    ("reference", Box::new(by_reference)),
+                    copy(schema.len() + self.length),
+                ]
+            }
+        }
+    }
+
     pub fn main() {
-        println!("The work space and the schema are reused and not cleared between runs.");
+        println!("Work space, schema and result slice are reused and not cleared between runs.");
         println!("Medians of {SAMPLES} samples; samples of the rows of a table alternate.");
         println!("words and reference read the file by the same function.");
         check_words();
@@ -498,5 +652,6 @@ mod measurement {
                 &mut verdict_rows(setting),
             );
         }
+        print_typing();
     }
 }

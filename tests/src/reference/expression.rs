@@ -16,6 +16,11 @@ pub const BYTES_AFTER_LAST_NODE: u8 = 10;
 pub const NODE_NOT_BELOW_COUNT: u8 = 11;
 pub const WORK_SPACE_TOO_SHORT: u8 = 12;
 pub const RESULT_SLICE_TOO_SHORT: u8 = 13;
+pub const BYTES_END_EARLY: u8 = 14;
+pub const COUNT_BYTE_ZERO: u8 = 15;
+pub const LISTED_ATTRIBUTE_TOO_LOW: u8 = 16;
+pub const BYTES_LEFT_OVER: u8 = 17;
+pub const TOO_MANY_ORDINARY_ATTRIBUTES: u8 = 18;
 
 /// The five legal bit maps of a node.
 pub const RELATION_MAP: u8 = 1;

@@ -4,19 +4,25 @@ mod expression;
 mod formula;
 mod listing;
 mod rules;
+mod schema;
+mod typing;
 mod verdict;
 
 pub use expression::{
     encode_file, encode_node, read_file, read_node, record, File, Node, ATTRIBUTE_OUTSIDE_RANGE,
-    BYTES_AFTER_LAST_NODE, BYTES_END_BEFORE_OR_WITHIN_NODE, CODE_NOT_OF_MAP, FEWER_THAN_TWO_BYTES,
-    LEGAL_MAPS, MAP_NOT_LEGAL, NODE_COUNT_OUTSIDE_RANGE, NODE_NOT_BELOW_COUNT, OPERAND_NOT_EARLIER,
-    PAIR_MAP, PROJECTING_OUT_MAP, RELATION_COUNT_OUTSIDE_RANGE, RELATION_MAP,
-    RELATION_NOT_BELOW_COUNT, RENAMING_MAP, RESULT_SLICE_TOO_SHORT, SET_MAP, WORK_SPACE_TOO_SHORT,
+    BYTES_AFTER_LAST_NODE, BYTES_END_BEFORE_OR_WITHIN_NODE, BYTES_END_EARLY, BYTES_LEFT_OVER,
+    CODE_NOT_OF_MAP, COUNT_BYTE_ZERO, FEWER_THAN_TWO_BYTES, LEGAL_MAPS, LISTED_ATTRIBUTE_TOO_LOW,
+    MAP_NOT_LEGAL, NODE_COUNT_OUTSIDE_RANGE, NODE_NOT_BELOW_COUNT, OPERAND_NOT_EARLIER, PAIR_MAP,
+    PROJECTING_OUT_MAP, RELATION_COUNT_OUTSIDE_RANGE, RELATION_MAP, RELATION_NOT_BELOW_COUNT,
+    RENAMING_MAP, RESULT_SLICE_TOO_SHORT, SET_MAP, TOO_MANY_ORDINARY_ATTRIBUTES,
+    WORK_SPACE_TOO_SHORT,
 };
 pub use formula::{
     allowed_subsets, formula, formulas, infer, is_allowed, is_output, Formula, Inferred, COLUMNS,
     COLUMN_LENGTH, FORMULA_LENGTH, OUTPUT_START,
 };
 pub use listing::listing;
-pub use rules::{type_of, Type};
+pub use rules::{assignment_of, type_of, Type};
+pub use schema::{encode_record, encode_schema, read_schema};
+pub use typing::{typing, Typing, OUTPUT_LENGTH};
 pub use verdict::{untypable_attribute, verdict, witness, Verdict, SCHEMA_LENGTH};
