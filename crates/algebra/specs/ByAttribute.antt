@@ -8,7 +8,8 @@ use Rattle.types.specs.Types.{Attrs, Assignment, column}
 use Rattle.algebra.specs.Expression.{Expression, Legal}
 use Rattle.algebra.specs.Rules.{Typed}
 use Rattle.algebra.specs.Cell.{plain, out, ok}
-use Rattle.algebra.specs.Infer.{allBelow, provided, infer}
+use Rattle.bits.specs.AllBelow.{allBelow}
+use Rattle.algebra.specs.Infer.{provided, infer}
 use Rattle.algebra.specs.Columns.{alike-column, alike-ordinary}
 use Rattle.algebra.specs.CellLaws.{cell-alike, cell-none}
 use Rattle.algebra.specs.TypedCells.{okAt, outAt, typed-at, at-typed, retyped}

@@ -1,15 +1,11 @@
 -- An executable typing function: the rules of section 2.2, read upwards. Sets are compared below a bound that none of their members reaches.
-use Prim.Native.Nat.{ℕ, zero, suc}
+use Prim.Native.Nat.{ℕ}
 use mathlib.Core.Bool.{Bool, true, false, cond, not, _&&_}
 use mathlib.Core.Option.{Option, none, some}
+use Rattle.bits.specs.AllBelow.{allBelow}
 use Rattle.types.specs.Types.{Attrs, Assignment, _∪_, without, with}
 use Rattle.algebra.specs.Expression.{Operator, union, difference, join, product, SetOperator, selection, projection, Expression, relation, binary, withSet, renaming, projectingOut}
 use Rattle.algebra.specs.Cell.{sameBool}
-
--- a test at each number below a bound
-abbrev pub allBelow : ℕ → (ℕ → Bool) → Bool
-allBelow zero test = true
-allBelow (suc n) test = test n && allBelow n test
 
 abbrev pub provided : Bool → Attrs → Option Attrs
 provided true t = some t

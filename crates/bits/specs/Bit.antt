@@ -1,7 +1,7 @@
 -- The bits of a number.
 use Prim.Native.Nat.{ℕ, zero, suc, _+_, _*_, _/_, _%_, _^_, _-_, _<_}
 use mathlib.Core.Path.{_≡_, refl, sym, ap, ap₂, _∙_}
-use mathlib.Core.Bool.{Bool, true, false, not, cond, _||_, _&&_}
+use mathlib.Core.Bool.{Bool, true, false, not, cond, _||_, _&&_, and-true}
 use native.Mathlib.Nat.{div-one, div-div-eq-div-mul, div-eq-of-lt, mul-comm, pow-suc, mod-lt, mod-eq-of-lt, le-of-suc-le-suc, mul-div-cancel, mul-mod-left, zero-div}
 use native.Mathlib.Omega.{arith}
 use borrow.Author.Tests.{eq-eqb}
@@ -96,6 +96,11 @@ bit-ones (suc n) (suc j) h =
     let p = pow-pos n in
     let half : (2 ^ suc n - 1) / 2 ≡ 2 ^ n - 1 = rw pow-suc (omega arith) in
     bit-next (2 ^ suc n - 1) j ∙ ap (λ (x : ℕ). bit x j) half ∙ bit-ones n j (le-of-suc-le-suc h)
+
+-- the low n bits of a number
+pub bit-low : (n x j : ℕ) → j < n → bit (x % 2 ^ n) j ≡ bit x j
+bit-low n x j h =
+    ap (λ (y : ℕ). bit y j) (sym (and-mask x n)) ∙ bit-and x (2 ^ n - 1) j ∙ ap (λ (b : Bool). bit x j && b) (bit-ones n j h) ∙ and-true (bit x j)
 
 -- the complement of a byte
 pub bit-not : (x j : ℕ) → x < 256 → j < 8 → bit (255 - x) j ≡ not (bit x j)

@@ -5,3 +5,7 @@ pub mod Part
 pub mod Tab
 pub mod Lowest
 pub mod Written
+pub mod Word
+pub mod Rising
+pub mod PackFrom
+pub mod AllBelow

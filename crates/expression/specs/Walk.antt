@@ -7,7 +7,7 @@ use native.Mathlib.Numerals.{add-one}
 use native.Mathlib.Omega.{arith}
 use lib.ListN.{length, getD, take, drop, length-drop}
 use lib.Seq.{drop-drop}
-use Rattle.bits.specs.Part.{part-from}
+use Rattle.bits.specs.Part.{part-from, At, at-head}
 use Rattle.refusal.specs.declared.Refusal.{Refusal}
 use Rattle.expression.specs.declared.nodes.Node.{Node}
 use Rattle.expression.specs.declared.nodes.Node.the-variants.{Relation}
@@ -53,20 +53,6 @@ total-more : (es : List Entry) (k : ℕ) (d : Entry) → k < length es → total
 total-more [] k d h = absurd (omega arith)
 total-more (e ∷ es) zero d h = omega arith
 total-more (e ∷ es) (suc k) d h = let more = total-more es k d (omega arith) in rw more (omega arith)
-
--- where a list goes on with e from k on, e is its element k
-pub record At {A : Type 0} (es : List A) (k : ℕ) (d e : A) (others : List A) : Type 0 where
-  pub below : k < length es
-  pub here : getD es k d ≡ e
-  pub rest : drop (suc k) es ≡ others
-
-at-head : {A : Type 0} (es : List A) (k : ℕ) (d e : A) (others : List A) → drop k es ≡ e ∷ others → At es k d e others
-at-head [] zero d e others h = absurd (let z : _≡_ {A = ℕ} 0 1 = cc in omega arith)
-at-head [] (suc k) d e others h = absurd (let z : _≡_ {A = ℕ} 0 1 = cc in omega arith)
-at-head (x ∷ es) zero d e others h = record { below = omega arith; here = cc; rest = cc }
-at-head (x ∷ es) (suc k) d e others h =
-    let t = at-head es k d e others h in
-    record { below = let b = t .below in omega arith; here = t .here; rest = t .rest }
 
 next-walk : (file : List ℕ) (m n k at : ℕ) (e : Entry) (others : List Entry) → Walk file m n k at → At (entriesOf file) k none e others → length (e .bytes) ≤ length (drop at file) → readNodes m (n - (k + 1)) (k + 1) (drop (length (e .bytes)) (drop at file)) ≡ nodesRead others → Walk file m n (k + 1) (at + length (e .bytes))
 unfolding startAt

@@ -1,67 +1,42 @@
 -- Laws of the witness schema: a record's bits from the highest down, and its two bytes.
 use Prim.Native.Nat.{ℕ, zero, suc, _+_, _-_, _*_, _/_, _%_, _^_, _≤_, _<_}
 use mathlib.Core.Path.{_≡_, refl, sym, ap, ap₂, _∙_}
-use mathlib.Core.Bool.{Bool, true, cond, _&&_}
+use mathlib.Core.Bool.{Bool, true, _&&_}
 use mathlib.Core.List.{List}
-use native.Mathlib.Nat.{mod-lt, zero-add, add-zero}
+use native.Mathlib.Nat.{zero-add}
 use native.Mathlib.Omega.{arith}
 use borrow.Author.Tests.{le-leb}
-use lib.Dec.{eqb, leb, lit<}
+use lib.Dec.{leb}
 use lib.Pow.{pow-mono}
 use lib.ListN.{length, set, length-set}
 use Rattle.bits.specs.Bit.{bit}
-use Rattle.bits.specs.Pack.{pack, pack-same, pack-below}
+use Rattle.bits.specs.Pack.{pack-same, pack-below}
+use Rattle.bits.specs.PackFrom.{packFrom, from-none, from-lower, from-below, pack-step, bit-digit}
 use Rattle.bits.specs.Written.{Written, written-more}
 use Rattle.verdict.specs.Witness.{recordWord, recordByte}
 
 -- ---- the bits from attribute i up, as a number
 
-unfoldable pub bitsFrom : (ℕ → ℕ) → ℕ → ℕ → ℕ
-bitsFrom subset r i = pack (16 - i) (λ j. bit (subset (i + j)) r)
+abbrev pub bitsFrom : (ℕ → ℕ) → ℕ → ℕ → ℕ
+bitsFrom subset r = packFrom 16 (λ i. bit (subset i) r)
 
 pub bits-none : (subset : ℕ → ℕ) (r : ℕ) → bitsFrom subset r 16 ≡ 0
-unfolding bitsFrom pack
-bits-none subset r = refl
-
-digit : (d : ℕ) → d < 2 → cond (eqb d 1) 1 0 ≡ d
-digit zero h = refl
-digit (suc zero) h = refl
-digit (suc (suc d)) h = absurd (omega arith)
-
-pack-step : (n : ℕ) (f : ℕ → Bool) → pack (suc n) f ≡ cond (f 0) 1 0 + pack n (λ j. f (suc j)) * 2
-unfolding pack
-pack-step n f = refl
-
-bit-digit : (x r : ℕ) → cond (bit x r) 1 0 ≡ x / 2 ^ r % 2
-unfolding bit
-bit-digit x r = digit (x / 2 ^ r % 2) (mod-lt (x / 2 ^ r) (lit< tt))
-
--- the lowest bit, and those from the next attribute up
-pack-from : (subset : ℕ → ℕ) (r k n : ℕ) → pack (suc n) (λ j. bit (subset (k + j)) r) ≡ pack n (λ j. bit (subset (suc k + j)) r) * 2 + subset k / 2 ^ r % 2
-pack-from subset r k n =
-    let first = ap (λ (i : ℕ). cond (bit (subset i) r) 1 0) (add-zero k) ∙ bit-digit (subset k) r in
-    let rest = pack-same n (λ j. bit (subset (k + suc j)) r) (λ j. bit (subset (suc k + j)) r) (λ j h. ap (λ (i : ℕ). bit (subset i) r) (omega arith)) in
-    let split = pack-step n (λ j. bit (subset (k + j)) r) in
-    omega arith
+bits-none subset r = from-none 16 (λ i. bit (subset i) r)
 
 -- one attribute lower
 pub bits-lower : (subset : ℕ → ℕ) (r i : ℕ) → 1 ≤ i → i ≤ 16 → bitsFrom subset r (i - 1) ≡ bitsFrom subset r i * 2 + subset (i - 1) / 2 ^ r % 2
-unfolding bitsFrom
-bits-lower subset r i some most = go (i - 1) (16 - (i - 1)) (16 - i) (omega arith) (omega arith)
-  where
-    go : (k count n : ℕ) → count ≡ suc n → i ≡ suc k → pack count (λ j. bit (subset (k + j)) r) ≡ pack n (λ j. bit (subset (i + j)) r) * 2 + subset k / 2 ^ r % 2
-    go k count n c e = rw (c, e) (pack-from subset r k n)
+bits-lower subset r i some most =
+    from-lower 16 (λ i. bit (subset i) r) i some most ∙ ap (λ (d : ℕ). bitsFrom subset r i * 2 + d) (bit-digit (subset (i - 1)) r)
 
 pub bits-below : (subset : ℕ → ℕ) (r i : ℕ) → 1 ≤ i → bitsFrom subset r i < 32768
-unfolding bitsFrom
 bits-below subset r i some =
-    let below = pack-below (16 - i) (λ j. bit (subset (i + j)) r) in
+    let below = from-below 16 (λ i. bit (subset i) r) i in
     let most = pow-mono {i = 16 - i} {j = 15} (omega arith) in
     omega arith
 
 -- bit 0 is clear
 pub bits-word : (subset : ℕ → ℕ) (r : ℕ) → bitsFrom subset r 1 * 2 ≡ recordWord subset r
-unfolding bitsFrom recordWord
+unfolding packFrom recordWord
 bits-word subset r =
     let rest = pack-same 15 (λ j. leb 1 (suc j) && bit (subset (suc j)) r) (λ j. bit (subset (1 + j)) r) (λ j h. above j (le-leb 1 (suc j) (omega arith)) (omega arith)) in
     sym (pack-step 15 (λ j. leb 1 j && bit (subset j) r) ∙ ap (λ (x : ℕ). 0 + x * 2) rest ∙ zero-add _)

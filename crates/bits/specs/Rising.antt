@@ -1,0 +1,71 @@
+-- Rising lists of numbers, and their members.
+use Prim.Native.Nat.{ℕ, suc, _≤_, _<_}
+use mathlib.Core.Path.{_≡_, refl, sym, ap, ap₂, subst, _∙_}
+use mathlib.Core.Bool.{Bool, true, false, _||_}
+use mathlib.Core.List.{List, [], _∷_}
+use native.Mathlib.Decide.{decLe}
+use native.Mathlib.Omega.{arith}
+use borrow.Author.Tests.{eq-eqb, ne-eqb}
+use lib.Dec.{eqb}
+use lib.ListN.{getD}
+
+abbrev pub member : ℕ → List ℕ → Bool
+member a [] = false
+member a (x ∷ xs) = eqb a x || member a xs
+
+-- each number is above the one before it, the first above p
+abbrev pub Rising : ℕ → List ℕ → Type 0
+Rising p [] = Unit {0}
+Rising p (x ∷ xs) = (p < x) × Rising x xs
+
+-- no member is p or below
+pub rising-above : (p : ℕ) (xs : List ℕ) (a : ℕ) → Rising p xs → a ≤ p → member a xs ≡ false
+rising-above p [] a r h = refl
+rising-above p (x ∷ xs) a r h =
+    let first : p < x = r .0 in
+    ap₂ _||_ (ne-eqb a x (λ e. omega arith)) (rising-above x xs a (r .1) (omega arith))
+
+-- no member is b or above
+pub member-below : (b : ℕ) (xs : List ℕ) (a : ℕ) → ((i : ℕ) → getD xs i 0 < b) → b ≤ a → member a xs ≡ false
+member-below b [] a below h = refl
+member-below b (x ∷ xs) a below h =
+    let first : x < b = below 0 in
+    ap₂ _||_ (ne-eqb a x (λ e. omega arith)) (member-below b xs a (λ i. below (suc i)) h)
+
+member-first : (x : ℕ) (xs : List ℕ) → member x (x ∷ xs) ≡ true
+member-first x xs = ap (λ (t : Bool). t || member x xs) (eq-eqb x x refl)
+
+-- the first of one list is no member of the other if it is below the other's first
+below-first : (x y : ℕ) (xs ys : List ℕ) → Rising y ys → ((a : ℕ) → member a (x ∷ xs) ≡ member a (y ∷ ys)) → x < y → ⊥
+below-first x y xs ys r same h =
+    let none : member x (y ∷ ys) ≡ false = ap₂ _||_ (ne-eqb x y (λ e. omega arith)) (rising-above y ys x r (omega arith)) in
+    let both : true ≡ false = sym (member-first x xs) ∙ same x ∙ none in
+    let z : _≡_ {A = ℕ} 0 1 = cc in omega arith
+
+-- two rising lists with the same members are one
+pub rising-once : (p : ℕ) (xs ys : List ℕ) → Rising p xs → Rising p ys → ((a : ℕ) → member a xs ≡ member a ys) → xs ≡ ys
+rising-once p [] [] r s same = refl
+rising-once p [] (y ∷ ys) r s same =
+    absurd (let both : false ≡ true = same y ∙ member-first y ys in let z : _≡_ {A = ℕ} 0 1 = cc in omega arith)
+rising-once p (x ∷ xs) [] r s same =
+    absurd (let both : true ≡ false = sym (member-first x xs) ∙ same x in let z : _≡_ {A = ℕ} 0 1 = cc in omega arith)
+rising-once p (x ∷ xs) (y ∷ ys) r s same =
+    ap₂ _∷_ first (rising-once x xs ys (r .1) s′ (λ a. rest a (decLe a x)))
+  where
+    order : Dec (x ≤ y) → Dec (y ≤ x) → x ≡ y
+    order (yes h) (yes k) = omega arith
+    order (yes h) (no k) = absurd (below-first x y xs ys (s .1) same (omega arith))
+    order (no h) d = absurd (below-first y x ys xs (r .1) (λ a. sym (same a)) (omega arith))
+
+    first : x ≡ y
+    first = order (decLe x y) (decLe y x)
+
+    s′ : Rising x ys
+    s′ = subst (λ (z : ℕ). Rising z ys) (sym first) (s .1)
+
+    rest : (a : ℕ) → Dec (a ≤ x) → member a xs ≡ member a ys
+    rest a (yes h) = rising-above x xs a (r .1) h ∙ sym (rising-above x ys a s′ h)
+    rest a (no h) =
+        sym (ap (λ (t : Bool). t || member a xs) (ne-eqb a x (λ e. omega arith)))
+        ∙ same a
+        ∙ ap (λ (t : Bool). t || member a ys) (ne-eqb a y (λ e. let f = first in omega arith))

@@ -1,0 +1,17 @@
+-- Numbers of two bytes, low first.
+use Prim.Native.Nat.{ℕ, _+_, _*_, _<_}
+use mathlib.Core.List.{List}
+use native.Mathlib.Omega.{arith}
+use lib.ListN.{getD}
+
+-- the number at a place
+unfoldable pub word : List ℕ → ℕ → ℕ
+word bytes at = getD bytes at 0 + getD bytes (at + 1) 0 * 256
+
+-- a list of bytes
+abbrev pub Bytes : List ℕ → Type 0
+Bytes bytes = (i : ℕ) → getD bytes i 0 < 256
+
+pub word-below : (bytes : List ℕ) (at : ℕ) → Bytes bytes → word bytes at < 65536
+unfolding word
+word-below bytes at h = let low = h at in let high = h (at + 1) in omega arith

@@ -1,0 +1,10 @@
+// The membership table: the ordinary attributes of a schema or an instantiation, in rising order, each with the
+// subset of the relations that hold it.
+mod holders;
+mod merging;
+
+pub use holders::Held;
+pub use holders::held_by;
+pub use merging::Entries;
+pub use merging::enter;
+pub use merging::no_entries;

@@ -1,0 +1,3 @@
+mod More
+mod Prefix
+mod Resume

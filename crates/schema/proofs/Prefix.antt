@@ -1,0 +1,120 @@
+-- The records of the relations before r, written to the front of a slice: one record more, and the whole.
+use Prim.Native.Nat.{ℕ, zero, suc, _+_, _-_, _*_, _≤_, _<_}
+use mathlib.Core.Path.{_≡_, refl, sym, ap, _∙_}
+use mathlib.Core.List.{List, [], _∷_, _++_, append-assoc, append-nil}
+use native.Mathlib.Numerals.{add-one}
+use native.Mathlib.Omega.{arith}
+use borrow.Rule.Slice.PartMut.{putMid, midOf}
+use lib.ListN.{length, getD, take, drop, length-append, length-drop, drop-of-length-le}
+use lib.Seq.{drop-drop, take-append-seam, drop-append-seam, length-take-le}
+use Rattle.bits.specs.Part.{part-from}
+use Rattle.bits.specs.Tab.{tab, length-tab, over, over-length}
+use Rattle.type_record.specs.Record.{TypeRecord, recordSize, recordBytes}
+use Rattle.type_record.specs.RecordLaws.{size-most, record-length}
+use Rattle.membership.specs.declared.holders.Held.{Held}
+use Rattle.membership.specs.Holders.{heldBy, heldList, ItemsFit}
+use Rattle.membership.specs.HolderLaws.{held-few, held-attributes}
+use Rattle.schema.specs.Schema.{schemaBytes, recordsOf, WritesFrom}
+
+-- ---- one more
+
+tab-more : {A : Type 0} (n : ℕ) (f : ℕ → A) → tab (suc n) f ≡ tab n f ++ (f n ∷ [])
+unfolding tab
+tab-more zero f = refl
+tab-more (suc n) f = ap (λ l. f 0 ∷ l) (tab-more n (λ i. f (suc i)))
+
+bytes-more : (ts : List TypeRecord) (t : TypeRecord) → schemaBytes (ts ++ (t ∷ [])) ≡ schemaBytes ts ++ recordBytes (t .map) (t .ordinary)
+unfolding schemaBytes
+bytes-more [] t = append-nil (recordBytes (t .map) (t .ordinary))
+bytes-more (u ∷ ts) t = ap (λ (l : List ℕ). recordBytes (u .map) (u .ordinary) ++ l) (bytes-more ts t) ∙ sym (append-assoc (recordBytes (u .map) (u .ordinary)) (schemaBytes ts) (recordBytes (t .map) (t .ordinary)))
+
+prefix-more : (special es : List ℕ) (r : ℕ) → schemaBytes (recordsOf (r + 1) special es) ≡ schemaBytes (recordsOf r special es) ++ recordBytes (getD special r 0) (heldBy r es)
+unfolding recordsOf
+prefix-more special es r =
+    rw (add-one r)
+    (ap schemaBytes (tab-more r (λ r. record { map = getD special r 0; ordinary = heldBy r es }))
+    ∙ bytes-more (recordsOf r special es) (record { map = getD special r 0; ordinary = heldBy r es }))
+
+-- writing on in the part after what is written: in the whole
+over-more : (a b old out : List ℕ) → out ≡ over a old → putMid (length a) (length out - length a) out (over b (midOf (length a) (length out - length a) out)) ≡ over (a ++ b) old
+unfolding over
+over-more a b old out e =
+    let rest : drop (length a) out ≡ drop (length a) old = ap (drop (length a)) e ∙ drop-append-seam a (drop (length a) old) in
+    let front : take (length a) out ≡ a = ap (take (length a)) e ∙ take-append-seam a (drop (length a) old) in
+    let size = length-drop (length a) out in
+    let tail = drop-of-length-le (drop (length a) out) {i = length out - length a} (omega arith) in
+    rw (part-from out (length a), tail, rest, front) (simp (append-nil, append-assoc, drop-drop (length b) (length a) old, length-append))
+
+-- ---- the loop
+
+pub record Prefix (m : ℕ) (special es old out : List ℕ) (at r : ℕ) : Type 0 where
+  pub upTo : r ≤ m
+  pub most : at ≤ r * 513
+  pub size : at ≡ length (schemaBytes (recordsOf r special es))
+  pub written : out ≡ over (schemaBytes (recordsOf r special es)) old
+
+pub prefix-first : (m : ℕ) (special es old : List ℕ) → Prefix m special es old old 0 0
+unfolding over schemaBytes recordsOf tab
+prefix-first m special es old = record { upTo = omega arith; most = omega arith; size = refl; written = refl }
+
+pub items-fit : {special items : List ℕ} {count : ℕ} → WritesFrom special items count → ItemsFit items count
+items-fit w = let size = w .size in let few = w .few in record { enough = omega arith; below = w .below }
+
+module _ {m : ℕ} {special items : List ℕ} {count : ℕ} {old out : List ℕ} {at r : ℕ} (eight : m ≤ 8) (w : WritesFrom special items count) (fits : 4104 ≤ length old) (h : Prefix m special (take count items) old out at r) where
+  pub same-size : length out ≡ length old
+  same-size =
+      let upTo = h .upTo in
+      let most = h .most in
+      let size = h .size in
+      ap length (h .written) ∙ over-length (schemaBytes (recordsOf r special (take count items))) old (omega arith)
+
+  -- there is room for a record
+  pub room : r < m → at + 513 ≤ length out
+  room more = let most = h .most in let same = same-size in omega arith
+
+  held-most : length (heldBy r (take count items)) ≤ 255
+  held-most =
+      let least = held-few r (take count items) in
+      let size = w .size in
+      let few = w .few in
+      let taken = length-take-le count items (omega arith) in
+      omega arith
+
+  module _ {held : Held} (held-is : held ≡ heldList (heldBy r (take count items))) where
+    pub list-reaches : held .count ≤ length (held .list)
+    unfolding heldList
+    list-reaches =
+        let most = held-most in
+        let all = length-tab 256 (λ i. getD (heldBy r (take count items)) i 0) in
+        rw held-is (omega arith)
+
+    -- the attributes that the relation holds, as the code hands them on
+    listed-is : take (held .count) (held .list) ≡ heldBy r (take count items)
+    listed-is = rw held-is (held-attributes (heldBy r (take count items)) (let most = held-most in omega arith))
+
+    pub listed-most : length (take (held .count) (held .list)) ≤ 255
+    listed-most = rw listed-is held-most
+
+    pub prefix-next : {size : ℕ} {part : List ℕ} → r < m → size ≡ recordSize (length (take (held .count) (held .list))) → part ≡ over (recordBytes (getD special r 0) (take (held .count) (held .list))) (midOf at (length out - at) out) → Prefix m special (take count items) old (putMid at (length out - at) out part) (at + size) (r + 1)
+    prefix-next more size-is part-is =
+        let most = h .most in
+        let before = h .size in
+        let is = size-is ∙ ap (λ (l : List ℕ). recordSize (length l)) listed-is in
+        let small = size-most (length (heldBy r (take count items))) held-most .1 in
+        let own = record-length (getD special r 0) (heldBy r (take count items)) in
+        let whole = length-append (schemaBytes (recordsOf r special (take count items))) (recordBytes (getD special r 0) (heldBy r (take count items))) in
+        record {
+          upTo = omega arith;
+          most = omega arith;
+          size = rw prefix-more (omega arith);
+          written =
+              rw (part-is, listed-is, prefix-more special (take count items) r, h .size)
+              (over-more (schemaBytes (recordsOf r special (take count items))) (recordBytes (getD special r 0) (heldBy r (take count items))) old out (h .written));
+        }
+
+  -- all m records
+  pub prefix-end : m ≤ r → (at ≡ length (schemaBytes (recordsOf m special (take count items)))) × (out ≡ over (schemaBytes (recordsOf m special (take count items))) old)
+  prefix-end last =
+      let upTo = h .upTo in
+      let all : r ≡ m = omega arith in
+      rw (← all) (h .size, h .written)

@@ -1,0 +1,4 @@
+pub mod Schema
+pub mod RecordsLaws
+pub mod EntriesLaws
+pub mod TableLaws

@@ -1,0 +1,99 @@
+-- Schemas: "A schema is m such records, and each record begins where the one before it ends. It has at most 255 different ordinary attributes." (document 01)
+use Prim.Native.Nat.{ℕ, zero, suc, _+_, _%_, _^_, _≤_, _<_}
+use mathlib.Core.Path.{_≡_}
+use mathlib.Core.Bool.{cond}
+use mathlib.Core.List.{List, [], _∷_, _++_}
+use lib.Dec.{ltb}
+use lib.ListN.{length, getD, drop}
+use Rattle.bits.specs.Tab.{tab}
+use Rattle.types.specs.Types.{Assignment}
+use Rattle.refusal.specs.declared.Refusal.{Refusal}
+use Rattle.refusal.specs.declared.Refusal.the-variants.{InputFollowed, TooManyAttributes}
+use Rattle.type_record.specs.declared.records.RecordReading.{RecordReading}
+use Rattle.type_record.specs.declared.records.RecordReading.the-variants.{Read as RecordRead, Refused as RecordRefused}
+use Rattle.type_record.specs.Record.{TypeRecord, readRecord, recordSize, recordAt, recordBytes, typeOf}
+use Rattle.membership.specs.Entries.{enter, tableOf}
+use Rattle.membership.specs.Holders.{heldBy}
+use Rattle.schema.specs.declared.reading.Judgement.the-variants.{Read, Refused}
+use Rattle.schema.specs.declared.reading.Schema.{Schema}
+
+-- ---- the records
+
+pub data Records : Type 0 where
+  recordsRefused : Refusal → Records
+  recordsRead : List TypeRecord → Records
+
+abbrev pub precede : TypeRecord → Records → Records
+precede t (recordsRefused r) = recordsRefused r
+precede t (recordsRead ts) = recordsRead (t ∷ ts)
+
+-- what a record's reading gives, with the reading of what follows it
+abbrev pub follow : RecordReading → List ℕ → (List ℕ → Records) → Records
+follow (RecordRefused r) bytes rest = recordsRefused r
+follow (RecordRead map n) bytes rest = precede (recordAt bytes map n) (rest (drop (recordSize n) bytes))
+
+-- "bytes left over"
+abbrev pub atEnd : List ℕ → Records
+atEnd [] = recordsRead []
+atEnd (b ∷ bs) = recordsRefused InputFollowed
+
+-- so many records, and then the end: "14 to 16 as the bytes come; 17"
+unfoldable pub readRecords : ℕ → List ℕ → Records
+readRecords zero bytes = atEnd bytes
+readRecords (suc m) bytes = follow (readRecord bytes) bytes (readRecords m)
+
+unfoldable pub schemaBytes : List TypeRecord → List ℕ
+schemaBytes [] = []
+schemaBytes (t ∷ ts) = recordBytes (t .map) (t .ordinary) ++ schemaBytes ts
+
+-- ---- what they say
+
+abbrev pub noRecord : TypeRecord
+noRecord = record { map = 0; ordinary = [] }
+
+-- the assignment that the records mean: relation r has the type of record r
+abbrev pub assignmentOf : List TypeRecord → Assignment
+assignmentOf ts r = typeOf (getD ts r noRecord)
+
+-- ---- the membership table
+
+-- the entries, once relations from r on have these records
+abbrev pub entriesFrom : ℕ → List TypeRecord → List ℕ → List ℕ
+entriesFrom r [] es = es
+entriesFrom r (t ∷ ts) es = entriesFrom (r + 1) ts (enter (2 ^ r) (t .ordinary) es)
+
+-- the different ordinary attributes, each with the relations that hold it
+unfoldable pub entriesOf : List TypeRecord → List ℕ
+entriesOf ts = entriesFrom 0 ts []
+
+unfoldable pub mapsOf : List TypeRecord → List ℕ
+mapsOf ts = tab 8 (λ r. getD ts r noRecord .map)
+
+-- ---- reading
+
+unfoldable pub refusedSchema : Refusal → Schema
+refusedSchema r = record { judgement = Refused r; special = mapsOf []; entries = tableOf [] }
+
+-- "over 255 different ordinary attributes", once the records are read
+abbrev pub tabled : Records → Schema
+tabled (recordsRefused r) = refusedSchema r
+tabled (recordsRead ts) =
+    cond (ltb 255 (length (entriesOf ts))) (refusedSchema TooManyAttributes)
+    (record { judgement = Read; special = mapsOf ts; entries = tableOf (entriesOf ts) })
+
+unfoldable pub schemaReading : ℕ → List ℕ → Schema
+schemaReading m bytes = tabled (readRecords m bytes)
+
+-- ---- writing
+
+-- the records of m relations that a table says
+unfoldable pub recordsOf : ℕ → List ℕ → List ℕ → List TypeRecord
+recordsOf m special entries = tab m (λ r. record { map = getD special r 0; ordinary = heldBy r entries })
+
+-- what a table that is written must be: maps with bit 0 clear, at most 255 entries below 2 ^ 24
+pub record WritesFrom (special items : List ℕ) (count : ℕ) : Type 0 where
+  pub maps : length special ≡ 8
+  pub even : (r : ℕ) → getD special r 0 % 2 ≡ 0
+  pub size : length items ≡ 256
+  pub few : count ≤ 255
+  pub below : (i : ℕ) → getD items i 0 < 16777216

@@ -1,0 +1,8 @@
+// Schemas: reading them into the membership table, and writing them from it.
+mod reading;
+mod writing;
+
+pub use reading::Judgement;
+pub use reading::Schema;
+pub use reading::read_schema;
+pub use writing::write_schema;

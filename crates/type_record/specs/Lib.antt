@@ -1,0 +1,5 @@
+pub mod Lists
+pub mod ListLaws
+pub mod Record
+pub mod RecordLaws
+pub mod WritingLaws

@@ -1,0 +1,66 @@
+-- Typing: "takes node and schema and writes the output record, or says untyped" (document 01).
+use Prim.Native.Nat.{ℕ}
+use mathlib.Core.Bool.{Bool, true, false}
+use mathlib.Core.List.{List}
+use lib.Dec.{ltb, leb}
+use lib.ListN.{length, take}
+use Rattle.bits.specs.Tab.{over}
+use Rattle.refusal.specs.Chain.{refuse}
+use Rattle.refusal.specs.declared.Refusal.{Refusal}
+use Rattle.refusal.specs.declared.Refusal.the-variants.{NodeNumber, ResultSlice}
+use Rattle.expression.specs.declared.files.Acceptance.{Acceptance}
+use Rattle.expression.specs.declared.files.Acceptance.the-variants.{Accepted, Refused as FileRefused}
+use Rattle.expression.specs.ReadFile.{acceptance}
+use Rattle.algebra.specs.Expression.{Expression}
+use Rattle.formula.specs.Expressions.{expressionAt}
+use Rattle.type_record.specs.Record.{recordSize, recordBytes}
+use Rattle.schema.specs.Schema.{schemaReading}
+use Rattle.schema.specs.declared.reading.Judgement.{Judgement}
+use Rattle.schema.specs.declared.reading.Judgement.the-variants.{Read, Refused as SchemaRefused}
+use Rattle.schema.specs.declared.reading.Schema.{Schema}
+use Rattle.typing.specs.Output.{typedIn, outputMap, outputList}
+use Rattle.typing.specs.declared.operation.Answer.{Answer}
+use Rattle.typing.specs.declared.operation.Answer.the-variants.{Typed, Untyped, Refused}
+
+-- ---- over a membership table: maps of special attributes, and entries
+
+abbrev pub typedAnswer : Bool → Expression → List ℕ → Answer
+typedAnswer true e entries = Typed (recordSize (length (outputList e entries)))
+typedAnswer false e entries = Untyped
+
+unfoldable pub tableAnswer : Expression → List ℕ → List ℕ → Answer
+tableAnswer e special entries = typedAnswer (typedIn e special entries) e entries
+
+abbrev pub typedOut : Bool → Expression → List ℕ → List ℕ → List ℕ → List ℕ
+typedOut true e special entries out = over (recordBytes (outputMap e special) (outputList e entries)) out
+typedOut false e special entries out = out
+
+unfoldable pub tableOut : Expression → List ℕ → List ℕ → List ℕ → List ℕ
+tableOut e special entries out = typedOut (typedIn e special entries) e special entries out
+
+-- ---- over a schema, as it was read: the refusal, or what its table gives
+
+abbrev pub afterSchema : {A : Type 0} → Judgement → (Refusal → A) → A → A
+afterSchema (SchemaRefused r) stop go = stop r
+afterSchema Read stop go = go
+
+unfoldable pub schemaAnswer : Expression → Schema → Answer
+schemaAnswer e s = afterSchema (s .judgement) Refused (tableAnswer e (s .special) (take (s .entries .count) (s .entries .items)))
+
+unfoldable pub schemaOut : Expression → Schema → List ℕ → List ℕ
+schemaOut e s out = afterSchema (s .judgement) (λ r. out) (tableOut e (s .special) (take (s .entries .count) (s .entries .items)) out)
+
+-- ---- the operation
+
+-- "10, 11, 12, 13", without 12, since there is no work space: the refusal, or what comes with m relations
+abbrev pub afterFile : {A : Type 0} → Acceptance → ℕ → ℕ → (Refusal → A) → (ℕ → A) → A
+afterFile (FileRefused r) k size stop go = stop r
+afterFile (Accepted m n) k size stop go = refuse stop (leb n k) NodeNumber (refuse stop (ltb size 513) ResultSlice (go m))
+
+-- the answer, for a result slice of so many bytes
+unfoldable pub typingAnswer : List ℕ → ℕ → List ℕ → ℕ → Answer
+typingAnswer file k schema size = afterFile (acceptance file) k size Refused (λ m. schemaAnswer (expressionAt file k) (schemaReading m schema))
+
+-- the result slice afterwards
+unfoldable pub typingOut : List ℕ → ℕ → List ℕ → List ℕ → List ℕ
+typingOut file k schema out = afterFile (acceptance file) k (length out) (λ r. out) (λ m. schemaOut (expressionAt file k) (schemaReading m schema) out)

@@ -1,0 +1,130 @@
+-- Laws of Typing: what the code finds is what the definitions say, the results after each refusal, and after none.
+use Prim.Native.Nat.{ℕ, _+_, _*_, _/_, _%_, _≤_, _<_}
+use mathlib.Core.Path.{_≡_, refl, sym, ap, ap₂, _∙_}
+use mathlib.Core.Bool.{Bool, true, false}
+use mathlib.Core.List.{List}
+use native.Mathlib.Omega.{arith}
+use borrow.Author.Tests.{lt-ltb, le-ltb, le-leb, lt-leb}
+use lib.Dec.{eqb}
+use lib.ListN.{length, getD, take}
+use Rattle.bits.specs.AllBelow.{allBelow}
+use Rattle.bits.specs.Tab.{over}
+use Rattle.bits.specs.Word.{Bytes}
+use Rattle.refusal.specs.Chain.{refuse}
+use Rattle.refusal.specs.declared.Refusal.{Refusal}
+use Rattle.refusal.specs.declared.Refusal.the-variants.{NodeNumber, ResultSlice}
+use Rattle.expression.specs.declared.files.Acceptance.{Acceptance}
+use Rattle.expression.specs.declared.files.Acceptance.the-variants.{Accepted, Refused as FileRefused}
+use Rattle.expression.specs.ReadFile.{acceptance}
+use Rattle.algebra.specs.Expression.{Expression, Legal}
+use Rattle.formula.specs.Expressions.{expressionAt}
+use Rattle.type_record.specs.Record.{recordSize, recordBytes}
+use Rattle.schema.specs.Schema.{schemaReading, WritesFrom}
+use Rattle.schema.specs.TableLaws.{ReadSchema, schema-read, read-zeros, read-table}
+use Rattle.schema.specs.declared.reading.Judgement.{Judgement}
+use Rattle.schema.specs.declared.reading.Judgement.the-variants.{Read, Refused as SchemaRefused}
+use Rattle.schema.specs.declared.reading.Schema.{Schema}
+use Rattle.typing.specs.Filling.{NodeLanes}
+use Rattle.typing.specs.Output.{typedIn, outputMap, outputList}
+use Rattle.typing.specs.OutputLaws.{mapIn, listIn}
+use Rattle.typing.specs.Judged.{lanesOf, TableItems, typed-lanes, map-is, list-is, map-even}
+use Rattle.typing.specs.Typing.{typedAnswer, tableAnswer, typedOut, tableOut, afterSchema, schemaAnswer, schemaOut, afterFile, typingAnswer, typingOut}
+use Rattle.typing.specs.declared.operation.Answer.{Answer}
+use Rattle.typing.specs.declared.operation.Answer.the-variants.{Typed, Untyped, Refused}
+
+-- a table that was read: it can be written, and there are zeros after its last entry
+pub record ReadTable (special items : List ℕ) (count : ℕ) : Type 0 where
+  pub writes : WritesFrom special items count
+  pub zeros : (i : ℕ) → count ≤ i → getD items i 0 ≡ 0
+
+pub table-items : {special items : List ℕ} {count : ℕ} → ReadTable special items count → TableItems items count
+table-items t = record { size = t .writes .size; few = t .writes .few; zeros = t .zeros }
+
+-- ---- over a table
+
+module _ (file : List ℕ) (m k : ℕ) (legal : Legal m (expressionAt file k)) (special items : List ℕ) (count : ℕ) (allowed output : List ℕ) (table : ReadTable special items count) (lanes : NodeLanes file special items (lanesOf count) k allowed output) where
+  abbrev e : Expression
+  e = expressionAt file k
+
+  typed-is : (t : Bool) → t ≡ allBelow (lanesOf count) (λ b. eqb (getD allowed (k * 48 + b) 0) 255) → t ≡ typedIn e special (take count items)
+  typed-is t is = is ∙ typed-lanes m e legal special items count k allowed output (table-items table) (lanes .lane)
+
+  pub table-untyped : (out : List ℕ) (t : Bool) → t ≡ false → t ≡ allBelow (lanesOf count) (λ b. eqb (getD allowed (k * 48 + b) 0) 255) → (Untyped ≡ tableAnswer e special (take count items)) × (out ≡ tableOut e special (take count items) out)
+  unfolding tableAnswer tableOut
+  table-untyped out t fails is = let not-typed = sym (typed-is t is) ∙ fails in rw not-typed (refl, refl)
+
+  -- the record that the lanes say is the output's
+  pub table-typed : (out written : List ℕ) (t : Bool) (size : ℕ) → t ≡ true → t ≡ allBelow (lanesOf count) (λ b. eqb (getD allowed (k * 48 + b) 0) 255) → size ≡ recordSize (length (listIn items count output k)) → written ≡ over (recordBytes (mapIn output k) (listIn items count output k)) out → (Typed size ≡ tableAnswer e special (take count items)) × (written ≡ tableOut e special (take count items) out)
+  unfolding tableAnswer tableOut
+  table-typed out written t size holds is size-is wrote =
+      let typed = sym (typed-is t is) ∙ holds in
+      let list = list-is m e legal special items count k allowed output (table-items table) (lanes .lane) typed in
+      let map = map-is m e legal special items count k allowed output (table-items table) (lanes .lane) typed in
+      rw typed (
+        ap Typed (size-is ∙ ap (λ (l : List ℕ). recordSize (length l)) list),
+        wrote ∙ ap₂ (λ (x : ℕ) (l : List ℕ). over (recordBytes x l) out) map list,
+      )
+
+  -- bit 0 of its map is clear
+  pub found-even : (t : Bool) → t ≡ true → t ≡ allBelow (lanesOf count) (λ b. eqb (getD allowed (k * 48 + b) 0) 255) → mapIn output k % 2 ≡ 0
+  found-even t holds is =
+      let typed = sym (typed-is t is) ∙ holds in
+      ap (λ (x : ℕ). x % 2) (map-is m e legal special items count k allowed output (table-items table) (lanes .lane) typed) ∙ map-even m e legal special (table .writes .even)
+
+-- ---- over a schema
+
+module _ (e : Expression) (s : Schema) (out : List ℕ) where
+  pub schema-stops : (r : Refusal) → s .judgement ≡ SchemaRefused r → (Refused r ≡ schemaAnswer e s) × (out ≡ schemaOut e s out)
+  unfolding schemaAnswer schemaOut
+  schema-stops r is = rw is (refl, refl)
+
+  pub schema-goes : s .judgement ≡ Read → (t : Answer) (written : List ℕ) → t ≡ tableAnswer e (s .special) (take (s .entries .count) (s .entries .items)) → written ≡ tableOut e (s .special) (take (s .entries .count) (s .entries .items)) out → (t ≡ schemaAnswer e s) × (written ≡ schemaOut e s out)
+  unfolding schemaAnswer schemaOut
+  schema-goes is t written answered wrote = rw is (answered, wrote)
+
+-- a schema that was read has such a table
+pub schema-table : (m : ℕ) (bytes : List ℕ) (s : Schema) → m ≤ 8 → Bytes bytes → s ≡ schemaReading m bytes → s .judgement ≡ Read → ReadTable (s .special) (s .entries .items) (s .entries .count)
+schema-table m bytes s most below is read = rw is (made (schema-read m bytes (rw is at read)))
+  where
+    made : ReadSchema m bytes (schemaReading m bytes) → ReadTable (schemaReading m bytes .special) (schemaReading m bytes .entries .items) (schemaReading m bytes .entries .count)
+    made r = record { writes = read-table m bytes (schemaReading m bytes) most below r; zeros = read-zeros m bytes (schemaReading m bytes) r }
+
+-- ---- the order of the refusals
+
+-- refusal r is the first that applies before the schema is read
+pub data Stops (a : Acceptance) (k size : ℕ) : Refusal → Type 0 where
+  byFile : {r : Refusal} → a ≡ FileRefused r → Stops a k size r
+  byNode : {m n : ℕ} → a ≡ Accepted m n → n ≤ k → Stops a k size NodeNumber
+  bySlice : {m n : ℕ} → a ≡ Accepted m n → k < n → size < 513 → Stops a k size ResultSlice
+
+-- none applies
+pub record Goes (a : Acceptance) (k size m n : ℕ) : Type 0 where
+  pub accepted : a ≡ Accepted m n
+  pub node : k < n
+  pub slice : 513 ≤ size
+
+module _ {A : Type 0} (stop : Refusal → A) (go : ℕ → A) (a : Acceptance) (k size : ℕ) where
+  stopped : (r : Refusal) → Stops a k size r → afterFile a k size stop go ≡ stop r
+  unfolding refuse
+  stopped r (byFile e) = rw e
+  stopped r (byNode {m} {n} e h) = rw (e, le-leb n k h)
+  stopped r (bySlice {m} {n} e h s) = rw (e, lt-leb n k h, lt-ltb size 513 s)
+
+  gone : (m n : ℕ) → Goes a k size m n → afterFile a k size stop go ≡ go m
+  unfolding refuse
+  gone m n g = rw (g .accepted, lt-leb n k (g .node), le-ltb size 513 (g .slice))
+
+module _ (file : List ℕ) (k : ℕ) (schema out : List ℕ) where
+  pub typing-stops : (r : Refusal) → Stops (acceptance file) k (length out) r → (Refused r ≡ typingAnswer file k schema (length out)) × (out ≡ typingOut file k schema out)
+  unfolding typingAnswer typingOut
+  typing-stops r s = (
+    sym (stopped Refused (λ m. schemaAnswer (expressionAt file k) (schemaReading m schema)) (acceptance file) k (length out) r s),
+    sym (stopped (λ r. out) (λ m. schemaOut (expressionAt file k) (schemaReading m schema) out) (acceptance file) k (length out) r s),
+  )
+
+  pub typing-goes : (m n : ℕ) → Goes (acceptance file) k (length out) m n → (schemaAnswer (expressionAt file k) (schemaReading m schema) ≡ typingAnswer file k schema (length out)) × (schemaOut (expressionAt file k) (schemaReading m schema) out ≡ typingOut file k schema out)
+  unfolding typingAnswer typingOut
+  typing-goes m n g = (
+    sym (gone Refused (λ m. schemaAnswer (expressionAt file k) (schemaReading m schema)) (acceptance file) k (length out) m n g),
+    sym (gone (λ r. out) (λ m. schemaOut (expressionAt file k) (schemaReading m schema) out) (acceptance file) k (length out) m n g),
+  )

@@ -1,0 +1,8 @@
+// Typing: whether a schema types a node, and the output record.
+mod filling;
+mod lanes;
+mod operation;
+mod output;
+
+pub use operation::Answer;
+pub use operation::typing;
