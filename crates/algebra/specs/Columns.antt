@@ -6,7 +6,7 @@ use native.Mathlib.Omega.{arith}
 use borrow.Author.Tests.{eqb-true}
 use lib.Dec.{eqb}
 use Rattle.attribute_set.specs.AttrSet.{special}
-use Rattle.attribute_set.specs.Laws.{special-range}
+use Rattle.attribute_set.specs.Laws.{special-range, special-above}
 use Rattle.types.specs.Types.{Attrs, _⊆_, column}
 use Rattle.algebra.specs.Booleans.{is-false}
 
@@ -27,9 +27,6 @@ absent s named a h = is-false _ (λ e. true≢false (sym (named a e) ∙ h))
 
 special-zero : special 0 ≡ false
 special-zero = is-false _ (λ e. let h = special-range 0 e in omega arith)
-
-pub special-above : (a : ℕ) → 16 ≤ a → special a ≡ false
-special-above a least = is-false _ (λ e. let h = special-range a e in omega arith)
 
 pub absent-zero : (s : Attrs) → s ⊆ special → s 0 ≡ false
 absent-zero s named = absent s named 0 special-zero

@@ -17,6 +17,13 @@ pub special-range : (a : ℕ) → special a ≡ true → (1 ≤ a) × (a ≤ 15)
 unfolding special
 special-range a e = in-range 1 15 a e
 
+pub special-above : (a : ℕ) → 16 ≤ a → special a ≡ false
+special-above a h = go (special a) refl
+  where
+    go : (t : Bool) → special a ≡ t → t ≡ false
+    go true e = let range = special-range a e in absurd (omega arith)
+    go false e = refl
+
 pub special-in : (a : ℕ) → 1 ≤ a → a ≤ 15 → special a ≡ true
 unfolding special
 special-in a l h = range-in 1 15 a l h

@@ -18,6 +18,11 @@ abbrev pub Rising : ℕ → List ℕ → Type 0
 Rising p [] = Unit {0}
 Rising p (x ∷ xs) = (p < x) × Rising x xs
 
+-- what rises from above q rises from above what is not above q
+pub rising-lower : (p q : ℕ) (xs : List ℕ) → p ≤ q → Rising q xs → Rising p xs
+rising-lower p q [] h r = tt
+rising-lower p q (x ∷ xs) h r = let first = r .0 in (omega arith, r .1)
+
 -- no member is p or below
 pub rising-above : (p : ℕ) (xs : List ℕ) (a : ℕ) → Rising p xs → a ≤ p → member a xs ≡ false
 rising-above p [] a r h = refl

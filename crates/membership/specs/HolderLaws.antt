@@ -9,7 +9,7 @@ use lib.Dec.{eqb, lit<}
 use lib.ListN.{length, getD, take}
 use lib.Seq.{ext-getD, getD-take, length-take-le}
 use Rattle.bits.specs.Bit.{bit, bit-none}
-use Rattle.bits.specs.Rising.{member, Rising}
+use Rattle.bits.specs.Rising.{member, Rising, rising-lower}
 use Rattle.bits.specs.Tab.{tab, length-tab, getD-tab}
 use Rattle.membership.specs.Entries.{attributeOf, subsetOf, holdersIn}
 use Rattle.membership.specs.EnterLaws.{RisingEntries, subset-bit, holders-below}
@@ -29,18 +29,13 @@ held-member p r (e ∷ es) hr h a = go (bit e r) refl (eqb a (attributeOf e)) re
         rest ∙ ap (λ (s : ℕ). bit s r) (holders-below (attributeOf e) es (h .1) a (omega arith)) ∙ bit-none r ∙ sym (subset-bit e r hr ∙ not-has)
     go false not-has false other rest = rest
 
--- what rises above q rises above what is below q
-rising-from : (p q : ℕ) (xs : List ℕ) → p ≤ q → Rising q xs → Rising p xs
-rising-from p q [] h r = tt
-rising-from p q (x ∷ xs) h r = let first = r .0 in (omega arith, r .1)
-
 pub held-rising : (p r : ℕ) (es : List ℕ) → RisingEntries p es → Rising p (heldBy r es)
 held-rising p r [] h = tt
 held-rising p r (e ∷ es) h = go (bit e r) (held-rising (attributeOf e) r es (h .1))
   where
     go : (b : Bool) → Rising (attributeOf e) (heldBy r es) → Rising p (cond b (attributeOf e ∷ heldBy r es) (heldBy r es))
     go true rest = (h .0, rest)
-    go false rest = let first = h .0 in rising-from p (attributeOf e) (heldBy r es) (omega arith) rest
+    go false rest = let first = h .0 in rising-lower p (attributeOf e) (heldBy r es) (omega arith) rest
 
 pub held-few : (r : ℕ) (es : List ℕ) → length (heldBy r es) ≤ length es
 held-few r [] = omega arith

@@ -66,13 +66,20 @@ module _ (e : Expression) (F : Formula) (legal : Legal (F .relations) e) (is : F
         output = is .output 0 0 (lit< tt) (pow-pos (F .relations)) ∙ ap₂ _&&_ (nobody .0 ∙ none .0) (nobody .1 ∙ none .1);
       }
 
+  -- the rules give e the type t under A exactly when the formula allows each attribute as A has it, with the output t
+  pub typed-fits : (A : Assignment) (t : Attrs) → Typed A e t ↔ ((a : ℕ) → Fits F A t a)
+  typed-fits A t = (
+    (λ typed a. cell-fits A t a (typed-cells (F .relations) e legal A t typed a)),
+    (λ fits. cells-typed (F .relations) e legal A t (λ a. fits-cell A t a (fits a))),
+  )
+
   -- ---- demand 3
 
   -- principal: the rules give e the type t under A exactly when an instantiation has that image and that output
   pub principal : (A : Assignment) → IsAssignment (F .relations) A → (t : Attrs) → IsType t → Typed A e t ↔ ((I : Instantiation F) × (HasImage I A × HasOutput I t))
   principal A types t type = (
-    (λ typed. instantiate F grounded A types t (λ a. cell-fits A t a (typed-cells (F .relations) e legal A t typed a))),
-    (λ found. cells-typed (F .relations) e legal A t (λ a. fits-cell A t a (image-fits F grounded A types t type (found .0) (found .1 .0) (found .1 .1) a))),
+    (λ typed. instantiate F grounded A types t (typed-fits A t .0 typed)),
+    (λ found. typed-fits A t .1 (image-fits F grounded A types t type (found .0) (found .1 .0) (found .1 .1))),
   )
 
   -- unique: no two instantiations have one image
@@ -86,7 +93,7 @@ module _ (e : Expression) (F : Formula) (legal : Legal (F .relations) e) (is : F
         types = f .types;
         type = f .type;
         isType = f .isType;
-        typed = cells-typed (F .relations) e legal (f .assignment) (f .type) (λ a. fits-cell (f .assignment) (f .type) a (f .fits a));
+        typed = typed-fits (f .assignment) (f .type) .1 (f .fits);
       }
 
   typing-fitting : Typing (F .relations) e → Fitting F
@@ -96,7 +103,7 @@ module _ (e : Expression) (F : Formula) (legal : Legal (F .relations) e) (is : F
         types = t .types;
         type = t .type;
         isType = t .isType;
-        fits = λ a. cell-fits (t .assignment) (t .type) a (typed-cells (F .relations) e legal (t .assignment) (t .type) (t .typed) a);
+        fits = typed-fits (t .assignment) (t .type) .0 (t .typed);
       }
 
   -- verdict: some special column allows nothing exactly when no assignment types e
@@ -105,4 +112,4 @@ module _ (e : Expression) (F : Formula) (legal : Legal (F .relations) e) (is : F
 
   -- a subset for each special attribute, allowed in its column, gives an assignment that types e
   pub choice-typed : (choice : Choice F) → Typed (chosen choice) e (chosenType choice)
-  choice-typed choice = cells-typed (F .relations) e legal (chosen choice) (chosenType choice) (λ a. fits-cell (chosen choice) (chosenType choice) a (choice-fits F grounded choice a))
+  choice-typed choice = typed-fits (chosen choice) (chosenType choice) .1 (choice-fits F grounded choice)

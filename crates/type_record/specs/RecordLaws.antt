@@ -2,7 +2,7 @@
 use Prim.Native.Nat.{ℕ, zero, suc, _+_, _-_, _*_, _/_, _%_, _≤_, _<_}
 use mathlib.Core.Path.{_≡_, refl, sym, ap, ap₂, subst, _∙_}
 use mathlib.Core.Bool.{Bool, true, false, cond}
-use mathlib.Core.List.{List, _++_}
+use mathlib.Core.List.{List, [], _++_}
 use native.Mathlib.Decide.{decLe}
 use native.Mathlib.Omega.{arith}
 use borrow.Author.Tests.{ltb-false, eqb-true, eqb-false, le-ltb, eq-eqb, ne-eqb}
@@ -16,7 +16,7 @@ use Rattle.bits.specs.Rising.{member, Rising, rising-above, member-below, risin
 use Rattle.bits.specs.Tab.{tab, length-tab, getD-tab, tab-is}
 use Rattle.bits.specs.Word.{word, Bytes, word-below}
 use Rattle.attribute_set.specs.AttrSet.{special}
-use Rattle.attribute_set.specs.Laws.{special-range, special-in}
+use Rattle.attribute_set.specs.Laws.{special-in, special-above}
 use Rattle.types.specs.Types.{IsType, Finite}
 use Rattle.refusal.specs.Chain.{refuse}
 use Rattle.refusal.specs.declared.Refusal.{Refusal}
@@ -319,14 +319,17 @@ pub written-record : (t : TypeRecord) (rest : List ℕ) → IsRecord t → recor
 unfolding recordAt
 written-record t rest is = ap (λ (l : List ℕ). record { map = t .map; ordinary = l }) (sym (written-listed t rest))
 
--- ---- the type that a record stands for
+-- two records with the same bytes are one
+pub bytes-once : (t u : TypeRecord) → IsRecord t → IsRecord u → recordBytes (t .map) (t .ordinary) ≡ recordBytes (u .map) (u .ordinary) → t ≡ u
+bytes-once t u t-is u-is e =
+    let reading : Read (t .map) (length (t .ordinary)) ≡ Read (u .map) (length (u .ordinary)) =
+    sym (written-read t [] t-is) ∙ ap (λ (b : List ℕ). readRecord (b ++ [])) e ∙ written-read u [] u-is
+    in
+    let map-is : t .map ≡ u .map = cc in
+    let count-is : length (t .ordinary) ≡ length (u .ordinary) = cc in
+    sym (written-record t [] t-is) ∙ rw (e, map-is, count-is) (written-record u [] u-is)
 
-special-above : (a : ℕ) → 16 ≤ a → special a ≡ false
-special-above a h = go (special a) refl
-  where
-    go : (t : Bool) → special a ≡ t → t ≡ false
-    go true e = let range = special-range a e in absurd (omega arith)
-    go false e = refl
+-- ---- the type that a record stands for
 
 type-special : (t : TypeRecord) (a : ℕ) → 1 ≤ a → a ≤ 15 → typeOf t a ≡ bit (t .map) a
 unfolding typeOf

@@ -70,7 +70,7 @@ held-outputs e (suc n) g h is =
 
 module _ (m : ℕ) (e : Expression) (legal : Legal m e) where
   -- an attribute that no relation has
-  none-held : (x : ℕ) → x ≡ 0 → (ok plain e 0 (bit x) ≡ true) × (out plain e 0 (bit x) ≡ false)
+  pub none-held : (x : ℕ) → x ≡ 0 → (ok plain e 0 (bit x) ≡ true) × (out plain e 0 (bit x) ≡ false)
   none-held x z =
       let none : bit x ≡ (λ r. false) = ap bit z ∙ fun-ext bit-none in
       rw none (cell-none plain refl refl m e legal)

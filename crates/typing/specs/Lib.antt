@@ -7,3 +7,7 @@ pub mod OutputLaws
 pub mod Judged
 pub mod Typing
 pub mod TypingLaws
+pub mod OutputRecord
+pub mod TableTyped
+pub mod Theorems
+pub mod Agreement

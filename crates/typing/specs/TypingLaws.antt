@@ -18,7 +18,7 @@ use Rattle.expression.specs.declared.files.Acceptance.the-variants.{Accepted, R
 use Rattle.expression.specs.ReadFile.{acceptance}
 use Rattle.algebra.specs.Expression.{Expression, Legal}
 use Rattle.formula.specs.Expressions.{expressionAt}
-use Rattle.type_record.specs.Record.{recordSize, recordBytes}
+use Rattle.type_record.specs.Record.{TypeRecord, recordSize, recordBytes}
 use Rattle.schema.specs.Schema.{schemaReading, WritesFrom}
 use Rattle.schema.specs.TableLaws.{ReadSchema, schema-read, read-zeros, read-table}
 use Rattle.schema.specs.declared.reading.Judgement.{Judgement}
@@ -86,8 +86,8 @@ module _ (e : Expression) (s : Schema) (out : List ℕ) where
 pub schema-table : (m : ℕ) (bytes : List ℕ) (s : Schema) → m ≤ 8 → Bytes bytes → s ≡ schemaReading m bytes → s .judgement ≡ Read → ReadTable (s .special) (s .entries .items) (s .entries .count)
 schema-table m bytes s most below is read = rw is (made (schema-read m bytes (rw is at read)))
   where
-    made : ReadSchema m bytes (schemaReading m bytes) → ReadTable (schemaReading m bytes .special) (schemaReading m bytes .entries .items) (schemaReading m bytes .entries .count)
-    made r = record { writes = read-table m bytes (schemaReading m bytes) most below r; zeros = read-zeros m bytes (schemaReading m bytes) r }
+    made : (ts : List TypeRecord) × ReadSchema m bytes (schemaReading m bytes) ts → ReadTable (schemaReading m bytes .special) (schemaReading m bytes .entries .items) (schemaReading m bytes .entries .count)
+    made r = record { writes = read-table m bytes (schemaReading m bytes) (r .0) most below (r .1); zeros = read-zeros m bytes (schemaReading m bytes) (r .0) (r .1) }
 
 -- ---- the order of the refusals
 

@@ -16,7 +16,7 @@ use Rattle.types.specs.Types.{Attrs, IsType, Assignment, IsAssignment}
 use Rattle.algebra.specs.Expression.{Expression}
 use Rattle.algebra.specs.Rules.{Typed}
 use Rattle.algebra.specs.Cell.{plain, out, ok}
-use Rattle.formulas.specs.Formula.{Formula}
+use Rattle.formulas.specs.Formula.{Formula, Fits}
 use Rattle.formulas.specs.Instantiation.{Instantiation, InImage, HasImage, HasOutput}
 use Rattle.formulas.specs.Principal.{Blocked, Choice, chosen, chosenType}
 use Rattle.principal.specs.Principal as Theorem
@@ -77,6 +77,10 @@ module _ (file : List ℕ) (m n : ℕ) (accepted : acceptance file ≡ Accepted 
         allowed = λ c s hc hs. stored-allowed c s hc (lt-of-lt-of-le hs subsets-few) ∙ ap (λ (t : Bool). t && ok plain (expressionAt file k) c (bit s)) (lt-ltb s (2 ^ m) hs);
         output = λ c s hc hs. stored-output c s hc (lt-of-lt-of-le hs subsets-few) ∙ ap (λ (t : Bool). t && ok plain (expressionAt file k) c (bit s) && out plain (expressionAt file k) c (bit s)) (lt-ltb s (2 ^ m) hs);
       }
+
+  -- the rules give the node the type t under A exactly when each attribute's subset is allowed in its column, and t has those whose output bit stands
+  pub typed-fits : (A : Assignment) (t : Attrs) → Typed A (expressionAt file k) t ↔ ((a : ℕ) → Fits (formulaIn filled m k) A t a)
+  typed-fits = Theorem.typed-fits (expressionAt file k) (formulaIn filled m k) (expression-legal file m n accepted k node) is-formula
 
   -- ---- demand 3
 
