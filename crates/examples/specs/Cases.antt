@@ -1,11 +1,18 @@
--- The starred examples of document 01 that concern formulas and verdicts.
+-- The starred examples of document 01.
 use Prim.Native.Nat.{ℕ}
+use mathlib.Core.Bool.{Bool, true, false}
 use mathlib.Core.List.{List, [], _∷_}
 
 -- a column of the last node: its allowed subsets, and those of them that put the attribute in the output
 pub record Column : Type 0 where
   pub number : ℕ
   pub allowed : List ℕ
+  pub output : List ℕ
+
+-- a schema, whether it types the last node, and the output record
+pub record Typing : Type 0 where
+  pub schema : List ℕ
+  pub typed : Bool
   pub output : List ℕ
 
 pub record Case : Type 0 where
@@ -18,11 +25,18 @@ pub record Case : Type 0 where
   pub blocked : ℕ
   -- the witness, of a typable node
   pub witness : List ℕ
+  pub typings : List Typing
+
+abbrev pub typed : List ℕ → List ℕ → Typing
+typed schema output = record { schema = schema; typed = true; output = output }
+
+abbrev pub untyped : List ℕ → Typing
+untyped schema = record { schema = schema; typed = false; output = [] }
 
 abbrev pub column : ℕ → List ℕ → List ℕ → Column
 column c a o = record { number = c; allowed = a; output = o }
 
--- σ{2,3}((ρ1/2(r0) ∪ r1) ⋈ r2), and E2, its witness
+-- σ{2,3}((ρ1/2(r0) ∪ r1) ⋈ r2); E2, its witness; E3, the witness with 20 added to r0 and r1; E4, with 20 in r0 only
 abbrev pub e1 : Case
 e1 =
     record {
@@ -37,6 +51,11 @@ e1 =
           ∷ [];
       blocked = 16;
       witness = 10 ∷ 0 ∷ 12 ∷ 0 ∷ 0 ∷ 0 ∷ [];
+      typings =
+          typed (10 ∷ 0 ∷ 12 ∷ 0 ∷ 0 ∷ 0 ∷ []) (12 ∷ 0 ∷ [])
+          ∷ typed (11 ∷ 0 ∷ 1 ∷ 20 ∷ 0 ∷ 13 ∷ 0 ∷ 1 ∷ 20 ∷ 0 ∷ 0 ∷ 0 ∷ []) (13 ∷ 0 ∷ 1 ∷ 20 ∷ 0 ∷ [])
+          ∷ untyped (11 ∷ 0 ∷ 1 ∷ 20 ∷ 0 ∷ 12 ∷ 0 ∷ 0 ∷ 0 ∷ [])
+          ∷ [];
     }
 
 -- σ{1,2}(π{2,3}(r0)): untypable, attribute 1
@@ -49,6 +68,7 @@ e5 =
       columns = column 1 [] [] ∷ column 2 (1 ∷ []) (1 ∷ []) ∷ [];
       blocked = 1;
       witness = [];
+      typings = [];
     }
 
 -- ρ1/1(r0): the same
@@ -61,6 +81,7 @@ e6 =
       columns = column 1 [] [] ∷ [];
       blocked = 1;
       witness = [];
+      typings = [];
     }
 
 -- r0 × r0, m 1: only s = 0 allowed anywhere; typable
@@ -73,6 +94,7 @@ e7 =
       columns = column 0 (0 ∷ []) [] ∷ column 1 (0 ∷ []) [] ∷ column 15 (0 ∷ []) [] ∷ [];
       blocked = 16;
       witness = 0 ∷ 0 ∷ [];
+      typings = typed (0 ∷ 0 ∷ []) (0 ∷ 0 ∷ []) ∷ untyped (2 ∷ 0 ∷ []) ∷ [];
     }
 
 -- π{}(r0), m 1: typed always, output empty
@@ -85,6 +107,7 @@ e8 =
       columns = column 0 (0 ∷ 1 ∷ []) [] ∷ column 1 (0 ∷ 1 ∷ []) [] ∷ column 15 (0 ∷ 1 ∷ []) [] ∷ [];
       blocked = 16;
       witness = 0 ∷ 0 ∷ [];
+      typings = typed (3 ∷ 0 ∷ 1 ∷ 16 ∷ 0 ∷ []) (0 ∷ 0 ∷ []) ∷ [];
     }
 
 -- r0 ∪ π{1}(r1), m 2: variable 02 only, not in the output; attribute 1 allows 03 only
@@ -97,6 +120,7 @@ e9 =
       columns = column 0 (0 ∷ 2 ∷ []) [] ∷ column 1 (3 ∷ []) (3 ∷ []) ∷ [];
       blocked = 16;
       witness = 2 ∷ 0 ∷ 2 ∷ 0 ∷ [];
+      typings = typed (2 ∷ 0 ∷ 3 ∷ 0 ∷ 1 ∷ 20 ∷ 0 ∷ []) (2 ∷ 0 ∷ []) ∷ untyped (3 ∷ 0 ∷ 1 ∷ 20 ∷ 0 ∷ 3 ∷ 0 ∷ 1 ∷ 20 ∷ 0 ∷ []) ∷ [];
     }
 
 -- σ{1}(r0 ⋈ r1) ⋈ ((r0 × r2) − r3): variables 02 09 0b 0c 0e, all output; attribute 1: 02 09 0b 0e
@@ -112,6 +136,7 @@ e10 =
           ∷ [];
       blocked = 16;
       witness = 0 ∷ 0 ∷ 2 ∷ 0 ∷ 0 ∷ 0 ∷ 0 ∷ 0 ∷ [];
+      typings = [];
     }
 
 unfoldable pub table : List Case

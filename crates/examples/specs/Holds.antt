@@ -1,31 +1,41 @@
 -- Each case of the table holds: one computed test, and one theorem that turns it into the facts of a case.
 use Prim.Native.Nat.{ℕ, zero, suc, _+_, _-_, _*_, _^_, _≤_, _<_}
-use mathlib.Core.Path.{_≡_, refl, ap, ap₂, _∙_}
+use mathlib.Core.Path.{_≡_, refl, sym, ap, ap₂, _∙_}
 use mathlib.Core.Bool.{Bool, true, false, cond, _&&_}
 use mathlib.Core.List.{List, [], _∷_}
 use native.Mathlib.Omega.{arith}
-use lib.Dec.{T, eqb, ltb, eqb→eq, ltb→lt}
+use lib.Dec.{T, eqb, ltb, leb, eqb→eq, ltb→lt, leb→le}
 use lib.ListN.{length, getD}
 use Rattle.bits.specs.Bit.{bit}
 use Rattle.bits.specs.Lowest.{lowestFrom}
 use Rattle.bits.specs.Pack.{pack}
 use Rattle.bits.specs.Range.{inRange}
 use Rattle.bits.specs.Tab.{tab, over}
+use Rattle.bits.specs.Word.{word}
 use Rattle.attribute_set.specs.AttrSet.{special, hasAttribute, setOf}
 use Rattle.refusal.specs.Chain.{refuse}
 use Rattle.expression.specs.Operators.{binaryCode, setCode}
 use Rattle.expression.specs.ReadNode.{readNode, readFields, withBinary, withSet}
-use Rattle.expression.specs.ReadFile.{acceptance, parse, header, readNodes, entryAt, entriesOf}
+use Rattle.expression.specs.ReadFile.{acceptance, parse, header, readNodes, entryAt, entriesOf as nodeEntries}
 use Rattle.expression.specs.declared.files.Acceptance.{Acceptance}
 use Rattle.expression.specs.declared.files.Acceptance.the-variants.{Accepted, Refused}
 use Rattle.algebra.specs.Expression.{Expression}
 use Rattle.formula.specs.Expressions.{expressionAt, earlier}
 use Rattle.formula.specs.Stored.{allowedBit, outputBit}
-use Rattle.verdict.specs.Witness.{recordWord, recordByte}
+use Rattle.verdict.specs.Witness.{recordWord, recordByte as witnessByte}
 use Rattle.verdict.specs.Verdict.{judged, verdictAnswer, verdictSchema}
-use Rattle.verdict.specs.VerdictLaws.{Goes}
+use Rattle.verdict.specs.VerdictLaws.{Goes as VerdictGoes}
 use Rattle.verdict.specs.Cells.{subsetOf, blockedOf, witnessOf, verdict-answer, verdict-schema}
-use Rattle.examples.specs.Cases.{Column, Case, table}
+use Rattle.type_record.specs.Lists.{readFrom, readList, listed}
+use Rattle.type_record.specs.Record.{readRecord, recordSize, recordAt, recordByte, recordBytes}
+use Rattle.type_record.specs.RecordLaws.{record-length}
+use Rattle.membership.specs.Entries.{enter}
+use Rattle.schema.specs.Schema.{Records, recordsRefused, recordsRead, readRecords, entriesOf, mapsOf}
+use Rattle.typing.specs.Output.{typedIn, outputMap, outputList}
+use Rattle.typing.specs.Typing.{typedAnswer, tableAnswer, typedOut, tableOut, typingAnswer, typingOut}
+use Rattle.typing.specs.TypingLaws.{Goes, typing-records}
+use Rattle.typing.specs.declared.operation.Answer.the-variants.{Typed, Untyped}
+use Rattle.examples.specs.Cases.{Column, Typing, Case, table}
 
 -- ---- what is compared
 
@@ -55,10 +65,20 @@ pub record VerdictHolds (x : Case) (work schema : List ℕ) : Type 0 where
   pub answer : verdictAnswer (x .file) (x .nodes - 1) (length work) (length schema) ≡ judged (ltb (x .blocked) 16) (x .blocked) (x .relations)
   pub slice : verdictSchema (x .file) (x .nodes - 1) (length work) schema ≡ cond (ltb (x .blocked) 16) schema (over (x .witness) schema)
 
+-- what Typing does on the last node under a schema, in a slice that is long enough: the answer, and the slice with the output record or as it was
+pub record TypingHolds (x : Case) (y : Typing) (out : List ℕ) : Type 0 where
+  pub answer : typingAnswer (x .file) (x .nodes - 1) (y .schema) (length out) ≡ cond (y .typed) (Typed (length (y .output))) Untyped
+  pub slice : typingOut (x .file) (x .nodes - 1) (y .schema) out ≡ cond (y .typed) (over (y .output) out) out
+
+abbrev pub TypingsHold : Case → List Typing → List ℕ → Type 0
+TypingsHold x [] out = Unit
+TypingsHold x (y ∷ ys) out = TypingHolds x y out × TypingsHold x ys out
+
 pub record Holds (x : Case) : Type 0 where
   pub accepted : acceptance (x .file) ≡ Accepted (x .relations) (x .nodes)
   pub columns : AllHold (x .relations) (lastOf x) (x .columns)
   pub verdict : (work schema : List ℕ) → x .nodes * 1024 ≤ length work → 4104 ≤ length schema → VerdictHolds x work schema
+  pub typings : (out : List ℕ) → 513 ≤ length out → TypingsHold x (x .typings) out
 
 -- ---- the test
 
@@ -84,6 +104,23 @@ witnessPasses : Bool → List ℕ → List ℕ → Bool
 witnessPasses true w w′ = true
 witnessPasses false w w′ = same w w′
 
+-- the output record of an untyped node is not asked for
+outputPasses : Bool → Bool → List ℕ → List ℕ → Bool
+outputPasses true true o o′ = same o o′
+outputPasses true false o o′ = false
+outputPasses false true o o′ = false
+outputPasses false false o o′ = true
+
+recordsPass : Records → Expression → Typing → Bool
+recordsPass (recordsRefused r) e y = false
+recordsPass (recordsRead ts) e y =
+    leb (length (entriesOf ts)) 255
+    && outputPasses (typedIn e (mapsOf ts) (entriesOf ts)) (y .typed) (recordBytes (outputMap e (mapsOf ts)) (outputList e (entriesOf ts))) (y .output)
+
+typingsPass : ℕ → Expression → List Typing → Bool
+typingsPass m e [] = true
+typingsPass m e (y ∷ ys) = recordsPass (readRecords m (y .schema)) e y && typingsPass m e ys
+
 passes : Case → Bool
 passes x =
     accepts (acceptance (x .file)) (x .relations) (x .nodes)
@@ -91,6 +128,7 @@ passes x =
     && eqb (blockedOf (x .relations) (lastOf x)) (x .blocked)
     && witnessPasses (ltb (x .blocked) 16) (witnessOf (x .relations) (lastOf x)) (x .witness)
     && ltb 0 (x .nodes)
+    && typingsPass (x .relations) (lastOf x) (x .typings)
 
 every : List Case → Bool
 every [] = true
@@ -137,7 +175,7 @@ witness-is false w w′ schema t = ap (λ (l : List ℕ). over l schema) (same-i
 
 verdict-holds : (x : Case) → acceptance (x .file) ≡ Accepted (x .relations) (x .nodes) → blockedOf (x .relations) (lastOf x) ≡ x .blocked → T (witnessPasses (ltb (x .blocked) 16) (witnessOf (x .relations) (lastOf x)) (x .witness)) → 0 < x .nodes → (work schema : List ℕ) → x .nodes * 1024 ≤ length work → 4104 ≤ length schema → VerdictHolds x work schema
 verdict-holds x accepted blocked t some work schema space slice =
-    let goes : Goes (acceptance (x .file)) (x .nodes - 1) (length work) (length schema) (x .relations) (x .nodes) = record { accepted = accepted; node = omega arith; workSpace = space; slice = slice } in
+    let goes : VerdictGoes (acceptance (x .file)) (x .nodes - 1) (length work) (length schema) (x .relations) (x .nodes) = record { accepted = accepted; node = omega arith; workSpace = space; slice = slice } in
     record {
       answer = verdict-answer (x .file) (x .nodes - 1) work schema (x .relations) (x .nodes) goes ∙ ap (λ (b : ℕ). judged (ltb b 16) b (x .relations)) blocked;
       slice =
@@ -145,6 +183,33 @@ verdict-holds x accepted blocked t some work schema space slice =
           ∙ ap (λ (b : ℕ). cond (ltb b 16) schema (over (witnessOf (x .relations) (lastOf x)) schema)) blocked
           ∙ witness-is (ltb (x .blocked) 16) (witnessOf (x .relations) (lastOf x)) (x .witness) schema t;
     }
+
+output-is : (t t′ : Bool) (e : Expression) (special entries record-is out : List ℕ) → T (outputPasses t t′ (recordBytes (outputMap e special) (outputList e entries)) record-is) → (typedAnswer t e entries ≡ cond t′ (Typed (length record-is)) Untyped) × (typedOut t e special entries out ≡ cond t′ (over record-is out) out)
+unfolding outputPasses
+output-is true true e special entries o out t =
+    let is = same-is (recordBytes (outputMap e special) (outputList e entries)) o t in
+    (ap Typed (sym (record-length (outputMap e special) (outputList e entries)) ∙ ap length is), ap (λ (l : List ℕ). over l out) is)
+output-is true false e special entries o out t = absurd t
+output-is false true e special entries o out t = absurd t
+output-is false false e special entries o out t = (refl, refl)
+
+typing-holds : (x : Case) (y : Typing) (out : List ℕ) → Goes (acceptance (x .file)) (x .nodes - 1) (length out) (x .relations) (x .nodes) → (rs : Records) → readRecords (x .relations) (y .schema) ≡ rs → T (recordsPass rs (lastOf x) y) → TypingHolds x y out
+unfolding recordsPass tableAnswer tableOut
+typing-holds x y out goes (recordsRefused r) read t = absurd t
+typing-holds x y out goes (recordsRead ts) read t =
+    let few = leb (length (entriesOf ts)) 255 in
+    let outputs = outputPasses (typedIn (lastOf x) (mapsOf ts) (entriesOf ts)) (y .typed) (recordBytes (outputMap (lastOf x) (mapsOf ts)) (outputList (lastOf x) (entriesOf ts))) (y .output) in
+    let results = typing-records (x .file) (x .nodes - 1) (y .schema) out (x .relations) (x .nodes) ts goes read (leb→le (length (entriesOf ts)) 255 (first few outputs t)) in
+    let is = output-is (typedIn (lastOf x) (mapsOf ts) (entriesOf ts)) (y .typed) (lastOf x) (mapsOf ts) (entriesOf ts) (y .output) out (second few outputs t) in
+    record { answer = results .0 ∙ is .0; slice = results .1 ∙ is .1 }
+
+typings-hold : (x : Case) (ys : List Typing) (out : List ℕ) → Goes (acceptance (x .file)) (x .nodes - 1) (length out) (x .relations) (x .nodes) → T (typingsPass (x .relations) (lastOf x) ys) → TypingsHold x ys out
+unfolding typingsPass
+typings-hold x [] out goes t = tt
+typings-hold x (y ∷ ys) out goes t =
+    let here = recordsPass (readRecords (x .relations) (y .schema)) (lastOf x) y in
+    let rest = typingsPass (x .relations) (lastOf x) ys in
+    (typing-holds x y out goes (readRecords (x .relations) (y .schema)) refl (first here rest t), typings-hold x ys out goes (second here rest t))
 
 case-holds : (x : Case) → T (passes x) → Holds x
 unfolding passes
@@ -154,20 +219,24 @@ case-holds x t =
     let b = eqb (blockedOf (x .relations) (lastOf x)) (x .blocked) in
     let w = witnessPasses (ltb (x .blocked) 16) (witnessOf (x .relations) (lastOf x)) (x .witness) in
     let n = ltb 0 (x .nodes) in
-    let upToW = first (a && c && b && w) n t in
+    let y = typingsPass (x .relations) (lastOf x) (x .typings) in
+    let upToN = first (a && c && b && w && n) y t in
+    let upToW = first (a && c && b && w) n upToN in
     let upToB = first (a && c && b) w upToW in
     let upToC = first (a && c) b upToB in
     let accepted = accepts-is (acceptance (x .file)) (x .relations) (x .nodes) (first a c upToC) in
+    let some = ltb→lt 0 (x .nodes) (second (a && c && b && w) n upToN) in
     record {
       accepted = accepted;
       columns = columns-hold (x .relations) (lastOf x) (x .columns) (second a c upToC);
       verdict =
           verdict-holds x accepted (eqb→eq (blockedOf (x .relations) (lastOf x)) (x .blocked) (second (a && c) b upToB)) (second (a && c && b) w upToW)
-          (ltb→lt 0 (x .nodes) (second (a && c && b && w) n t));
+          some;
+      typings = λ out slice. typings-hold x (x .typings) out (record { accepted = accepted; node = omega arith; slice = slice }) (second (a && c && b && w && n) y t);
     }
 
 abbrev pub none : Case
-none = record { file = []; relations = 0; nodes = 0; columns = []; blocked = 0; witness = [] }
+none = record { file = []; relations = 0; nodes = 0; columns = []; blocked = 0; witness = []; typings = [] }
 
 each-holds : (xs : List Case) → T (every xs) → (i : ℕ) → i < length xs → Holds (getD xs i none)
 unfolding every
@@ -177,5 +246,5 @@ each-holds (x ∷ xs) t (suc i) h = each-holds xs (second (passes x) (every xs) 
 
 -- the theorem: every case of the table holds; antt computes the test
 pub examples-hold : (i : ℕ) → i < length table → Holds (getD table i none)
-unfolding every passes same accepts columnsPass witnessPasses passing subsetOf blockedOf witnessOf recordByte recordWord pack tab bit lowestFrom allowedBit outputBit expressionAt earlier acceptance parse header readNodes readNode readFields refuse inRange special hasAttribute setOf binaryCode setCode withBinary withSet entryAt entriesOf table
+unfolding every passes same accepts columnsPass witnessPasses outputPasses recordsPass typingsPass readRecords readRecord readList readFrom recordSize recordAt listed word entriesOf mapsOf enter typedIn outputMap recordBytes recordByte passing subsetOf blockedOf witnessOf witnessByte recordWord pack tab bit lowestFrom allowedBit outputBit expressionAt earlier acceptance parse header readNodes readNode readFields refuse inRange special hasAttribute setOf binaryCode setCode withBinary withSet entryAt nodeEntries table
 examples-hold = each-holds table tt

@@ -95,8 +95,7 @@ module _ (m : ℕ) (few : m ≤ 8) (e : Expression) (legal : Legal m e) (ts : Li
   pub rules-table : (t : Attrs) → Typed (assignmentOf ts) e t → typedIn e (mapsOf ts) (entriesOf ts) ≡ true
   unfolding typedIn
   rules-table t typed =
-      and-eq-true-iff (allBelow 16 (λ i. ok plain e i (specialHolders (mapsOf ts) i))) (allBelow (length (entriesOf ts)) (λ i. ok plain e 0 (bit (getD (entriesOf ts) i 0)))) .1
-      (
+      and-eq-true-iff (allBelow 16 (λ i. ok plain e i (specialHolders (mapsOf ts) i))) (allBelow (length (entriesOf ts)) (λ i. ok plain e 0 (bit (getD (entriesOf ts) i 0)))) .1 (
         in-all 16 (λ i. ok plain e i (specialHolders (mapsOf ts) i)) specials,
         in-all (length (entriesOf ts)) (λ i. ok plain e 0 (bit (getD (entriesOf ts) i 0)))
             (entries-allowed m few e legal 15 (entriesOf ts) (entries-rising ts eight all)

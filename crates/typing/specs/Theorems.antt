@@ -4,17 +4,17 @@
 --   readRecords, assignmentOf   a schema's records, and the assignment that they mean   (crate schema, Schema)
 --   typeOf, recordBytes   the type of a record, and its bytes               (crate type_record, Record)
 --   typingAnswer, typingOut     what Typing leaves, by its contract         (Typing)
-use Prim.Native.Nat.{ℕ, _*_, _≤_, _<_}
+use Prim.Native.Nat.{ℕ, _≤_, _<_}
 use mathlib.Core.Path.{_≡_, refl, sym, ap, ap₂, subst, fun-ext, _∙_}
 use mathlib.Core.Logic.{_↔_}
-use mathlib.Core.Bool.{Bool, true, false, true≢false}
+use mathlib.Core.Bool.{Bool, true, false}
 use mathlib.Core.List.{List}
 use native.Mathlib.Omega.{arith}
 use lib.ListN.{length, take}
 use Rattle.bits.specs.Tab.{over, take-over}
 use Rattle.bits.specs.Word.{Bytes}
-use Rattle.types.specs.Types.{Attrs, Assignment, column, holders}
-use Rattle.algebra.specs.Expression.{Expression, Legal}
+use Rattle.types.specs.Types.{Attrs}
+use Rattle.algebra.specs.Expression.{Legal}
 use Rattle.algebra.specs.Rules.{Typed}
 use Rattle.expression.specs.declared.files.Acceptance.the-variants.{Accepted}
 use Rattle.expression.specs.ReadFile.{acceptance}
@@ -22,17 +22,14 @@ use Rattle.expression.specs.Accepted.{accepted-file}
 use Rattle.formula.specs.Expressions.{expressionAt, expression-legal}
 use Rattle.type_record.specs.Record.{TypeRecord, recordSize, recordBytes, typeOf}
 use Rattle.type_record.specs.RecordLaws.{IsRecord, record-length, type-once, bytes-once}
-use Rattle.schema.specs.Schema.{recordsRead, readRecords, assignmentOf, entriesOf, mapsOf, schemaReading}
+use Rattle.schema.specs.Schema.{recordsRead, readRecords, assignmentOf, entriesOf, mapsOf}
 use Rattle.schema.specs.RecordsLaws.{AllRecords, records-read}
-use Rattle.schema.specs.TableLaws.{ReadSchema, read-schema, read-entries}
-use Rattle.schema.specs.declared.reading.Schema.{Schema}
 use Rattle.typing.specs.Output.{typedIn, outputMap, outputList}
 use Rattle.typing.specs.OutputRecord.{outputRecord}
 use Rattle.typing.specs.TableTyped.{table-rules, rules-table, rules-output, output-record}
-use Rattle.typing.specs.Typing.{typedAnswer, tableAnswer, typedOut, tableOut, schemaAnswer, schemaOut, typingAnswer, typingOut}
-use Rattle.typing.specs.TypingLaws.{Goes, schema-goes, typing-goes}
-use Rattle.typing.specs.declared.operation.Answer.{Answer}
-use Rattle.typing.specs.declared.operation.Answer.the-variants.{Typed as TypedAnswer, Untyped, Refused}
+use Rattle.typing.specs.Typing.{tableAnswer, tableOut, typingAnswer, typingOut}
+use Rattle.typing.specs.TypingLaws.{typing-records}
+use Rattle.typing.specs.declared.operation.Answer.the-variants.{Typed as TypedAnswer, Untyped}
 
 -- these bytes are the type record of t
 pub record RecordOf (t : Attrs) (bytes : List ℕ) : Type 0 where
@@ -75,15 +72,7 @@ module _ (file : List ℕ) (k : ℕ) (schema out : List ℕ) (m n : ℕ) (ts : L
   read = records-read m schema ts (un .bytes) (un .read)
 
   results : (typingAnswer file k schema (length out) ≡ tableAnswer (expressionAt file k) (mapsOf ts) (entriesOf ts)) × (typingOut file k schema out ≡ tableOut (expressionAt file k) (mapsOf ts) (entriesOf ts) out)
-  results =
-      let made = read-schema m schema ts (un .read) (un .few) in
-      let goes = typing-goes file k schema out m n (record { accepted = un .accepted; node = un .node; slice = un .slice }) in
-      let table = schema-goes (expressionAt file k) (schemaReading m schema) out (ap (λ (s : Schema). s .judgement) (made .is)) _ _ refl refl in
-      let special = ap (λ (s : Schema). s .special) (made .is) in
-      let entries = read-entries m schema (schemaReading m schema) ts made in (
-        sym (goes .0) ∙ sym (table .0) ∙ ap₂ (tableAnswer (expressionAt file k)) special entries,
-        sym (goes .1) ∙ sym (table .1) ∙ ap₂ (λ (x y : List ℕ). tableOut (expressionAt file k) x y out) special entries,
-      )
+  results = typing-records file k schema out m n ts (record { accepted = un .accepted; node = un .node; slice = un .slice }) (un .read) (un .few)
 
   abbrev outputOf : TypeRecord
   outputOf = outputRecord (expressionAt file k) (mapsOf ts) (entriesOf ts)

@@ -19,8 +19,8 @@ use Rattle.expression.specs.ReadFile.{acceptance}
 use Rattle.algebra.specs.Expression.{Expression, Legal}
 use Rattle.formula.specs.Expressions.{expressionAt}
 use Rattle.type_record.specs.Record.{TypeRecord, recordSize, recordBytes}
-use Rattle.schema.specs.Schema.{schemaReading, WritesFrom}
-use Rattle.schema.specs.TableLaws.{ReadSchema, schema-read, read-zeros, read-table}
+use Rattle.schema.specs.Schema.{recordsRead, readRecords, entriesOf, mapsOf, schemaReading, WritesFrom}
+use Rattle.schema.specs.TableLaws.{ReadSchema, schema-read, read-schema, read-entries, read-zeros, read-table}
 use Rattle.schema.specs.declared.reading.Judgement.{Judgement}
 use Rattle.schema.specs.declared.reading.Judgement.the-variants.{Read, Refused as SchemaRefused}
 use Rattle.schema.specs.declared.reading.Schema.{Schema}
@@ -128,3 +128,15 @@ module _ (file : List ℕ) (k : ℕ) (schema out : List ℕ) where
     sym (gone Refused (λ m. schemaAnswer (expressionAt file k) (schemaReading m schema)) (acceptance file) k (length out) m n g),
     sym (gone (λ r. out) (λ m. schemaOut (expressionAt file k) (schemaReading m schema) out) (acceptance file) k (length out) m n g),
   )
+
+  -- in the table of the schema's records
+  pub typing-records : (m n : ℕ) (ts : List TypeRecord) → Goes (acceptance file) k (length out) m n → readRecords m schema ≡ recordsRead ts → length (entriesOf ts) ≤ 255 → (typingAnswer file k schema (length out) ≡ tableAnswer (expressionAt file k) (mapsOf ts) (entriesOf ts)) × (typingOut file k schema out ≡ tableOut (expressionAt file k) (mapsOf ts) (entriesOf ts) out)
+  typing-records m n ts g read few =
+      let made = read-schema m schema ts read few in
+      let goes = typing-goes m n g in
+      let table = schema-goes (expressionAt file k) (schemaReading m schema) out (ap (λ (s : Schema). s .judgement) (made .is)) _ _ refl refl in
+      let special = ap (λ (s : Schema). s .special) (made .is) in
+      let entries = read-entries m schema (schemaReading m schema) ts made in (
+        sym (goes .0) ∙ sym (table .0) ∙ ap₂ (tableAnswer (expressionAt file k)) special entries,
+        sym (goes .1) ∙ sym (table .1) ∙ ap₂ (λ (x y : List ℕ). tableOut (expressionAt file k) x y out) special entries,
+      )
