@@ -2,7 +2,6 @@
 use Prim.Native.Nat.{ℕ}
 use mathlib.Core.Bool.{Bool, true, false, cond, not, _&&_, _||_}
 use lib.Dec.{eqb}
-use Rattle.types.specs.Types.{Attrs}
 use Rattle.algebra.specs.Expression.{Operator, union, difference, join, product, SetOperator, selection, projection, Expression, relation, binary, withSet, renaming, projectingOut}
 
 -- How a relation or a result can have an attribute. Plain: it lacks it or has it.

@@ -1,6 +1,6 @@
 -- An executable typing function: the rules of section 2.2, read upwards. Sets are compared below a bound that none of their members reaches.
 use Prim.Native.Nat.{ℕ}
-use mathlib.Core.Bool.{Bool, true, false, cond, not, _&&_}
+use mathlib.Core.Bool.{Bool, true, false, not, _&&_}
 use mathlib.Core.Option.{Option, none, some}
 use Rattle.bits.specs.AllBelow.{allBelow}
 use Rattle.types.specs.Types.{Attrs, Assignment, _∪_, without, with}

@@ -1,7 +1,7 @@
 -- The laws of attribute sets: what building, adding and testing do to each other, and that bit 0 stays clear.
-use Prim.Native.Nat.{ℕ, zero, _^_, _≤_}
+use Prim.Native.Nat.{ℕ, _^_, _≤_}
 use mathlib.Core.Path.{_≡_, refl, sym, ap, ap₂, subst, _∙_}
-use mathlib.Core.Bool.{Bool, true, false, cond, _&&_, _||_, or-false, or-comm}
+use mathlib.Core.Bool.{Bool, true, false, cond, _&&_, _||_, or-comm}
 use native.Mathlib.Omega.{arith}
 use borrow.Author.Tests.{ne-eqb}
 use lib.Dec.{eqb}
@@ -9,7 +9,6 @@ use lib.Bits.{bitOr}
 use Rattle.bits.specs.Bit.{bit, bit-none, bit-or, bit-power}
 use Rattle.bits.specs.Range.{in-range, range-in}
 use Rattle.attribute_set.specs.declared.AttrSet.{AttrSet}
-use Rattle.attribute_set.specs.declared.Built.{Built}
 use Rattle.attribute_set.specs.declared.Built.the-variants.{Set, NoSet}
 use Rattle.attribute_set.specs.AttrSet.{special, hasAttribute, emptySet, bitsOf, setOf, fromBits, withAttribute}
 

@@ -1,7 +1,7 @@
 -- The bits of a number.
-use Prim.Native.Nat.{ℕ, zero, suc, _+_, _*_, _/_, _%_, _^_, _-_, _<_}
-use mathlib.Core.Path.{_≡_, refl, sym, ap, ap₂, _∙_}
-use mathlib.Core.Bool.{Bool, true, false, not, cond, _||_, _&&_, and-true}
+use Prim.Native.Nat.{ℕ, zero, suc, _/_, _%_, _^_, _-_, _<_}
+use mathlib.Core.Path.{_≡_, refl, sym, ap, _∙_}
+use mathlib.Core.Bool.{Bool, true, false, not, _||_, _&&_, and-true}
 use native.Mathlib.Nat.{div-one, div-div-eq-div-mul, div-eq-of-lt, mul-comm, pow-suc, mod-lt, mod-eq-of-lt, le-of-suc-le-suc, mul-div-cancel, mul-mod-left, zero-div}
 use native.Mathlib.Omega.{arith}
 use borrow.Author.Tests.{eq-eqb}

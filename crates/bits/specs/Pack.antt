@@ -2,11 +2,11 @@
 use Prim.Native.Nat.{ℕ, zero, suc, _+_, _*_, _/_, _%_, _^_, _<_, suc-le-suc}
 use mathlib.Core.Path.{_≡_, refl, sym, ap, ap₂, _∙_}
 use mathlib.Core.Bool.{Bool, true, false, cond}
-use native.Mathlib.Nat.{pow-suc, le-of-suc-le-suc, not-suc-le-zero}
+use native.Mathlib.Nat.{pow-suc, le-of-suc-le-suc}
 use native.Mathlib.Omega.{arith}
 use lib.Arith.{lt-one}
 use lib.Dec.{eqb}
-use Rattle.bits.specs.Bit.{bit, bit-first, bit-next, bit-none}
+use Rattle.bits.specs.Bit.{bit, bit-first, bit-next}
 
 -- the number below 2 ^ n whose bit j stands where f j holds
 unfoldable pub pack : ℕ → (ℕ → Bool) → ℕ

@@ -1,6 +1,6 @@
 -- A number from its bits, the highest first: what a loop has that goes down from bit n and stands at bit i.
 use Prim.Native.Nat.{ℕ, zero, suc, _+_, _-_, _*_, _/_, _%_, _^_, _≤_, _<_}
-use mathlib.Core.Path.{_≡_, refl, ap, _∙_}
+use mathlib.Core.Path.{_≡_, refl, ap}
 use mathlib.Core.Bool.{Bool, cond}
 use native.Mathlib.Nat.{mod-lt, add-zero, sub-zero, sub-self}
 use native.Mathlib.Omega.{arith}

@@ -1,7 +1,7 @@
 -- What an accepted file is made of: the counts in their ranges, and as many entries as the second count says.
 use Prim.Native.Nat.{ℕ, zero, suc, _+_, _≤_}
 use mathlib.Core.Path.{_≡_, refl, sym, ap, subst, _∙_}
-use mathlib.Core.Bool.{Bool, true, false, not}
+use mathlib.Core.Bool.{Bool, true, false}
 use mathlib.Core.List.{List, [], _∷_}
 use native.Mathlib.Omega.{arith}
 use borrow.Author.Tests.{ltb-false, not-false}
@@ -18,7 +18,7 @@ use Rattle.expression.specs.declared.reader.Reading.the-variants.{Read, 
 use Rattle.expression.specs.declared.files.Acceptance.{Acceptance}
 use Rattle.expression.specs.declared.files.Acceptance.the-variants.{Accepted, Refused}
 use Rattle.expression.specs.ReadNode.{readNode}
-use Rattle.expression.specs.ReadFile.{Entry, Nodes, nodesRefused, nodesRead, precede, follow, readNodes, File, fileRefused, fileAccepted, collect, afterHeader, header, parse, answer, acceptance, entriesIn, entriesOf}
+use Rattle.expression.specs.ReadFile.{Entry, Nodes, nodesRefused, nodesRead, precede, follow, readNodes, collect, afterHeader, header, parse, answer, acceptance, entriesIn, entriesOf}
 use Rattle.expression.specs.Legal.{node-legal, node-refused}
 
 -- ---- the counts

@@ -1,19 +1,18 @@
 -- What a node that was read gives: its operands are earlier, its relation is below m, its attributes are special, its set has bit 0 clear.
 use Prim.Native.Nat.{ℕ, _<_, _≤_}
-use mathlib.Core.Path.{_≡_, refl, sym, ap, subst}
-use mathlib.Core.Bool.{Bool, true, false, not, cond, _||_}
+use mathlib.Core.Path.{_≡_, refl, sym, subst}
+use mathlib.Core.Bool.{Bool, true, false, _||_}
 use mathlib.Core.List.{List}
 use native.Mathlib.Omega.{arith}
 use borrow.Author.Tests.{ltb-false, leb-false, eqb-true, not-false}
 use lib.Dec.{T, eqb, leb, lit≤}
 use lib.ListN.{length, getD}
 use Rattle.bits.specs.Bit.{bit}
-use Rattle.attribute_set.specs.AttrSet.{special, setOf}
+use Rattle.attribute_set.specs.AttrSet.{special}
 use Rattle.attribute_set.specs.Laws.{Clear, clear-set}
 use Rattle.refusal.specs.Number.{numberOf}
 use Rattle.refusal.specs.Chain.{refuse}
 use Rattle.refusal.specs.declared.Refusal.{Refusal}
-use Rattle.refusal.specs.declared.Refusal.the-variants.{OperatorCode}
 use Rattle.expression.specs.declared.nodes.BinaryOp.{BinaryOp}
 use Rattle.expression.specs.declared.nodes.SetOp.{SetOp}
 use Rattle.expression.specs.declared.nodes.BinaryCode.{BinaryCode}

@@ -1,6 +1,6 @@
 -- What Record returns: the part of the file at its place, empty only where one of 1 to 11 applies.
 use Prim.Native.Nat.{ℕ, _+_, _-_, _≤_, _<_}
-use mathlib.Core.Path.{_≡_, refl, sym, ap, ap₂, subst, _∙_}
+use mathlib.Core.Path.{_≡_, refl, sym, ap, _∙_}
 use mathlib.Core.Bool.{Bool, true, false}
 use mathlib.Core.List.{List, []}
 use native.Mathlib.Omega.{arith}
@@ -16,7 +16,6 @@ use Rattle.expression.specs.declared.files.Acceptance.{Acceptance}
 use Rattle.expression.specs.declared.files.Acceptance.the-variants.{Accepted, Refused}
 use Rattle.expression.specs.declared.nodes.Node.{Node}
 use Rattle.expression.specs.declared.reader.Reading.the-variants.{Read}
-use Rattle.expression.specs.declared.records.Place.{Place}
 use Rattle.expression.specs.ReadNode.{readNode}
 use Rattle.expression.specs.ReadFile.{acceptance, entryAt, sizeAt, startAt}
 use Rattle.expression.specs.Record.{Asked, refused, found, afterFile, ask, placeIf, placeOf, recordIf, recordOf}

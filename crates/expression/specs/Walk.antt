@@ -16,7 +16,7 @@ use Rattle.expression.specs.declared.files.Acceptance.the-variants.{Acce
 use Rattle.expression.specs.ReadNode.{readNode}
 use Rattle.expression.specs.ReadFile.{Entry, nodesRead, atEnd, readNodes, acceptance, entriesOf, entryAt, nodeAt, sizeAt, total, startAt}
 use Rattle.expression.specs.Legal.{LegalNode, node-legal}
-use Rattle.expression.specs.Accepted.{FirstNode, first-node, AcceptedFile, accepted-file}
+use Rattle.expression.specs.Accepted.{FirstNode, first-node, accepted-file}
 
 -- past the last node
 abbrev none : Entry

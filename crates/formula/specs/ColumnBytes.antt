@@ -1,6 +1,6 @@
 -- The bytes that the steps compute are those of the columns' maps.
 use Prim.Native.Nat.{ℕ, _+_, _*_, _/_, _%_, _<_}
-use mathlib.Core.Path.{_≡_, refl, sym, ap, ap₂, _∙_}
+use mathlib.Core.Path.{_≡_, refl, sym, ap₂, _∙_}
 use mathlib.Core.Bool.{Bool, _&&_}
 use mathlib.Core.List.{List}
 use native.Mathlib.Nat.{lt-of-le-of-lt}
@@ -12,7 +12,7 @@ use Rattle.bits.specs.Bit.{bit, bit-and}
 use Rattle.bits.specs.Pack.{pack, bit-pack, pack-below, pack-same, byte-is}
 use Rattle.formula.specs.declared.steps.Combination.{Combination}
 use Rattle.formula.specs.Tables.{memberByte, subsetByte}
-use Rattle.formula.specs.Steps.{unaryAllowed, unaryOutput, combinedAllowed, combinedOutput}
+use Rattle.formula.specs.Steps.{combinedAllowed, combinedOutput}
 use Rattle.formula.specs.StepLaws.{MadeBy}
 use Rattle.formula.specs.Column.{mapByte, allowedIn, outputIn}
 

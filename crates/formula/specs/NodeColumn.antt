@@ -1,31 +1,24 @@
 -- The column of a node, from the columns of its operands; and that it is the column of the node's cells.
-use Prim.Native.Nat.{ℕ, zero, suc, _+_, _*_, _^_, _≤_, _<_}
-use mathlib.Core.Path.{_≡_, refl, sym, ap, ap₂, subst, _∙_}
-use mathlib.Core.Bool.{Bool, true, false, cond, not, _&&_, _||_, and-false}
+use Prim.Native.Nat.{ℕ, _+_, _*_, _^_, _≤_, _<_}
+use mathlib.Core.Path.{_≡_, refl, _∙_}
+use mathlib.Core.Bool.{Bool, not, _&&_}
 use mathlib.Core.List.{List}
 use native.Mathlib.Omega.{arith}
 use lib.Dec.{eqb, ltb}
-use Rattle.bits.specs.Bit.{bit, differs}
-use Rattle.bits.specs.Range.{inRange}
-use Rattle.attribute_set.specs.AttrSet.{special, hasAttribute}
-use Rattle.attribute_set.specs.declared.AttrSet.{AttrSet}
-use Rattle.attribute_set.specs.Laws.{Clear, clear-lacks, special-in}
+use Rattle.bits.specs.Bit.{bit}
+use Rattle.attribute_set.specs.AttrSet.{hasAttribute}
 use Rattle.algebra.specs.Expression.{Expression, relation, binary, withSet, renaming, projectingOut}
-use Rattle.algebra.specs.Cell.{plain, breaks, yields, breaksSet, yieldsSet, breaksRenaming, yieldsRenaming, breaksOut, yieldsOut, out, ok}
+use Rattle.algebra.specs.Cell.{plain, out, ok}
 use Rattle.expression.specs.declared.nodes.BinaryOp.{BinaryOp}
-use Rattle.expression.specs.declared.nodes.BinaryOp.the-variants.{Union, Difference, Join, Product}
-use Rattle.expression.specs.declared.nodes.SetOp.{SetOp}
-use Rattle.expression.specs.declared.nodes.SetOp.the-variants.{Selection, Projection}
 use Rattle.expression.specs.declared.nodes.Node.{Node}
 use Rattle.expression.specs.declared.nodes.Node.the-variants.{Relation, Binary, WithSet, Renaming, ProjectingOut}
 use Rattle.expression.specs.Legal.{LegalNode}
-use Rattle.expression.specs.ReadFile.{nodeAt}
 use Rattle.formula.specs.declared.steps.Unary.{Unary}
-use Rattle.formula.specs.Steps.{unaryAllowed, unaryOutput, setStep, renamingStep, projectingOutStep, combinationOf, combinedAllowed, combinedOutput}
+use Rattle.formula.specs.Steps.{setStep, renamingStep, projectingOutStep, combinationOf}
 use Rattle.formula.specs.StepCells.{StepIs, set-is, renaming-is, projecting-out-is, unary-bits, binary-bits, relation-bit, named-is}
 use Rattle.formula.specs.Column.{columnOf, allowedIn, outputIn, relationColumn, unaryColumn, combinedColumn}
 use Rattle.formula.specs.ColumnLaws.{allowed-in, output-in, column-same}
-use Rattle.formula.specs.Expressions.{operatorOf, setOperatorOf, named, ofNode, expressionAt, expression-is}
+use Rattle.formula.specs.Expressions.{operatorOf, setOperatorOf, named, ofNode}
 use Rattle.formula.specs.Stored.{allowedBit, outputBit, cellColumn}
 
 -- column c of a node, where there are `count` subsets and `operand l` is column c of node l

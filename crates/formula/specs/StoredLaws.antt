@@ -1,12 +1,11 @@
 -- Laws of Formula: its answer and the work space in each case, and what stands at a node's column afterwards.
-use Prim.Native.Nat.{ℕ, _+_, _*_, _≤_, _<_}
-use mathlib.Core.Path.{_≡_, refl, sym, ap, _∙_}
+use Prim.Native.Nat.{ℕ, _*_, _≤_, _<_}
+use mathlib.Core.Path.{_≡_, ap, _∙_}
 use mathlib.Core.Bool.{Bool}
 use mathlib.Core.List.{List}
 use native.Mathlib.Omega.{arith}
 use borrow.Author.Tests.{lt-ltb, le-ltb}
-use lib.ListN.{length, getD, drop, length-append, length-drop, List·getD-append}
-use lib.Seq.{getD-drop}
+use lib.ListN.{length}
 use Rattle.bits.specs.Tab.{tab, length-tab, getD-tab, over, over-length, over-front, over-back}
 use Rattle.refusal.specs.Chain.{refuse}
 use Rattle.refusal.specs.declared.Refusal.{Refusal}
@@ -19,7 +18,7 @@ use Rattle.formula.specs.declared.operation.Formulas.the-variants.{Fille
 use Rattle.formula.specs.Expressions.{expressionAt}
 use Rattle.formula.specs.Storage.{columnAt}
 use Rattle.formula.specs.Stored.{cellColumn, storedByte, formulasOf, afterFile, formulaAnswer, spaceAfter, formulaSpace}
-use Rattle.formula.specs.Filling.{FilledTo, filled-column}
+use Rattle.formula.specs.Filling.{filled-column}
 
 -- ---- the answer
 

@@ -6,9 +6,9 @@ use native.Mathlib.Nat.{lt-of-lt-of-le}
 use native.Mathlib.Omega.{arith}
 use borrow.Author.Tests.{lt-ltb, le-ltb, ltb-true, ltb-false}
 use lib.Dec.{ltb, lit<}
-use lib.Pow.{pow-mono, pow-pos, ones-lt}
+use lib.Pow.{pow-mono, ones-lt}
 use Rattle.bits.specs.Bit.{bit, bit-above, bit-ones, bit-none}
-use Rattle.bits.specs.Pack.{pack, byte-is}
+use Rattle.bits.specs.Pack.{byte-is}
 use Rattle.formula.specs.Tables.{subsetByte}
 
 -- the number with the lowest n bits

@@ -1,8 +1,8 @@
 -- A formula: which subsets of the relations are allowed in each column, and which put the attribute in the output (document 01, "Formulas").
-use Prim.Native.Nat.{ℕ, _≤_, _^_}
+use Prim.Native.Nat.{ℕ, _^_}
 use mathlib.Core.Path.{_≡_}
 use mathlib.Core.Bool.{Bool, true, false, _&&_}
-use lib.Dec.{T, ltb}
+use lib.Dec.{ltb}
 use Rattle.types.specs.Types.{Attrs, Assignment, column, holders}
 
 pub record Formula : Type 0 where

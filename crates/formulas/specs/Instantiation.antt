@@ -2,7 +2,6 @@
 use Prim.Native.Nat.{ℕ, _<_, _^_}
 use mathlib.Core.Path.{_≡_}
 use mathlib.Core.Logic.{_↔_}
-use mathlib.Core.Bool.{Bool, true}
 use lib.Dec.{T, ltb}
 use Rattle.bits.specs.Bit.{bit}
 use Rattle.attribute_set.specs.AttrSet.{special}

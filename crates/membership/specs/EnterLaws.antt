@@ -1,11 +1,11 @@
 -- Laws of entering a list: each arm, the order of the entries, and who holds an attribute afterwards.
-use Prim.Native.Nat.{ℕ, _+_, _*_, _/_, _%_, _^_, _≤_, _<_}
-use mathlib.Core.Path.{_≡_, refl, sym, ap, ap₂, _∙_}
+use Prim.Native.Nat.{ℕ, _/_, _≤_, _<_}
+use mathlib.Core.Path.{_≡_, refl, sym, ap, _∙_}
 use mathlib.Core.Bool.{Bool, true, false, cond, _&&_, _||_, or-comm, or-false}
 use mathlib.Core.List.{List, [], _∷_}
 use native.Mathlib.Nat.{div-eq-of-lt}
 use native.Mathlib.Omega.{arith}
-use borrow.Author.Tests.{lt-ltb, le-ltb, ltb-true, ltb-false, eqb-true, eq-eqb, ne-eqb}
+use borrow.Author.Tests.{lt-ltb, le-ltb, ltb-true, ltb-false, eqb-true, ne-eqb}
 use lib.Bits.{bitOr, or-shr, or-zero-r}
 use lib.Dec.{eqb, ltb}
 use Rattle.bits.specs.Bit.{bit, bit-low, bit-or, bit-none}

@@ -1,8 +1,8 @@
 -- Laws of tables: what stands in one, and that entering a list into the first 256 entries gives the first 256 of all.
-use Prim.Native.Nat.{ℕ, zero, suc, _+_, _*_, _^_, _≤_, _<_}
+use Prim.Native.Nat.{ℕ, zero, suc, _^_, _≤_, _<_}
 use mathlib.Core.Path.{_≡_, refl, sym, ap, ap₂, _∙_}
 use mathlib.Core.List.{List, [], _∷_}
-use native.Mathlib.Nat.{le-refl, le-of-suc-le-suc, min-le-left}
+use native.Mathlib.Nat.{le-refl, min-le-left}
 use native.Mathlib.Decide.{decLt}
 use native.Mathlib.Omega.{arith}
 use lib.Bits.{bitOr, or-lt}
@@ -10,7 +10,6 @@ use lib.Dec.{lit<}
 use lib.ListN.{length, getD, take, length-take, List·getD-eq-default}
 use lib.Seq.{take-nil, take-take, take-all, getD-take, ext-getD, length-take-le}
 use Rattle.bits.specs.Tab.{tab, length-tab, getD-tab, tab-is}
-use Rattle.membership.specs.declared.merging.Entries.{Entries}
 use Rattle.membership.specs.Entries.{entry, attributeOf, enter, tableOf, Table}
 use Rattle.membership.specs.EnterLaws.{enter-lower, enter-higher, enter-equal, Order, lower, higher, equal, order}
 

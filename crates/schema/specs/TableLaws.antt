@@ -1,12 +1,12 @@
 -- Laws of a schema that was read: its records, and the table that is made of them.
 use Prim.Native.Nat.{ℕ, zero, suc, _%_, _≤_, _<_}
-use mathlib.Core.Path.{_≡_, refl, sym, ap, _∙_}
+use mathlib.Core.Path.{_≡_, refl, ap, _∙_}
 use mathlib.Core.Bool.{Bool, true, false, cond}
 use mathlib.Core.List.{List, [], _∷_}
 use native.Mathlib.Decide.{decLt}
 use native.Mathlib.Omega.{arith}
 use borrow.Author.Tests.{le-ltb, ltb-false}
-use lib.Dec.{ltb, lit<}
+use lib.Dec.{ltb}
 use lib.ListN.{length, getD, take, List·getD-eq-default}
 use lib.Seq.{take-all}
 use Rattle.bits.specs.Tab.{tab, length-tab, getD-tab}
@@ -19,8 +19,7 @@ use Rattle.membership.specs.TableLaws.{table-count, table-size, table-entries, 
 use Rattle.schema.specs.Schema.{Records, recordsRefused, recordsRead, readRecords, noRecord, entriesOf, mapsOf, refusedSchema, tabled, schemaReading, WritesFrom}
 use Rattle.schema.specs.RecordsLaws.{AllRecords, records-read}
 use Rattle.schema.specs.EntriesLaws.{entries-below}
-use Rattle.schema.specs.declared.reading.Judgement.{Judgement}
-use Rattle.schema.specs.declared.reading.Judgement.the-variants.{Read, Refused}
+use Rattle.schema.specs.declared.reading.Judgement.the-variants.{Read}
 use Rattle.schema.specs.declared.reading.Schema.{Schema}
 
 -- a schema of m relations that was read from these bytes, with its records

@@ -1,13 +1,13 @@
 -- What the lanes of a node say: whether it is typed over the table, and its output.
-use Prim.Native.Nat.{ℕ, zero, suc, _+_, _-_, _*_, _/_, _%_, _^_, _≤_, _<_}
-use mathlib.Core.Path.{_≡_, refl, sym, ap, ap₂, fun-ext, _∙_}
+use Prim.Native.Nat.{ℕ, zero, suc, _+_, _-_, _*_, _/_, _%_, _≤_, _<_}
+use mathlib.Core.Path.{_≡_, refl, sym, ap, fun-ext, _∙_}
 use mathlib.Core.Bool.{Bool, true, false, cond, _&&_, and-eq-true-iff, true≢false}
-use mathlib.Core.List.{List, [], _∷_}
+use mathlib.Core.List.{List}
 use native.Mathlib.Nat.{mod-lt}
 use native.Mathlib.Decide.{decLt}
 use native.Mathlib.Omega.{arith}
 use borrow.Author.Tests.{lt-ltb, le-ltb, eqb-true, eq-eqb}
-use lib.Dec.{eqb, ltb, lit<}
+use lib.Dec.{eqb, lit<}
 use lib.ListN.{length, getD, take}
 use lib.Seq.{length-take-le, getD-take}
 use Rattle.bits.specs.AllBelow.{allBelow, in-all, all-in}
@@ -20,14 +20,13 @@ use Rattle.algebra.specs.Cell.{plain, out, ok}
 use Rattle.algebra.specs.CellLaws.{cell-none}
 use Rattle.algebra.specs.Booleans.{same-test}
 use Rattle.formula.specs.declared.steps.Bytes.{Bytes}
-use Rattle.formula.specs.Expressions.{expressionAt}
 use Rattle.membership.specs.Entries.{entry, attributeOf}
 use Rattle.membership.specs.EnterLaws.{entry-attribute}
 use Rattle.membership.specs.Holders.{heldBy}
 use Rattle.typing.specs.Lanes.{laneColumn, heldIn, laneAt, cellLane}
 use Rattle.typing.specs.LaneCells.{lane-allowed, lane-output}
 use Rattle.typing.specs.LaneLaws.{eight}
-use Rattle.typing.specs.Filling.{laneOf, NodeLanes}
+use Rattle.typing.specs.Filling.{laneOf}
 use Rattle.typing.specs.Output.{specialHolders, typedIn, outputMap, outputList}
 use Rattle.typing.specs.OutputLaws.{mark, mapIn, listIn}
 

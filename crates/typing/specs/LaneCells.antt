@@ -1,11 +1,10 @@
 -- Over operands' lanes of cells, a node's lane is that of its cells.
 use Prim.Native.Nat.{ℕ, _<_}
-use mathlib.Core.Path.{_≡_, refl, sym, ap, ap₂, _∙_}
+use mathlib.Core.Path.{_≡_, refl, ap₂, _∙_}
 use mathlib.Core.Bool.{Bool, true, not, _&&_}
 use lib.Dec.{eqb}
 use Rattle.bits.specs.Bit.{bit}
 use Rattle.bits.specs.Pack.{pack, bit-pack, pack-same}
-use Rattle.attribute_set.specs.AttrSet.{hasAttribute}
 use Rattle.algebra.specs.Expression.{Expression, relation, binary, withSet, renaming, projectingOut}
 use Rattle.algebra.specs.Cell.{plain, out, ok}
 use Rattle.expression.specs.declared.nodes.BinaryOp.{BinaryOp}

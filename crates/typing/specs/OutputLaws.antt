@@ -1,37 +1,24 @@
 -- Laws of the output: what the lanes of a node say about its attributes.
-use Prim.Native.Nat.{ℕ, zero, suc, _+_, _-_, _*_, _/_, _%_, _^_, _≤_, _<_}
-use mathlib.Core.Path.{_≡_, refl, sym, ap, ap₂, fun-ext, _∙_}
-use mathlib.Core.Bool.{Bool, true, false, cond, _&&_, and-eq-true-iff}
-use mathlib.Core.List.{List, [], _∷_}
-use native.Mathlib.Nat.{div-one, mod-lt, min-le-left}
+use Prim.Native.Nat.{ℕ, _+_, _-_, _*_, _/_, _%_, _^_, _≤_, _<_}
+use mathlib.Core.Path.{_≡_, ap, _∙_}
+use mathlib.Core.Bool.{Bool, true, false, cond}
+use mathlib.Core.List.{List}
+use native.Mathlib.Nat.{div-one, min-le-left}
 use native.Mathlib.Decide.{decLt}
 use native.Mathlib.Omega.{arith}
-use borrow.Author.Tests.{lt-ltb, le-ltb, eqb-true, eq-eqb}
-use lib.Dec.{eqb, ltb, lit<}
+use borrow.Author.Tests.{lt-ltb, le-ltb}
+use lib.Dec.{ltb, lit<}
 use lib.ListN.{length, getD, take, replicate, length-take, length-replicate, getD-replicate, List·getD-eq-default}
 use lib.Pow.{pow-mono}
-use lib.Seq.{length-take-le, getD-take}
-use Rattle.bits.specs.AllBelow.{allBelow, in-all, all-in}
-use Rattle.bits.specs.Bit.{bit, bit-first, bit-none, bit-ones}
-use Rattle.bits.specs.Pack.{pack, bit-pack, pack-same, byte-is}
+use Rattle.bits.specs.Bit.{bit}
+use Rattle.bits.specs.Pack.{pack}
 use Rattle.bits.specs.PackFrom.{packFrom, from-lower, from-below, bit-digit}
 use Rattle.bits.specs.Tab.{tab, length-tab, getD-tab, tab-is}
 use Rattle.bits.specs.Written.{Written}
-use Rattle.algebra.specs.Expression.{Expression, Legal}
-use Rattle.algebra.specs.Cell.{plain, out, ok}
-use Rattle.algebra.specs.CellLaws.{cell-none}
-use Rattle.algebra.specs.Booleans.{same-test}
-use Rattle.formula.specs.declared.steps.Bytes.{Bytes}
-use Rattle.formula.specs.Expressions.{expressionAt}
 use Rattle.membership.specs.Entries.{entry, attributeOf}
-use Rattle.membership.specs.EnterLaws.{entry-attribute}
 use Rattle.membership.specs.Holders.{heldBy, heldList, ItemsFit}
 use Rattle.membership.specs.HolderLaws.{held-few, held-attributes}
 use Rattle.membership.specs.declared.holders.Held.{Held}
-use Rattle.typing.specs.Lanes.{laneColumn, heldIn, cellLane, laneAt}
-use Rattle.typing.specs.LaneCells.{lane-allowed, lane-output}
-use Rattle.typing.specs.Filling.{laneOf, NodeLanes}
-use Rattle.typing.specs.Output.{specialHolders, typedIn, outputMap, outputList}
 
 -- ---- as they are computed
 

@@ -1,24 +1,23 @@
 -- The output record is a type record, and what it says about each attribute is what the attribute's cell says.
 use Prim.Native.Nat.{ℕ, zero, suc, _%_, _≤_, _<_}
-use mathlib.Core.Path.{_≡_, refl, sym, ap, _∙_}
-use mathlib.Core.Bool.{Bool, true, false, cond, _||_}
+use mathlib.Core.Path.{_≡_, refl, sym, _∙_}
+use mathlib.Core.Bool.{Bool, true, false, cond}
 use mathlib.Core.List.{List, [], _∷_}
 use native.Mathlib.Nat.{lt-of-lt-of-le}
 use native.Mathlib.Omega.{arith}
 use borrow.Author.Tests.{eqb-true, eq-eqb, ne-eqb}
 use lib.Dec.{eqb, lit<}
 use lib.ListN.{length, getD}
-use Rattle.bits.specs.AllBelow.{allBelow, all-in}
 use Rattle.bits.specs.Bit.{bit}
 use Rattle.bits.specs.Pack.{pack-below}
 use Rattle.bits.specs.Rising.{member, Rising, rising-lower, rising-above}
 use Rattle.algebra.specs.Expression.{Expression, Legal}
 use Rattle.algebra.specs.Cell.{plain, out, ok}
-use Rattle.algebra.specs.CellLaws.{cell-depends, cell-none}
+use Rattle.algebra.specs.CellLaws.{cell-depends}
 use Rattle.type_record.specs.Record.{TypeRecord}
 use Rattle.type_record.specs.RecordLaws.{IsRecord}
 use Rattle.membership.specs.Entries.{attributeOf, subsetOf, holdersIn}
-use Rattle.membership.specs.EnterLaws.{RisingEntries, subset-bit, holders-below}
+use Rattle.membership.specs.EnterLaws.{RisingEntries, subset-bit}
 use Rattle.membership.specs.TableLaws.{Below}
 use Rattle.typing.specs.Output.{outputMap, outputList}
 use Rattle.typing.specs.Judged.{map-even, none-held}

@@ -1,19 +1,17 @@
 -- A table types an expression exactly as the typing rules do, under the assignment that the records of the schema mean.
 use Prim.Native.Nat.{ℕ, zero, suc, _≤_, _<_}
 use mathlib.Core.Path.{_≡_, refl, sym, ap, fun-ext, _∙_}
-use mathlib.Core.Bool.{Bool, true, false, cond, _&&_, and-eq-true-iff}
+use mathlib.Core.Bool.{Bool, true, false, and-eq-true-iff}
 use mathlib.Core.List.{List}
 use native.Mathlib.Nat.{lt-of-lt-of-le}
 use native.Mathlib.Omega.{arith}
-use lib.Dec.{lit<}
 use lib.ListN.{length, getD}
 use Rattle.bits.specs.AllBelow.{allBelow, in-all, all-in}
 use Rattle.bits.specs.Bit.{bit, bit-first}
 use Rattle.bits.specs.Pack.{bit-pack}
-use Rattle.bits.specs.Rising.{member}
 use Rattle.attribute_set.specs.AttrSet.{special}
 use Rattle.attribute_set.specs.Laws.{special-range, special-in, special-above}
-use Rattle.types.specs.Types.{Attrs, Assignment, column}
+use Rattle.types.specs.Types.{Attrs, column}
 use Rattle.algebra.specs.Expression.{Expression, Legal}
 use Rattle.algebra.specs.Rules.{Typed}
 use Rattle.algebra.specs.Cell.{plain, out, ok}
@@ -22,11 +20,11 @@ use Rattle.algebra.specs.ByAttribute.{CellOf, typed-cells, cells-typed, typed-o
 use Rattle.type_record.specs.Record.{TypeRecord, typeOf}
 use Rattle.type_record.specs.RecordLaws.{IsRecord}
 use Rattle.membership.specs.Entries.{holdersIn}
-use Rattle.schema.specs.Schema.{noRecord, assignmentOf, entriesOf, mapsOf}
+use Rattle.schema.specs.Schema.{assignmentOf, entriesOf, mapsOf}
 use Rattle.schema.specs.RecordsLaws.{AllRecords}
 use Rattle.schema.specs.EntriesLaws.{entries-rising, entries-holders, entries-below}
 use Rattle.schema.specs.TableLaws.{maps-at, maps-is}
-use Rattle.typing.specs.Output.{specialHolders, typedIn, outputMap, outputList}
+use Rattle.typing.specs.Output.{specialHolders, typedIn, outputMap}
 use Rattle.typing.specs.OutputRecord.{outputRecord, output-is, output-member, holders-allowed, entries-allowed}
 
 -- a legal expression over m relations, and the records of a schema of m relations with at most 255 different ordinary attributes

@@ -1,9 +1,8 @@
 -- Laws of Typing: what the code finds is what the definitions say, the results after each refusal, and after none.
-use Prim.Native.Nat.{ℕ, _+_, _*_, _/_, _%_, _≤_, _<_}
+use Prim.Native.Nat.{ℕ, _+_, _*_, _%_, _≤_, _<_}
 use mathlib.Core.Path.{_≡_, refl, sym, ap, ap₂, _∙_}
 use mathlib.Core.Bool.{Bool, true, false}
 use mathlib.Core.List.{List}
-use native.Mathlib.Omega.{arith}
 use borrow.Author.Tests.{lt-ltb, le-ltb, le-leb, lt-leb}
 use lib.Dec.{eqb}
 use lib.ListN.{length, getD, take}
@@ -21,14 +20,13 @@ use Rattle.formula.specs.Expressions.{expressionAt}
 use Rattle.type_record.specs.Record.{TypeRecord, recordSize, recordBytes}
 use Rattle.schema.specs.Schema.{recordsRead, readRecords, entriesOf, mapsOf, schemaReading, WritesFrom}
 use Rattle.schema.specs.TableLaws.{ReadSchema, schema-read, read-schema, read-entries, read-zeros, read-table}
-use Rattle.schema.specs.declared.reading.Judgement.{Judgement}
 use Rattle.schema.specs.declared.reading.Judgement.the-variants.{Read, Refused as SchemaRefused}
 use Rattle.schema.specs.declared.reading.Schema.{Schema}
 use Rattle.typing.specs.Filling.{NodeLanes}
-use Rattle.typing.specs.Output.{typedIn, outputMap, outputList}
+use Rattle.typing.specs.Output.{typedIn}
 use Rattle.typing.specs.OutputLaws.{mapIn, listIn}
 use Rattle.typing.specs.Judged.{lanesOf, TableItems, typed-lanes, map-is, list-is, map-even}
-use Rattle.typing.specs.Typing.{typedAnswer, tableAnswer, typedOut, tableOut, afterSchema, schemaAnswer, schemaOut, afterFile, typingAnswer, typingOut}
+use Rattle.typing.specs.Typing.{tableAnswer, tableOut, schemaAnswer, schemaOut, afterFile, typingAnswer, typingOut}
 use Rattle.typing.specs.declared.operation.Answer.{Answer}
 use Rattle.typing.specs.declared.operation.Answer.the-variants.{Typed, Untyped, Refused}
 

@@ -1,19 +1,18 @@
 -- The verdict is right about types: the witness types the node, and untypable is said exactly where no assignment does.
-use Prim.Native.Nat.{ℕ, zero, _+_, _*_, _/_, _%_, _^_, _≤_, _<_}
-use mathlib.Core.Path.{_≡_, refl, sym, ap, ap₂, subst, fun-ext, _∙_}
-use mathlib.Core.Logic.{_↔_}
-use mathlib.Core.Bool.{Bool, true, false, cond, _&&_, true≢false}
+use Prim.Native.Nat.{ℕ, _+_, _*_, _/_, _%_, _^_, _≤_, _<_}
+use mathlib.Core.Path.{_≡_, refl, sym, ap, subst, fun-ext, _∙_}
+use mathlib.Core.Bool.{Bool, true, false, _&&_, true≢false}
 use mathlib.Core.List.{List}
-use native.Mathlib.Nat.{lt-of-lt-of-le, div-add-mod'}
+use native.Mathlib.Nat.{lt-of-lt-of-le}
 use native.Mathlib.Decide.{decLe}
 use native.Mathlib.Omega.{arith}
 use lib.Arith.{lt-of-le-ne}
-use borrow.Author.Tests.{lt-ltb, le-ltb, ltb-true, ltb-false, eqb-true, eqb-false, eq-eqb, ne-eqb, le-leb}
-use lib.Dec.{T, eqb, ltb, leb}
+use borrow.Author.Tests.{ltb-true, ltb-false, eqb-true, eqb-false, le-leb}
+use lib.Dec.{eqb, ltb, leb}
 use lib.ListN.{length, getD, List·getD-eq-default}
 use lib.Pow.{pow-mono}
 use Rattle.bits.specs.Bit.{bit, bit-above, bit-none}
-use Rattle.bits.specs.Pack.{pack, bit-pack}
+use Rattle.bits.specs.Pack.{bit-pack}
 use Rattle.bits.specs.Lowest.{lowestFrom, Lowest, lowest-is}
 use Rattle.bits.specs.Tab.{tab, length-tab, getD-tab}
 use Rattle.attribute_set.specs.AttrSet.{special}
@@ -30,7 +29,6 @@ use Rattle.verdict.specs.Lowest.{subsetsIn}
 use Rattle.verdict.specs.Witness.{recordWord, recordByte}
 use Rattle.verdict.specs.Verdict.{subsetIn, blockedIn, judged, judgement}
 use Rattle.verdict.specs.StoredFormula.{formulaIn}
-use Rattle.verdict.specs.declared.operation.Outcome.{Outcome}
 use Rattle.verdict.specs.declared.operation.Outcome.the-variants.{Typable, Untypable}
 
 -- what a schema of records of two bytes says: relation r has special attribute a where bit a of its record stands

@@ -1,19 +1,16 @@
 -- Demand 3 on the stored bytes: the formula of a node of an accepted file, read off the work space as Formula and Verdict leave it.
 use Prim.Native.Nat.{ℕ, _*_, _^_, _≤_, _<_}
-use mathlib.Core.Path.{_≡_, refl, sym, ap, ap₂, subst, _∙_}
+use mathlib.Core.Path.{_≡_, refl, sym, ap, _∙_}
 use mathlib.Core.Logic.{_↔_}
 use mathlib.Core.Bool.{Bool, true, false, _&&_}
 use mathlib.Core.List.{List}
 use native.Mathlib.Nat.{lt-of-lt-of-le}
-use native.Mathlib.Omega.{arith}
 use borrow.Author.Tests.{lt-ltb, le-ltb}
-use lib.Dec.{ltb}
 use lib.ListN.{length}
 use lib.Pow.{pow-mono}
 use Rattle.bits.specs.Bit.{bit}
 use Rattle.bits.specs.Tab.{over}
 use Rattle.types.specs.Types.{Attrs, IsType, Assignment, IsAssignment}
-use Rattle.algebra.specs.Expression.{Expression}
 use Rattle.algebra.specs.Rules.{Typed}
 use Rattle.algebra.specs.Cell.{plain, out, ok}
 use Rattle.formulas.specs.Formula.{Formula, Fits}
@@ -26,7 +23,7 @@ use Rattle.expression.specs.Accepted.{accepted-file}
 use Rattle.formula.specs.Column.{allowedIn, outputIn}
 use Rattle.formula.specs.Storage.{columnAt}
 use Rattle.formula.specs.Expressions.{expressionAt, expression-legal}
-use Rattle.formula.specs.Stored.{allowedBit, outputBit, cellColumn, formulasOf}
+use Rattle.formula.specs.Stored.{allowedBit, outputBit, formulasOf}
 use Rattle.formula.specs.StoredLaws.{stored-column}
 use Rattle.formula.specs.NodeColumn.{cell-allowed, cell-output}
 

@@ -1,5 +1,5 @@
 use Rattle.expression.proofs.Resume.{outcome, resumed, resumed-start, resumed-next, resumed-refused, resumed-followed, resumed-end, size-fits}
-use Prim.Native.Nat.{ℕ, _-_, _≤_}
+use Prim.Native.Nat.{_-_, _≤_}
 use mathlib.Core.Path.{_≡_, sym, _∙_}
 use native.Mathlib.Omega.{arith}
 use lib.ListN.{length}

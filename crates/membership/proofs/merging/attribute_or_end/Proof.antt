@@ -1,6 +1,6 @@
 use native.Mathlib.Omega.{arith}
 use borrow.Author.Tests.{lt-ltb, le-ltb}
-use Rattle.membership.specs.Merging.{tab-or-end, front-or-end}
+use Rattle.membership.specs.Merging.{tab-or-end}
 use borrow.Author.Needs.{needs}
 use Rattle.membership.proofs.merging.attribute_or_end.Statement.{statement}
 use Rattle.membership.proofs.merging.attribute_or_end.Tie as tie

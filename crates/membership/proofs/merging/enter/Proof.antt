@@ -1,12 +1,9 @@
 use borrow.Author.Tests.{ltb-true, ltb-false}
-use Prim.Native.Nat.{ℕ, _+_, _-_, _*_, _≤_, _<_}
-use mathlib.Core.Path.{_≡_, refl, sym, ap, _∙_}
-use mathlib.Core.List.{List}
+use Prim.Native.Nat.{_+_, _-_, _*_, _≤_}
 use mathlib.Core.Logic.{inl, inr}
 use native.Mathlib.Omega.{arith}
-use lib.ListN.{length, getD, take, replicate, length-replicate}
-use lib.Seq.{length-take-le}
-use Rattle.bits.specs.Tab.{tab, length-tab}
+use lib.ListN.{take, replicate}
+use Rattle.bits.specs.Tab.{tab}
 use Rattle.bits.specs.Word.{word}
 use Rattle.membership.specs.Merging.{Merge, merge-first, bounds, bounds-next, attribute-most, enter-next, enter-end}
 use borrow.Author.Needs.{needs}

@@ -1,5 +1,5 @@
 use borrow.Author.Tests.{lt-ltb, le-ltb}
-use Rattle.membership.specs.Merging.{tab-or-end, front-or-end}
+use Rattle.membership.specs.Merging.{front-or-end}
 use borrow.Author.Needs.{needs}
 use Rattle.membership.proofs.merging.entry_or_end.Statement.{statement}
 use Rattle.membership.proofs.merging.entry_or_end.Tie as tie

@@ -1,7 +1,6 @@
-use Prim.Native.Nat.{ℕ, _≤_}
+use Prim.Native.Nat.{_≤_}
 use mathlib.Core.Path.{_≡_, sym, _∙_}
 use native.Mathlib.Omega.{arith}
-use lib.ListN.{getD}
 use Rattle.bits.specs.PackFrom.{from-none, from-all}
 use Rattle.typing.specs.LaneLaws.{membersFrom, members-lower, members-below}
 use borrow.Author.Needs.{needs}
