@@ -25,6 +25,12 @@ module _ {A : Type 0} where
   getD-tab (suc n) f zero d h = refl
   getD-tab (suc n) f (suc i) d h = getD-tab n (λ i. f (suc i)) i d (le-of-suc-le-suc h)
 
+  -- one element more
+  pub tab-more : (n : ℕ) (f : ℕ → A) → tab (suc n) f ≡ tab n f ++ (f n ∷ [])
+  unfolding tab
+  tab-more zero f = refl
+  tab-more (suc n) f = ap (λ l. f 0 ∷ l) (tab-more n (λ i. f (suc i)))
+
   -- a list with these elements
   pub tab-is : (n : ℕ) (f : ℕ → A) (d : A) (l : List A) → length l ≡ n → ((i : ℕ) → i < n → getD l i d ≡ f i) → l ≡ tab n f
   tab-is n f d l size e =

@@ -1,3 +1,4 @@
 pub mod Numbers
 pub mod Formulas
 pub mod Schemas
+pub mod Instantiations

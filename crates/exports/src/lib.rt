@@ -7,6 +7,7 @@ ghost use Rattle.expression.specs.Record.{placeOf, recordOf};
 ghost use Rattle.exports.specs.Numbers.{acceptanceNumber, relationsOr, nodesOr, readingNumber};
 
 mod formulas;
+mod instantiations;
 mod schemas;
 mod words;
 

@@ -1,4 +1,5 @@
 pub mod Entries
+pub mod EntriesOnce
 pub mod EnterLaws
 pub mod Merging
 pub mod TableLaws

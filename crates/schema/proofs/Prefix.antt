@@ -1,14 +1,14 @@
 -- The records of the relations before r, written to the front of a slice: one record more, and the whole.
-use Prim.Native.Nat.{ℕ, zero, suc, _+_, _-_, _*_, _≤_, _<_}
+use Prim.Native.Nat.{ℕ, _+_, _-_, _*_, _≤_, _<_}
 use mathlib.Core.Path.{_≡_, refl, sym, ap, _∙_}
 use mathlib.Core.List.{List, [], _∷_, _++_, append-assoc, append-nil}
 use native.Mathlib.Numerals.{add-one}
 use native.Mathlib.Omega.{arith}
 use borrow.Rule.Slice.PartMut.{putMid, midOf}
-use lib.ListN.{length, getD, take, drop, length-append, length-drop, drop-of-length-le}
-use lib.Seq.{drop-drop, take-append-seam, drop-append-seam, length-take-le}
-use Rattle.bits.specs.Part.{part-from}
-use Rattle.bits.specs.Tab.{tab, length-tab, over, over-length}
+use lib.ListN.{length, getD, take, length-append}
+use lib.Seq.{length-take-le}
+use Rattle.bits.specs.Part.{over-more}
+use Rattle.bits.specs.Tab.{tab, length-tab, tab-more, over, over-length}
 use Rattle.type_record.specs.Record.{TypeRecord, recordSize, recordBytes}
 use Rattle.type_record.specs.RecordLaws.{size-most, record-length}
 use Rattle.membership.specs.declared.holders.Held.{Held}
@@ -17,11 +17,6 @@ use Rattle.membership.specs.HolderLaws.{held-few, held-attributes}
 use Rattle.schema.specs.Schema.{schemaBytes, recordsOf, WritesFrom}
 
 -- ---- one more
-
-tab-more : {A : Type 0} (n : ℕ) (f : ℕ → A) → tab (suc n) f ≡ tab n f ++ (f n ∷ [])
-unfolding tab
-tab-more zero f = refl
-tab-more (suc n) f = ap (λ l. f 0 ∷ l) (tab-more n (λ i. f (suc i)))
 
 bytes-more : (ts : List TypeRecord) (t : TypeRecord) → schemaBytes (ts ++ (t ∷ [])) ≡ schemaBytes ts ++ recordBytes (t .map) (t .ordinary)
 unfolding schemaBytes
@@ -34,16 +29,6 @@ prefix-more special es r =
     rw (add-one r)
     (ap schemaBytes (tab-more r (λ r. record { map = getD special r 0; ordinary = heldBy r es }))
     ∙ bytes-more (recordsOf r special es) (record { map = getD special r 0; ordinary = heldBy r es }))
-
--- writing on in the part after what is written: in the whole
-over-more : (a b old out : List ℕ) → out ≡ over a old → putMid (length a) (length out - length a) out (over b (midOf (length a) (length out - length a) out)) ≡ over (a ++ b) old
-unfolding over
-over-more a b old out e =
-    let rest : drop (length a) out ≡ drop (length a) old = ap (drop (length a)) e ∙ drop-append-seam a (drop (length a) old) in
-    let front : take (length a) out ≡ a = ap (take (length a)) e ∙ take-append-seam a (drop (length a) old) in
-    let size = length-drop (length a) out in
-    let tail = drop-of-length-le (drop (length a) out) {i = length out - length a} (omega arith) in
-    rw (part-from out (length a), tail, rest, front) (simp (append-nil, append-assoc, drop-drop (length b) (length a) old, length-append))
 
 -- ---- the loop
 

@@ -40,7 +40,7 @@ entries-rising ts fits all = rising-from 0 ts [] (omega arith) all tt
 
 -- ---- bounds
 
-all-below : (b : ℕ) (xs : List ℕ) → ((i : ℕ) → getD xs i 0 < b) → Below b xs
+pub all-below : (b : ℕ) (xs : List ℕ) → ((i : ℕ) → getD xs i 0 < b) → Below b xs
 all-below b [] below = tt
 all-below b (x ∷ xs) below = (below 0, all-below b xs (λ i. below (suc i)))
 

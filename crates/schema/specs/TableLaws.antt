@@ -90,7 +90,7 @@ pub maps-is : (ts : List TypeRecord) (r : ℕ) → r < 8 → getD (mapsOf ts) r 
 unfolding mapsOf
 maps-is ts r h = getD-tab 8 (λ r. getD ts r noRecord .map) r 0 h
 
-maps-size : (ts : List TypeRecord) → length (mapsOf ts) ≡ 8
+pub maps-size : (ts : List TypeRecord) → length (mapsOf ts) ≡ 8
 unfolding mapsOf
 maps-size ts = length-tab 8 (λ r. getD ts r noRecord .map)
 

@@ -69,7 +69,7 @@ module _ (m : ℕ) (few : m ≤ 8) (e : Expression) (legal : Legal m e) where
       }
 
   -- a cell of an entry is that of its subset
-  entry-cell : (x : ℕ) → (ok plain e 0 (bit (subsetOf x)) ≡ ok plain e 0 (bit x)) × (out plain e 0 (bit (subsetOf x)) ≡ out plain e 0 (bit x))
+  pub entry-cell : (x : ℕ) → (ok plain e 0 (bit (subsetOf x)) ≡ ok plain e 0 (bit x)) × (out plain e 0 (bit (subsetOf x)) ≡ out plain e 0 (bit x))
   entry-cell x = cell-depends plain m e legal 0 (bit (subsetOf x)) (bit x) (λ r h. subset-bit x r (lt-of-lt-of-le h few))
 
   -- the output has a where the cell of its holders says so

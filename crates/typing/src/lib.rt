@@ -5,4 +5,5 @@ mod operation;
 mod output;
 
 pub use operation::Answer;
+pub use operation::type_table;
 pub use operation::typing;

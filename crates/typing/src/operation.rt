@@ -25,7 +25,7 @@ pub enum Answer {
 }
 
 // A node over a membership table.
-fn type_table(
+pub fn type_table(
     file: &[u8],
     m: u8,
     n: u8,

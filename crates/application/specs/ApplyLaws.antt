@@ -1,0 +1,243 @@
+-- Laws of Apply: what the code finds is what the definitions say, the results after each refusal, and after none.
+use Prim.Native.Nat.{ℕ, _+_, _*_, _%_, _≤_, _<_}
+use mathlib.Core.Path.{_≡_, refl, sym, ap, ap₂, _∙_}
+use mathlib.Core.Bool.{Bool, true, false, not}
+use mathlib.Core.List.{List, []}
+use native.Mathlib.Omega.{arith}
+use borrow.Author.Tests.{lt-ltb, le-ltb, le-leb, lt-leb}
+use lib.ListN.{length, getD, take}
+use lib.Seq.{length-take-le, getD-take}
+use Rattle.bits.specs.AllBelow.{allBelow}
+use Rattle.bits.specs.Tab.{over}
+use Rattle.bits.specs.Word.{Bytes}
+use Rattle.refusal.specs.Chain.{refuse}
+use Rattle.refusal.specs.declared.Refusal.{Refusal}
+use Rattle.refusal.specs.declared.Refusal.the-variants.{NodeNumber, WorkSpace, ResultSlice, TypeVariable, SpecialSubset}
+use Rattle.expression.specs.declared.files.Acceptance.{Acceptance}
+use Rattle.expression.specs.declared.files.Acceptance.the-variants.{Accepted, Refused as FileRefused}
+use Rattle.expression.specs.ReadFile.{acceptance}
+use Rattle.algebra.specs.Expression.{Expression, Legal}
+use Rattle.formula.specs.Column.{allowedIn}
+use Rattle.formula.specs.Expressions.{expressionAt}
+use Rattle.formula.specs.Storage.{columnAt}
+use Rattle.formula.specs.Stored.{cellColumn, formulasOf}
+use Rattle.formula.specs.StoredLaws.{stored-column}
+use Rattle.type_record.specs.Record.{recordSize, recordBytes}
+use Rattle.membership.specs.Entries.{subsetOf}
+use Rattle.membership.specs.TableLaws.{table-count, is-table}
+use Rattle.schema.specs.Schema.{schemaBytes, recordsOf, WritesFrom}
+use Rattle.schema.specs.declared.reading.Judgement.the-variants.{Read, Refused as ReadRefused}
+use Rattle.instantiation.specs.Instantiation.{entriesIn, instantiationReading}
+use Rattle.instantiation.specs.ReadLaws.{lists-read}
+use Rattle.instantiation.specs.EntriesLaws.{entries-below}
+use Rattle.instantiation.specs.TableLaws.{ReadInstantiation, instantiation-read, read-zeros, subsets-size, subsets-none, subsets-small}
+use Rattle.instantiation.specs.declared.reading.Instantiation.{Instantiation}
+use Rattle.typing.specs.Output.{typedIn, outputMap, outputList}
+use Rattle.typing.specs.Typing.{typedAnswer, tableAnswer, typedOut, tableOut, afterSchema}
+use Rattle.typing.specs.TypingLaws.{ReadTable}
+use Rattle.typing.specs.declared.operation.Answer.{Answer}
+use Rattle.typing.specs.declared.operation.Answer.the-variants.{Typed, Untyped, Refused as TypingRefused}
+use Rattle.application.specs.Special.{mapsFrom}
+use Rattle.application.specs.SpecialLaws.{maps-length, maps-even}
+use Rattle.application.specs.Fitting.{variableIn, entriesAllowed, specialsAllowed}
+use Rattle.application.specs.Fits.{entriesFit, specialsFit, all-same, entries-stored, specials-stored, fits-typed}
+use Rattle.application.specs.Apply.{tableApplied, tableImage, tableOutput, entriesOf, readApplied, readImage, readOutput, readSpace, afterFile, applyAnswer, applySpace, applySchema, applyOut}
+use Rattle.application.specs.declared.applying.Application.{Application}
+use Rattle.application.specs.declared.applying.Application.the-variants.{Applied, Refused}
+
+-- the formula of node k stands in the work space
+pub record Filled (file : List ℕ) (m k : ℕ) (work : List ℕ) : Type 0 where
+  pub fits : k * 1024 + 1024 ≤ length work
+  pub columns : (c : ℕ) → c < 16 → columnAt work k c ≡ cellColumn m (expressionAt file k) c
+
+-- the table of an instantiation that was read: a subset of a byte for each special attribute, none for 0, and entries with zeros after the last
+pub record ReadSubsets (subsets items : List ℕ) (count : ℕ) : Type 0 where
+  pub special : length subsets ≡ 16
+  pub small : (i : ℕ) → getD subsets i 0 < 256
+  pub none : getD subsets 0 0 ≡ 0
+  pub size : length items ≡ 256
+  pub few : count ≤ 255
+  pub below : (i : ℕ) → getD items i 0 < 16777216
+  pub zeros : (i : ℕ) → count ≤ i → getD items i 0 ≡ 0
+
+-- the test of the entries in memory is that of the entries
+pub entries-tested : (file : List ℕ) (m k : ℕ) (work items : List ℕ) (count : ℕ) → Filled file m k work → count ≤ length items → (t : Bool) → t ≡ allBelow count (λ i. variableIn (columnAt work k 0) (subsetOf (getD items i 0))) → t ≡ entriesFit m (expressionAt file k) (take count items)
+unfolding entriesAllowed
+entries-tested file m k work items count filled enough t is =
+    is
+    ∙ all-same count (λ i. variableIn (columnAt work k 0) (subsetOf (getD items i 0))) (λ i. variableIn (columnAt work k 0) (subsetOf (getD (take count items) i 0))) (λ i h. ap (λ (x : ℕ). variableIn (columnAt work k 0) (subsetOf x)) (sym (getD-take count items i 0 h)))
+    ∙ ap (λ (n : ℕ). allBelow n (λ i. variableIn (columnAt work k 0) (subsetOf (getD (take count items) i 0)))) (sym (length-take-le count items enough))
+    ∙ entries-stored work k m (expressionAt file k) (filled .columns) (take count items)
+
+-- ---- over a table
+
+module _ (file : List ℕ) (m k : ℕ) (few : m ≤ 8) (legal : Legal m (expressionAt file k)) (work subsets items : List ℕ) (count : ℕ) (filled : Filled file m k work) (table : ReadSubsets subsets items count) where
+  -- the tests of the code
+  entries-found : (t : Bool) → t ≡ allBelow count (λ i. variableIn (columnAt work k 0) (subsetOf (getD items i 0))) → t ≡ entriesFit m (expressionAt file k) (take count items)
+  entries-found = entries-tested file m k work items count filled (let size = table .size in let most = table .few in omega arith)
+
+  specials-found : (t : Bool) → t ≡ specialsAllowed work k subsets → t ≡ specialsFit m (expressionAt file k) subsets
+  specials-found t is = is ∙ specials-stored work k m (expressionAt file k) (filled .columns) subsets (table .small)
+
+  module _ (schema out : List ℕ) where
+    pub variable-refused : (t : Bool) → t ≡ false → t ≡ allBelow count (λ i. variableIn (columnAt work k 0) (subsetOf (getD items i 0))) → (Refused TypeVariable ≡ tableApplied m (expressionAt file k) subsets (take count items)) × ((schema ≡ tableImage m (expressionAt file k) subsets (take count items) schema) × (out ≡ tableOutput m (expressionAt file k) subsets (take count items) out))
+    unfolding tableApplied tableImage tableOutput refuse
+    variable-refused t fails is = let no-fit = sym (entries-found t is) ∙ fails in rw no-fit (refl, (refl, refl))
+
+    pub special-refused : (t u : Bool) → t ≡ true → t ≡ allBelow count (λ i. variableIn (columnAt work k 0) (subsetOf (getD items i 0))) → u ≡ false → u ≡ specialsAllowed work k subsets → (Refused SpecialSubset ≡ tableApplied m (expressionAt file k) subsets (take count items)) × ((schema ≡ tableImage m (expressionAt file k) subsets (take count items) schema) × (out ≡ tableOutput m (expressionAt file k) subsets (take count items) out))
+    unfolding tableApplied tableImage tableOutput refuse
+    special-refused t u holds is fails is′ =
+        let fit = sym (entries-found t is) ∙ holds in
+        let no-fit = sym (specials-found u is′) ∙ fails in
+        rw (fit, no-fit) (refl, (refl, refl))
+
+    -- both tests hold: the table types the node
+    module _ (t u : Bool) (holds : t ≡ true) (is : t ≡ allBelow count (λ i. variableIn (columnAt work k 0) (subsetOf (getD items i 0)))) (holds′ : u ≡ true) (is′ : u ≡ specialsAllowed work k subsets) (maps : List ℕ) (maps-are : maps ≡ mapsFrom subsets) where
+      fit : entriesFit m (expressionAt file k) (take count items) ≡ true
+      fit = sym (entries-found t is) ∙ holds
+
+      special-fit : specialsFit m (expressionAt file k) subsets ≡ true
+      special-fit = sym (specials-found u is′) ∙ holds′
+
+      typed : typedIn (expressionAt file k) maps (take count items) ≡ true
+      typed = rw maps-are (fits-typed m few (expressionAt file k) legal subsets (take count items) (table .none) fit special-fit)
+
+      always-typed : (a : Answer) → a ≡ tableAnswer (expressionAt file k) maps (take count items) → a ≡ Typed (recordSize (length (outputList (expressionAt file k) (take count items))))
+      unfolding tableAnswer
+      always-typed a said = said ∙ rw typed
+
+      -- and no other answer comes
+      pub never-untyped : (a : Answer) → a ≡ tableAnswer (expressionAt file k) maps (take count items) → a ≡ Untyped → ⊥
+      never-untyped a said is = let both = sym is ∙ always-typed a said in let z : _≡_ {A = ℕ} 0 1 = cc in omega arith
+
+      pub never-refused : (a : Answer) (r : Refusal) → a ≡ tableAnswer (expressionAt file k) maps (take count items) → a ≡ TypingRefused r → ⊥
+      never-refused a r said is = let both = sym is ∙ always-typed a said in let z : _≡_ {A = ℕ} 0 1 = cc in omega arith
+
+      pub table-applied : (size outSize : ℕ) (image written : List ℕ) → size ≡ length (schemaBytes (recordsOf m maps (take count items))) → image ≡ over (schemaBytes (recordsOf m maps (take count items))) schema → Typed outSize ≡ tableAnswer (expressionAt file k) maps (take count items) → written ≡ tableOut (expressionAt file k) maps (take count items) out → (Applied size outSize ≡ tableApplied m (expressionAt file k) subsets (take count items)) × ((image ≡ tableImage m (expressionAt file k) subsets (take count items) schema) × (written ≡ tableOutput m (expressionAt file k) subsets (take count items) out))
+      unfolding tableApplied tableImage tableOutput refuse tableOut
+      table-applied size outSize image written size-is image-is said wrote =
+          let out-size : outSize ≡ recordSize (length (outputList (expressionAt file k) (take count items))) = sized (always-typed (Typed outSize) said) in
+          rw (fit, special-fit) (
+            ap₂ Applied (size-is ∙ ap (λ (x : List ℕ). length (schemaBytes (recordsOf m x (take count items)))) maps-are) out-size,
+            (
+              image-is ∙ ap (λ (x : List ℕ). over (schemaBytes (recordsOf m x (take count items))) schema) maps-are,
+              wrote ∙ (rw typed) ∙ ap (λ (x : List ℕ). over (recordBytes (outputMap (expressionAt file k) x) (outputList (expressionAt file k) (take count items))) out) maps-are,
+            ),
+          )
+        where
+          sized : {a b : ℕ} → Typed a ≡ Typed b → a ≡ b
+          sized q = cc
+
+-- an instantiation that was read has such a table
+pub read-subsets : (bytes : List ℕ) (i : Instantiation) → Bytes bytes → i ≡ instantiationReading bytes → i .judgement ≡ Read → ReadSubsets (i .subsets) (i .entries .items) (i .entries .count)
+read-subsets bytes i below is read = rw is (made (instantiation-read bytes (rw is at read)))
+  where
+    made : (ls : List (List ℕ)) × ReadInstantiation bytes (instantiationReading bytes) ls → ReadSubsets (instantiationReading bytes .subsets) (instantiationReading bytes .entries .items) (instantiationReading bytes .entries .count)
+    made (ls, r) =
+        let lists = lists-read bytes ls below (r .long) (r .read) in
+        let table = is-table (entriesIn ls) (entries-below ls lists) in
+        let n = table-count (entriesIn ls) (r .few) in
+        let few = r .few in
+        let zeros = read-zeros bytes (instantiationReading bytes) ls r in
+        rw (r .is)
+        (record {
+          special = subsets-size bytes;
+          small = subsets-small bytes below;
+          none = subsets-none bytes;
+          size = table .size;
+          few = omega arith;
+          below = table .below;
+          zeros = rw (r .is) at zeros;
+        })
+
+-- and maps with bit 0 clear, so that a table of maps can be made of it
+pub maps-table : (subsets items : List ℕ) (count : ℕ) → ReadSubsets subsets items count → ReadTable (mapsFrom subsets) items count
+maps-table subsets items count t =
+    record {
+      writes = record { maps = maps-length subsets; even = maps-even subsets (t .none); size = t .size; few = t .few; below = t .below };
+      zeros = t .zeros;
+    }
+
+-- what Formula leaves is such a work space
+pub filled-space : (file work filled : List ℕ) (m n k : ℕ) → k < n → n * 1024 ≤ length work → filled ≡ over (formulasOf file m n) work → length filled ≡ length work → Filled file m k filled
+filled-space file work filled m n k node enough is size =
+    record {
+      fits = omega arith;
+      columns = λ c h. rw is (stored-column file work m n enough k c node h);
+    }
+
+-- ---- as it was read
+
+module _ (file : List ℕ) (m n : ℕ) (e : Expression) (i : Instantiation) (work schema out : List ℕ) where
+  pub read-stops : (r : Refusal) → i .judgement ≡ ReadRefused r → (Refused r ≡ readApplied m e i) × ((work ≡ readSpace file m n (i .judgement) work) × ((schema ≡ readImage m e i schema) × (out ≡ readOutput m e i out)))
+  unfolding readApplied readSpace readImage readOutput
+  read-stops r is = rw is (refl, (refl, (refl, refl)))
+
+  pub read-goes : i .judgement ≡ Read → (a : Application) (filled image written : List ℕ) → filled ≡ over (formulasOf file m n) work → a ≡ tableApplied m e (i .subsets) (entriesOf i) → image ≡ tableImage m e (i .subsets) (entriesOf i) schema → written ≡ tableOutput m e (i .subsets) (entriesOf i) out → (a ≡ readApplied m e i) × ((filled ≡ readSpace file m n (i .judgement) work) × ((image ≡ readImage m e i schema) × (written ≡ readOutput m e i out)))
+  unfolding readApplied readSpace readImage readOutput
+  read-goes is a filled image written space applied imaged wrote = rw is (applied, (space, (imaged, wrote)))
+
+-- ---- the order of the refusals
+
+-- refusal r is the first that applies before the instantiation is read
+pub data Stops (a : Acceptance) (k space size outSize : ℕ) : Refusal → Type 0 where
+  byFile : {r : Refusal} → a ≡ FileRefused r → Stops a k space size outSize r
+  byNode : {m n : ℕ} → a ≡ Accepted m n → n ≤ k → Stops a k space size outSize NodeNumber
+  bySpace : {m n : ℕ} → a ≡ Accepted m n → k < n → space < n * 1024 → Stops a k space size outSize WorkSpace
+  bySchema : {m n : ℕ} → a ≡ Accepted m n → k < n → n * 1024 ≤ space → size < 4104 → Stops a k space size outSize ResultSlice
+  byOutput : {m n : ℕ} → a ≡ Accepted m n → k < n → n * 1024 ≤ space → 4104 ≤ size → outSize < 513 → Stops a k space size outSize ResultSlice
+
+-- none applies
+pub record Goes (a : Acceptance) (k space size outSize m n : ℕ) : Type 0 where
+  pub accepted : a ≡ Accepted m n
+  pub node : k < n
+  pub workSpace : n * 1024 ≤ space
+  pub schema : 4104 ≤ size
+  pub output : 513 ≤ outSize
+
+module _ {A : Type 0} (stop : Refusal → A) (go : ℕ → ℕ → A) (a : Acceptance) (k space size outSize : ℕ) where
+  stopped : (r : Refusal) → Stops a k space size outSize r → afterFile a k space size outSize stop go ≡ stop r
+  unfolding refuse
+  stopped r (byFile e) = rw e
+  stopped r (byNode {m} {n} e h) = rw (e, le-leb n k h)
+  stopped r (bySpace {m} {n} e h s) = rw (e, lt-leb n k h, lt-ltb space (n * 1024) s)
+  stopped r (bySchema {m} {n} e h s t) = rw (e, lt-leb n k h, le-ltb space (n * 1024) s, lt-ltb size 4104 t)
+  stopped r (byOutput {m} {n} e h s t u) = rw (e, lt-leb n k h, le-ltb space (n * 1024) s, le-ltb size 4104 t, lt-ltb outSize 513 u)
+
+  gone : (m n : ℕ) → Goes a k space size outSize m n → afterFile a k space size outSize stop go ≡ go m n
+  unfolding refuse
+  gone m n g = rw (g .accepted, lt-leb n k (g .node), le-ltb space (n * 1024) (g .workSpace), le-ltb size 4104 (g .schema), le-ltb outSize 513 (g .output))
+
+module _ (file : List ℕ) (k : ℕ) (bytes work schema out : List ℕ) where
+  abbrev Results : Application → List ℕ → List ℕ → List ℕ → Type 0
+  Results a filled image written =
+      (a ≡ applyAnswer file k bytes (length work) (length schema) (length out))
+      × ((filled ≡ applySpace file k bytes work (length schema) (length out))
+      × ((image ≡ applySchema file k bytes (length work) schema (length out))
+      × (written ≡ applyOut file k bytes (length work) (length schema) out)))
+
+  pub apply-stops : (r : Refusal) → Stops (acceptance file) k (length work) (length schema) (length out) r → Results (Refused r) work schema out
+  unfolding applyAnswer applySpace applySchema applyOut
+  apply-stops r s = (
+    sym (stopped Refused (λ m n. readApplied m (expressionAt file k) (instantiationReading bytes)) (acceptance file) k (length work) (length schema) (length out) r s),
+    (
+      sym (stopped (λ r. work) (λ m n. readSpace file m n (instantiationReading bytes .judgement) work) (acceptance file) k (length work) (length schema) (length out) r s),
+      (
+        sym (stopped (λ r. schema) (λ m n. readImage m (expressionAt file k) (instantiationReading bytes) schema) (acceptance file) k (length work) (length schema) (length out) r s),
+        sym (stopped (λ r. out) (λ m n. readOutput m (expressionAt file k) (instantiationReading bytes) out) (acceptance file) k (length work) (length schema) (length out) r s),
+      ),
+    ),
+  )
+
+  pub apply-goes : (m n : ℕ) → Goes (acceptance file) k (length work) (length schema) (length out) m n → (a : Application) (filled image written : List ℕ) → a ≡ readApplied m (expressionAt file k) (instantiationReading bytes) → filled ≡ readSpace file m n (instantiationReading bytes .judgement) work → image ≡ readImage m (expressionAt file k) (instantiationReading bytes) schema → written ≡ readOutput m (expressionAt file k) (instantiationReading bytes) out → Results a filled image written
+  unfolding applyAnswer applySpace applySchema applyOut
+  apply-goes m n g a filled image written answered space imaged wrote = (
+    answered ∙ sym (gone Refused (λ m n. readApplied m (expressionAt file k) (instantiationReading bytes)) (acceptance file) k (length work) (length schema) (length out) m n g),
+    (
+      space ∙ sym (gone (λ r. work) (λ m n. readSpace file m n (instantiationReading bytes .judgement) work) (acceptance file) k (length work) (length schema) (length out) m n g),
+      (
+        imaged ∙ sym (gone (λ r. schema) (λ m n. readImage m (expressionAt file k) (instantiationReading bytes) schema) (acceptance file) k (length work) (length schema) (length out) m n g),
+        wrote ∙ sym (gone (λ r. out) (λ m n. readOutput m (expressionAt file k) (instantiationReading bytes) out) (acceptance file) k (length work) (length schema) (length out) m n g),
+      ),
+    ),
+  )

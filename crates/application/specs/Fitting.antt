@@ -1,0 +1,32 @@
+-- A membership table against a node's stored formula: "Each subset must be allowed in its column and each standing bit a type variable." (document 01)
+use Prim.Native.Nat.{ℕ, _+_, _*_, _/_, _%_, _≤_, _<_}
+use mathlib.Core.Path.{_≡_, ap, _∙_}
+use mathlib.Core.Bool.{Bool, _&&_}
+use mathlib.Core.List.{List}
+use native.Mathlib.Omega.{arith}
+use lib.Dec.{ltb}
+use lib.ListN.{length, getD, take, drop}
+use lib.Seq.{getD-take, getD-drop}
+use Rattle.bits.specs.AllBelow.{allBelow}
+use Rattle.bits.specs.Bit.{bit}
+use Rattle.membership.specs.Entries.{subsetOf}
+use Rattle.formula.specs.Column.{allowedIn}
+use Rattle.formula.specs.Storage.{columnAt}
+
+-- "The type variables are the s above 0 allowed in column 0."
+abbrev pub variableIn : List ℕ → ℕ → Bool
+variableIn column s = ltb 0 s && allowedIn column s
+
+-- the subset of each entry is a type variable of node k
+unfoldable pub entriesAllowed : List ℕ → ℕ → List ℕ → Bool
+entriesAllowed work k entries = allBelow (length entries) (λ i. variableIn (columnAt work k 0) (subsetOf (getD entries i 0)))
+
+-- the subset of each special attribute is allowed in its column
+unfoldable pub specialsAllowed : List ℕ → ℕ → List ℕ → Bool
+specialsAllowed work k subsets = allBelow 15 (λ i. allowedIn (columnAt work k (i + 1)) (getD subsets (i + 1) 0))
+
+-- ---- the bit in the work space
+
+pub allowed-at : (work : List ℕ) (k c s : ℕ) → s < 256 → allowedIn (columnAt work k c) s ≡ bit (getD work (k * 1024 + c * 64 + s / 8) 0) (s % 8)
+unfolding allowedIn columnAt
+allowed-at work k c s h = ap (λ (x : ℕ). bit x (s % 8)) (getD-take 64 (drop (k * 1024 + c * 64) work) (s / 8) 0 (omega arith) ∙ getD-drop (k * 1024 + c * 64) work (s / 8) 0)

@@ -1,0 +1,130 @@
+-- The image of a table is a schema, and reading it gives the table back.
+use Prim.Native.Nat.{ℕ, zero, suc, _%_, _^_, _≤_, _<_}
+use mathlib.Core.Path.{_≡_, refl, sym, ap, _∙_}
+use mathlib.Core.Bool.{Bool, true, false, cond}
+use mathlib.Core.List.{List, [], _∷_}
+use native.Mathlib.Nat.{lt-of-lt-of-le, mod-lt}
+use native.Mathlib.Decide.{decLt}
+use native.Mathlib.Omega.{arith}
+use lib.Dec.{eqb, lit<}
+use lib.ListN.{length, getD, List·getD-eq-default}
+use lib.Pow.{pow-pos, pow-mono}
+use Rattle.bits.specs.Bit.{bit, bit-above}
+use Rattle.bits.specs.Pack.{bits-once}
+use Rattle.bits.specs.Rising.{member}
+use Rattle.bits.specs.Tab.{tab, length-tab, getD-tab, tab-is}
+use Rattle.type_record.specs.Record.{TypeRecord}
+use Rattle.type_record.specs.RecordLaws.{IsRecord}
+use Rattle.membership.specs.Entries.{attributeOf, subsetOf, holdersIn}
+use Rattle.membership.specs.EnterLaws.{RisingEntries}
+use Rattle.membership.specs.EntriesOnce.{Positive, entries-once}
+use Rattle.membership.specs.Holders.{heldBy}
+use Rattle.membership.specs.HolderLaws.{held-member, held-rising, held-few, held-below}
+use Rattle.membership.specs.TableLaws.{Below}
+use Rattle.schema.specs.Schema.{recordsRead, readRecords, noRecord, schemaBytes, entriesOf, mapsOf, recordsOf}
+use Rattle.schema.specs.RecordsLaws.{AllRecords, written-records}
+use Rattle.schema.specs.EntriesLaws.{entries-rising, entries-holders}
+use Rattle.application.specs.Bounds.{Held, schema-held}
+
+-- a table of m relations: rising entries of two bytes, each held by some of them, at most 255; a map for each, with bit 0 clear, and empty ones from m on
+pub record IsTable (m : ℕ) (maps es : List ℕ) : Type 0 where
+  pub size : length maps ≡ 8
+  pub even : (r : ℕ) → getD maps r 0 % 2 ≡ 0
+  pub small : (r : ℕ) → getD maps r 0 < 65536
+  pub empty : (r : ℕ) → m ≤ r → getD maps r 0 ≡ 0
+  pub few : length es ≤ 255
+  pub rising : RisingEntries 15 es
+  pub below : Below 16777216 es
+  pub held : Held m es
+
+-- ---- general facts
+
+all-tab : (n : ℕ) (f : ℕ → TypeRecord) → ((i : ℕ) → i < n → IsRecord (f i)) → AllRecords (tab n f)
+unfolding tab
+all-tab zero f h = tt
+all-tab (suc n) f h = (h 0 (omega arith), all-tab n (λ i. f (suc i)) (λ i less. h (suc i) (omega arith)))
+
+pub held-positive : (m : ℕ) (es : List ℕ) → Held m es → Positive es
+held-positive m [] h = tt
+held-positive m (e ∷ es) h = (h .0, held-positive m es (h .2))
+
+holders-small : (es : List ℕ) (a : ℕ) → holdersIn es a < 256
+holders-small [] a = lit< tt
+holders-small (e ∷ es) a = go (eqb a (attributeOf e)) (holders-small es a)
+  where
+    go : (t : Bool) → holdersIn es a < 256 → cond t (subsetOf e) (holdersIn es a) < 256
+    go true rest = mod-lt e (lit< tt)
+    go false rest = rest
+
+holders-held : (m : ℕ) (es : List ℕ) → Held m es → (a : ℕ) → holdersIn es a < 2 ^ m
+holders-held m [] h a = pow-pos m
+holders-held m (e ∷ es) h a = go (eqb a (attributeOf e)) (holders-held m es (h .2) a)
+  where
+    go : (t : Bool) → holdersIn es a < 2 ^ m → cond t (subsetOf e) (holdersIn es a) < 2 ^ m
+    go true rest = h .1
+    go false rest = rest
+
+-- ---- the image
+
+module _ (m : ℕ) (few : m ≤ 8) (maps es : List ℕ) (table : IsTable m maps es) where
+  abbrev records : List TypeRecord
+  records = recordsOf m maps es
+
+  image-size : length (recordsOf m maps es) ≡ m
+  unfolding recordsOf
+  image-size = length-tab m _
+
+  image-at : (r : ℕ) → r < m → getD (recordsOf m maps es) r noRecord ≡ record { map = getD maps r 0; ordinary = heldBy r es }
+  unfolding recordsOf
+  image-at r h = getD-tab m (λ r. record { map = getD maps r 0; ordinary = heldBy r es }) r noRecord h
+
+  pub image-records : AllRecords (recordsOf m maps es)
+  unfolding recordsOf
+  image-records =
+      all-tab m (λ r. record { map = getD maps r 0; ordinary = heldBy r es })
+      (λ r h. let most = held-few r es in
+      let fits = table .few in
+      record {
+        even = table .even r;
+        small = table .small r;
+        few = omega arith;
+        rising = held-rising 15 r es (table .rising);
+        below = held-below r es (table .below);
+      })
+
+  -- it is read as its records
+  pub image-read : readRecords m (schemaBytes (recordsOf m maps es)) ≡ recordsRead (recordsOf m maps es)
+  image-read = ap (λ (n : ℕ). readRecords n (schemaBytes (recordsOf m maps es))) (sym image-size) ∙ written-records (recordsOf m maps es) image-records
+
+  -- the entries of the records are those of the table
+  same-holders : (a : ℕ) → holdersIn (entriesOf (recordsOf m maps es)) a ≡ holdersIn es a
+  same-holders a =
+      let size = image-size in
+      bits-once 8 (holdersIn (entriesOf (recordsOf m maps es)) a) (holdersIn es a) (holders-small (entriesOf (recordsOf m maps es)) a) (holders-small es a)
+      (λ r h. entries-holders (recordsOf m maps es) (omega arith) image-records a r h ∙ go r h (decLt r m))
+    where
+      go : (r : ℕ) → r < 8 → Dec (r < m) → member a (getD (recordsOf m maps es) r noRecord .ordinary) ≡ bit (holdersIn es a) r
+      go r h (yes below) = ap (λ (t : TypeRecord). member a (t .ordinary)) (image-at r below) ∙ held-member 15 r es h (table .rising) a
+      go r h (no above) =
+          let size = image-size in
+          ap (λ (t : TypeRecord). member a (t .ordinary)) (List·getD-eq-default (recordsOf m maps es) noRecord {n = r} (omega arith))
+          ∙ sym (bit-above (holdersIn es a) r (lt-of-lt-of-le (holders-held m es (table .held) a) (pow-mono (omega arith))))
+
+  pub image-entries : entriesOf (recordsOf m maps es) ≡ es
+  image-entries =
+      let size = image-size in
+      entries-once 15 (entriesOf (recordsOf m maps es)) es (entries-rising (recordsOf m maps es) (omega arith) image-records) (table .rising)
+      (held-positive m (entriesOf (recordsOf m maps es)) (schema-held m (recordsOf m maps es) few (omega arith)))
+      (held-positive m es (table .held))
+      same-holders
+
+  -- and so are the maps
+  pub image-maps : mapsOf (recordsOf m maps es) ≡ maps
+  unfolding mapsOf
+  image-maps = sym (tab-is 8 (λ r. getD (recordsOf m maps es) r noRecord .map) 0 maps (table .size) (λ r h. go r (decLt r m)))
+    where
+      go : (r : ℕ) → Dec (r < m) → getD maps r 0 ≡ getD (recordsOf m maps es) r noRecord .map
+      go r (yes below) = sym (ap (λ (t : TypeRecord). t .map) (image-at r below))
+      go r (no above) =
+          let size = image-size in
+          table .empty r (omega arith) ∙ sym (ap (λ (t : TypeRecord). t .map) (List·getD-eq-default (recordsOf m maps es) noRecord {n = r} (omega arith)))

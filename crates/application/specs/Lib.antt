@@ -1,0 +1,11 @@
+pub mod Special
+pub mod Fitting
+pub mod Fits
+pub mod Apply
+pub mod Recover
+pub mod Bounds
+pub mod SpecialLaws
+pub mod Image
+pub mod Tables
+pub mod ApplyLaws
+pub mod RecoverLaws

@@ -1,0 +1,137 @@
+-- Laws of Recover: what the code finds is what the definitions say, the results after each refusal, and after none.
+use Prim.Native.Nat.{ℕ, _*_, _≤_, _<_}
+use mathlib.Core.Path.{_≡_, refl, sym, ap, ap₂, _∙_}
+use mathlib.Core.Bool.{Bool, true, false, _&&_, and-false}
+use mathlib.Core.List.{List}
+use borrow.Author.Tests.{lt-ltb, le-ltb, le-leb, lt-leb}
+use lib.ListN.{length, getD, take}
+use lib.Seq.{length-take-le, getD-take}
+use native.Mathlib.Omega.{arith}
+use Rattle.bits.specs.AllBelow.{allBelow}
+use Rattle.bits.specs.Tab.{over}
+use Rattle.refusal.specs.Chain.{refuse}
+use Rattle.refusal.specs.declared.Refusal.{Refusal}
+use Rattle.refusal.specs.declared.Refusal.the-variants.{NodeNumber, WorkSpace, ResultSlice}
+use Rattle.expression.specs.declared.files.Acceptance.{Acceptance}
+use Rattle.expression.specs.declared.files.Acceptance.the-variants.{Accepted, Refused as FileRefused}
+use Rattle.expression.specs.ReadFile.{acceptance}
+use Rattle.algebra.specs.Expression.{Expression}
+use Rattle.formula.specs.Expressions.{expressionAt}
+use Rattle.formula.specs.Storage.{columnAt}
+use Rattle.formula.specs.Stored.{formulasOf}
+use Rattle.membership.specs.Entries.{subsetOf}
+use Rattle.schema.specs.Schema.{schemaReading}
+use Rattle.schema.specs.declared.reading.Judgement.the-variants.{Read, Refused as ReadRefused}
+use Rattle.schema.specs.declared.reading.Schema.{Schema}
+use Rattle.typing.specs.TypingLaws.{ReadTable}
+use Rattle.application.specs.Special.{subsetsFrom}
+use Rattle.instantiation.specs.Instantiation.{listsOf, instantiationBytes, WritesFrom}
+use Rattle.application.specs.SpecialLaws.{subsets-small, subsets-size}
+use Rattle.application.specs.Fitting.{variableIn, specialsAllowed}
+use Rattle.application.specs.Fits.{entriesFit, specialsFit, specials-stored}
+use Rattle.application.specs.Apply.{readSpace}
+use Rattle.application.specs.ApplyLaws.{Filled, entries-tested}
+use Rattle.application.specs.Recover.{fits, tableRecovered, tableInstantiation, entriesOf, readRecovered, readInstantiation, afterFile, recoverAnswer, recoverSpace, recoverOut}
+use Rattle.application.specs.declared.recovering.Recovery.{Recovery}
+use Rattle.application.specs.declared.recovering.Recovery.the-variants.{Recovered, Untyped, Refused}
+
+-- ---- over a table
+
+module _ (file : List ℕ) (m k : ℕ) (work special items : List ℕ) (count : ℕ) (filled : Filled file m k work) (table : ReadTable special items count) (out : List ℕ) where
+  entries-found : (t : Bool) → t ≡ allBelow count (λ i. variableIn (columnAt work k 0) (subsetOf (getD items i 0))) → t ≡ entriesFit m (expressionAt file k) (take count items)
+  entries-found = entries-tested file m k work items count filled (let size = table .writes .size in let few = table .writes .few in omega arith)
+
+  specials-found : (subsets : List ℕ) (t : Bool) → subsets ≡ subsetsFrom special → t ≡ specialsAllowed work k subsets → t ≡ specialsFit m (expressionAt file k) (subsetsFrom special)
+  specials-found subsets t are is = is ∙ ap (specialsAllowed work k) are ∙ specials-stored work k m (expressionAt file k) (filled .columns) (subsetsFrom special) (subsets-small special)
+
+  abbrev Results : Recovery → List ℕ → Type 0
+  Results r written = (r ≡ tableRecovered m (expressionAt file k) special (take count items)) × (written ≡ tableInstantiation m (expressionAt file k) special (take count items) out)
+
+  untyped : fits m (expressionAt file k) special (take count items) ≡ false → Results Untyped out
+  unfolding tableRecovered tableInstantiation
+  untyped no-fit = rw no-fit (refl, refl)
+
+  pub entry-untyped : (t : Bool) → t ≡ false → t ≡ allBelow count (λ i. variableIn (columnAt work k 0) (subsetOf (getD items i 0))) → Results Untyped out
+  entry-untyped t fails is = untyped (ap (λ (b : Bool). b && specialsFit m (expressionAt file k) (subsetsFrom special)) (sym (entries-found t is) ∙ fails))
+
+  pub special-untyped : (subsets : List ℕ) (t : Bool) → t ≡ false → subsets ≡ subsetsFrom special → t ≡ specialsAllowed work k subsets → Results Untyped out
+  special-untyped subsets t fails are is = untyped (ap (λ (b : Bool). entriesFit m (expressionAt file k) (take count items) && b) (sym (specials-found subsets t are is) ∙ fails) ∙ and-false (entriesFit m (expressionAt file k) (take count items)))
+
+  pub table-recovered : (t u : Bool) (subsets : List ℕ) (size : ℕ) (written : List ℕ) → t ≡ true → t ≡ allBelow count (λ i. variableIn (columnAt work k 0) (subsetOf (getD items i 0))) → subsets ≡ subsetsFrom special → u ≡ true → u ≡ specialsAllowed work k subsets → size ≡ length (instantiationBytes subsets (listsOf (take count items))) → written ≡ over (instantiationBytes subsets (listsOf (take count items))) out → Results (Recovered size) written
+  unfolding tableRecovered tableInstantiation
+  table-recovered t u subsets size written holds is are holds′ is′ size-is wrote =
+      let fit : fits m (expressionAt file k) special (take count items) ≡ true = ap₂ _&&_ (sym (entries-found t is) ∙ holds) (sym (specials-found subsets u are is′) ∙ holds′) in
+      rw fit (
+        ap Recovered (size-is ∙ ap (λ (x : List ℕ). length (instantiationBytes x (listsOf (take count items)))) are),
+        wrote ∙ ap (λ (x : List ℕ). over (instantiationBytes x (listsOf (take count items))) out) are,
+      )
+
+-- the table can be written
+pub recovered-from : (special items : List ℕ) (count : ℕ) → ReadTable special items count → WritesFrom (subsetsFrom special) items count
+recovered-from special items count t = record { special = subsets-size special; size = t .writes .size; few = t .writes .few; below = t .writes .below }
+
+-- ---- as it was read
+
+module _ (file : List ℕ) (m n : ℕ) (e : Expression) (s : Schema) (work out : List ℕ) where
+  pub read-stops : (r : Refusal) → s .judgement ≡ ReadRefused r → (Refused r ≡ readRecovered m e s) × ((work ≡ readSpace file m n (s .judgement) work) × (out ≡ readInstantiation m e s out))
+  unfolding readRecovered readSpace readInstantiation
+  read-stops r is = rw is (refl, (refl, refl))
+
+  pub read-goes : s .judgement ≡ Read → (a : Recovery) (filled written : List ℕ) → filled ≡ over (formulasOf file m n) work → a ≡ tableRecovered m e (s .special) (entriesOf s) → written ≡ tableInstantiation m e (s .special) (entriesOf s) out → (a ≡ readRecovered m e s) × ((filled ≡ readSpace file m n (s .judgement) work) × (written ≡ readInstantiation m e s out))
+  unfolding readRecovered readSpace readInstantiation
+  read-goes is a filled written space answered wrote = rw is (answered, (space, wrote))
+
+-- ---- the order of the refusals
+
+-- refusal r is the first that applies before the schema is read
+pub data Stops (a : Acceptance) (k space size : ℕ) : Refusal → Type 0 where
+  byFile : {r : Refusal} → a ≡ FileRefused r → Stops a k space size r
+  byNode : {m n : ℕ} → a ≡ Accepted m n → n ≤ k → Stops a k space size NodeNumber
+  bySpace : {m n : ℕ} → a ≡ Accepted m n → k < n → space < n * 1024 → Stops a k space size WorkSpace
+  bySlice : {m n : ℕ} → a ≡ Accepted m n → k < n → n * 1024 ≤ space → size < 812 → Stops a k space size ResultSlice
+
+-- none applies
+pub record Goes (a : Acceptance) (k space size m n : ℕ) : Type 0 where
+  pub accepted : a ≡ Accepted m n
+  pub node : k < n
+  pub workSpace : n * 1024 ≤ space
+  pub slice : 812 ≤ size
+
+module _ {A : Type 0} (stop : Refusal → A) (go : ℕ → ℕ → A) (a : Acceptance) (k space size : ℕ) where
+  stopped : (r : Refusal) → Stops a k space size r → afterFile a k space size stop go ≡ stop r
+  unfolding refuse
+  stopped r (byFile e) = rw e
+  stopped r (byNode {m} {n} e h) = rw (e, le-leb n k h)
+  stopped r (bySpace {m} {n} e h s) = rw (e, lt-leb n k h, lt-ltb space (n * 1024) s)
+  stopped r (bySlice {m} {n} e h s t) = rw (e, lt-leb n k h, le-ltb space (n * 1024) s, lt-ltb size 812 t)
+
+  gone : (m n : ℕ) → Goes a k space size m n → afterFile a k space size stop go ≡ go m n
+  unfolding refuse
+  gone m n g = rw (g .accepted, lt-leb n k (g .node), le-ltb space (n * 1024) (g .workSpace), le-ltb size 812 (g .slice))
+
+module _ (file : List ℕ) (k : ℕ) (bytes work out : List ℕ) where
+  abbrev Answers : Recovery → List ℕ → List ℕ → Type 0
+  Answers a filled written =
+      (a ≡ recoverAnswer file k bytes (length work) (length out))
+      × ((filled ≡ recoverSpace file k bytes work (length out))
+      × (written ≡ recoverOut file k bytes (length work) out))
+
+  pub recover-stops : (r : Refusal) → Stops (acceptance file) k (length work) (length out) r → Answers (Refused r) work out
+  unfolding recoverAnswer recoverSpace recoverOut
+  recover-stops r s = (
+    sym (stopped Refused (λ m n. readRecovered m (expressionAt file k) (schemaReading m bytes)) (acceptance file) k (length work) (length out) r s),
+    (
+      sym (stopped (λ r. work) (λ m n. readSpace file m n (schemaReading m bytes .judgement) work) (acceptance file) k (length work) (length out) r s),
+      sym (stopped (λ r. out) (λ m n. readInstantiation m (expressionAt file k) (schemaReading m bytes) out) (acceptance file) k (length work) (length out) r s),
+    ),
+  )
+
+  pub recover-goes : (m n : ℕ) → Goes (acceptance file) k (length work) (length out) m n → (a : Recovery) (filled written : List ℕ) → a ≡ readRecovered m (expressionAt file k) (schemaReading m bytes) → filled ≡ readSpace file m n (schemaReading m bytes .judgement) work → written ≡ readInstantiation m (expressionAt file k) (schemaReading m bytes) out → Answers a filled written
+  unfolding recoverAnswer recoverSpace recoverOut
+  recover-goes m n g a filled written answered space wrote = (
+    answered ∙ sym (gone Refused (λ m n. readRecovered m (expressionAt file k) (schemaReading m bytes)) (acceptance file) k (length work) (length out) m n g),
+    (
+      space ∙ sym (gone (λ r. work) (λ m n. readSpace file m n (schemaReading m bytes .judgement) work) (acceptance file) k (length work) (length out) m n g),
+      wrote ∙ sym (gone (λ r. out) (λ m n. readInstantiation m (expressionAt file k) (schemaReading m bytes) out) (acceptance file) k (length work) (length out) m n g),
+    ),
+  )

@@ -1,0 +1,110 @@
+// The operation Recover.
+ghost use mathlib.Core.Path.{_≡_};
+ghost use Prim.Native.Nat.{_*_, _≤_, _<_};
+ghost use lib.ListN.{length, take};
+ghost use Rattle.expression.specs.declared.files.Acceptance.the-variants.{Accepted};
+ghost use Rattle.expression.specs.ReadFile.{acceptance};
+ghost use Rattle.formula.specs.Expressions.{expressionAt};
+ghost use Rattle.schema.specs.Schema.{schemaReading};
+ghost use Rattle.typing.specs.TypingLaws.{ReadTable};
+ghost use Rattle.application.specs.Apply.{readSpace};
+ghost use Rattle.application.specs.ApplyLaws.{Filled};
+ghost use Rattle.application.specs.Recover.{tableRecovered, tableInstantiation, readRecovered, readInstantiation, recoverAnswer, recoverSpace, recoverOut};
+use crate::fitting::entries_allowed;
+use crate::fitting::specials_allowed;
+use crate::special::subsets_from;
+use expression::Acceptance;
+use expression::accept;
+use formula::fill;
+use instantiation::write_instantiation;
+use refusal::Refusal;
+use schema::Judgement;
+use schema::read_schema;
+
+// The length of the instantiation, or that the schema does not type the node, or the first refusal.
+pub enum Recovery {
+    Recovered(usize),
+    Untyped,
+    Refused(Refusal),
+}
+
+// The table of a schema at a node whose formula stands in the work space.
+fn recover_table(
+    work: &[u8],
+    node: u8,
+    special: &[u16],
+    items: &[u32],
+    count: usize,
+    out: &mut [u8],
+    file: &[u8],
+    m: u8,
+) -> Recovery
+    requires { ⌜ Filled (now file) m node (now work) ⌝ }
+    requires { ⌜ ReadTable (now special) (now items) count ⌝ }
+    requires { ⌜ 812 ≤ length (now out) ⌝ }
+    ensures { λ r. ⌜ r ≡ tableRecovered m (expressionAt (now (file .entry)) node) (now (special .entry)) (take count (now (items .entry))) ⌝ }
+    ensures { λ _. ⌜ now (out .exit) ≡ tableInstantiation m (expressionAt (now (file .entry)) node) (now (special .entry)) (take count (now (items .entry))) (now (out .entry)) ⌝ }
+{
+    if !entries_allowed(work, node, items, count) {
+        return Recovery::Untyped;
+    }
+    let subsets = subsets_from(special);
+    if !specials_allowed(work, node, &subsets) {
+        return Recovery::Untyped;
+    }
+    Recovery::Recovered(write_instantiation(out, &subsets, items, count))
+}
+
+// The schema in these bytes at a node of an accepted file.
+fn recover_bytes(
+    file: &[u8],
+    m: u8,
+    n: u8,
+    node: u8,
+    bytes: &[u8],
+    work: &mut [u8],
+    out: &mut [u8],
+) -> Recovery
+    requires { ⌜ acceptance (now file) ≡ Accepted m n ⌝ }
+    requires { ⌜ (node < n) × (n * 1024 ≤ length (now work)) ⌝ }
+    requires { ⌜ 812 ≤ length (now out) ⌝ }
+    ensures { λ r. ⌜ r ≡ readRecovered m (expressionAt (now (file .entry)) node) (schemaReading m (now (bytes .entry))) ⌝ }
+    ensures { λ _. ⌜ now (work .exit) ≡ readSpace (now (file .entry)) m n (schemaReading m (now (bytes .entry)) .judgement) (now (work .entry)) ⌝ }
+    ensures { λ _. ⌜ now (out .exit) ≡ readInstantiation m (expressionAt (now (file .entry)) node) (schemaReading m (now (bytes .entry))) (now (out .entry)) ⌝ }
+{
+    let read = read_schema(bytes, m);
+    let judgement = read.judgement;
+    match judgement {
+        Judgement::Refused(r) => Recovery::Refused(r),
+        Judgement::Read => {
+            let special = read.special;
+            let entries = read.entries;
+            let items = entries.items;
+            fill(file, m, n, work);
+            recover_table(work, node, &special, &items, entries.count, out, file, m)
+        }
+    }
+}
+
+// Recover: refusals 1 to 13, 14 to 18.
+pub fn recover(file: &[u8], node: usize, schema: &[u8], work: &mut [u8], out: &mut [u8]) -> Recovery
+    ensures { λ r. ⌜ r ≡ recoverAnswer (now (file .entry)) node (now (schema .entry)) (length (now (work .entry))) (length (now (out .entry))) ⌝ }
+    ensures { λ _. ⌜ now (work .exit) ≡ recoverSpace (now (file .entry)) node (now (schema .entry)) (now (work .entry)) (length (now (out .entry))) ⌝ }
+    ensures { λ _. ⌜ now (out .exit) ≡ recoverOut (now (file .entry)) node (now (schema .entry)) (length (now (work .entry))) (now (out .entry)) ⌝ }
+{
+    match accept(file) {
+        Acceptance::Refused(r) => Recovery::Refused(r),
+        Acceptance::Accepted(m, n) => {
+            if n as usize <= node {
+                return Recovery::Refused(Refusal::NodeNumber);
+            }
+            if work.len() < n as usize * 1024 {
+                return Recovery::Refused(Refusal::WorkSpace);
+            }
+            if out.len() < 812 {
+                return Recovery::Refused(Refusal::ResultSlice);
+            }
+            recover_bytes(file, m, n, node as u8, schema, work, out)
+        }
+    }
+}

@@ -1,0 +1,7 @@
+mod Finish
+mod Marking
+mod More
+mod Resume
+mod Following
+mod Prefix
+mod Whole

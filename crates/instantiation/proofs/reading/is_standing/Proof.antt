@@ -1,0 +1,25 @@
+use mathlib.Core.Path.{refl}
+use Rattle.bits.specs.Bit.{bit}
+use borrow.Author.Needs.{needs}
+use Rattle.instantiation.proofs.reading.is_standing.Statement.{statement}
+use Rattle.instantiation.proofs.reading.is_standing.Tie as tie
+
+add-result : tie.Need-add-result
+add-result c = search needs
+
+shared-slice-read-result : tie.Need-shared-slice-read-result
+shared-slice-read-result c = search needs
+
+cast-result : tie.Need-cast-result
+cast-result c = search needs
+
+shr-result : tie.Need-shr-result
+shr-result c = search needs
+
+returns : tie.Need-returns
+unfolding bit
+returns c = refl
+
+pub is-standing-spec : {M : Type 1} → statement M
+is-standing-spec =
+    tie.close (tie.spec add-result shared-slice-read-result cast-result shr-result returns)

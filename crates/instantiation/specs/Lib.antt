@@ -1,0 +1,15 @@
+pub mod Instantiation
+pub mod Seen
+pub mod SeenLaws
+pub mod ReadStep
+pub mod ListBytes
+pub mod ListsLaws
+pub mod ReadLaws
+pub mod Apart
+pub mod SubsetLaws
+pub mod Owners
+pub mod EntriesLaws
+pub mod Chains
+pub mod ChainLaws
+pub mod MapLaws
+pub mod TableLaws

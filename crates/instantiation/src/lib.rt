@@ -1,0 +1,10 @@
+// Instantiations: reading them into the membership table, and writing them from it.
+mod chains;
+mod lists;
+mod reading;
+mod seen;
+mod writing;
+
+pub use reading::Instantiation;
+pub use reading::read_instantiation;
+pub use writing::write_instantiation;

@@ -1,0 +1,37 @@
+// Writing an instantiation from the membership table.
+ghost use mathlib.Core.Path.{_≡_};
+ghost use lib.ListN.{length, take, getD};
+ghost use Rattle.bits.specs.Tab.{tab, over};
+ghost use Prim.Native.Nat.{_+_, _≤_};
+ghost use Rattle.instantiation.specs.Instantiation.{listsOf, instantiationBytes, WritesFrom};
+use crate::chains::chain;
+use crate::lists::write_lists;
+use crate::lists::write_map;
+
+// Writes the subsets of the special attributes 1 to 15 to the front of the slice.
+fn write_special(out: &mut [u8], subsets: &[u8])
+    requires { ⌜ length (now subsets) ≡ 16 ⌝ }
+    requires { ⌜ 15 ≤ length (now out) ⌝ }
+    ensures { λ _. ⌜ now (out .exit) ≡ over (tab 15 (λ i. getD (now (subsets .entry)) (i + 1) 0)) (now (out .entry)) ⌝ }
+{
+    let mut i = 0;
+    while i < 15 {
+        out[i] = subsets[i + 1];
+        i += 1;
+    }
+}
+
+// Writes the instantiation of these subsets and entries to the front of the slice, and gives its length.
+pub fn write_instantiation(out: &mut [u8], subsets: &[u8], items: &[u32], count: usize) -> usize
+    requires { ⌜ WritesFrom (now subsets) (now items) count ⌝ }
+    requires { ⌜ 812 ≤ length (now out) ⌝ }
+    ensures { λ r. ⌜ r ≡ length (instantiationBytes (now (subsets .entry)) (listsOf (take count (now (items .entry))))) ⌝ }
+    ensures { λ _. ⌜ now (out .exit) ≡ over (instantiationBytes (now (subsets .entry)) (listsOf (take count (now (items .entry))))) (now (out .entry)) ⌝ }
+{
+    let chains = chain(items, count);
+    let first = chains.first;
+    let next = chains.next;
+    write_special(out, subsets);
+    write_map(&mut out[15..], &first, count);
+    47 + write_lists(&mut out[47..], &first, &next, items, count)
+}
