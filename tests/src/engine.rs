@@ -14,8 +14,15 @@ const LIST_PROGRAM_VARIABLE: &str = "TYPE_FORMULA_LIST_PROGRAM";
 /// The answer of Verdict for an untypable node.
 pub const UNTYPABLE: u8 = 255;
 
-/// The answer of Typing for a node that the schema does not type.
+/// The answer of Typing and of Recover for a node that the schema does not type.
 pub const UNTYPED: u8 = 255;
+
+/// The lengths that Apply writes.
+#[derive(Clone, Copy, Debug, Default, PartialEq, Eq)]
+pub struct Lengths {
+    pub schema: usize,
+    pub output: usize,
+}
 
 extern "C" {
     fn type_formula_accept(
@@ -56,6 +63,35 @@ extern "C" {
         schema_len: usize,
         out: *mut u8,
         out_len: usize,
+        value: *mut usize,
+    ) -> u8;
+
+    fn type_formula_apply(
+        file: *const u8,
+        file_len: usize,
+        node: usize,
+        instantiation: *const u8,
+        instantiation_len: usize,
+        work: *mut u8,
+        work_len: usize,
+        schema: *mut u8,
+        schema_len: usize,
+        out: *mut u8,
+        out_len: usize,
+        schema_size: *mut usize,
+        out_size: *mut usize,
+    ) -> u8;
+
+    fn type_formula_recover(
+        file: *const u8,
+        file_len: usize,
+        node: usize,
+        schema: *const u8,
+        schema_len: usize,
+        work: *mut u8,
+        work_len: usize,
+        instantiation: *mut u8,
+        instantiation_len: usize,
         value: *mut usize,
     ) -> u8;
 }
@@ -136,6 +172,70 @@ pub fn typing(file: &[u8], node: usize, schema: &[u8], out: &mut [u8], value: &m
             schema.len(),
             out.as_mut_ptr(),
             out.len(),
+            value,
+        )
+    }
+}
+
+/// Apply: 0 if the instantiation is one of the node's formula, and then writes its image
+/// as schema, the output record and the lengths of both; else the number of the first
+/// refusal. Schema, result slice and lengths stay unless the answer is 0.
+#[inline]
+pub fn apply(
+    file: &[u8],
+    node: usize,
+    instantiation: &[u8],
+    work: &mut [u8],
+    schema: &mut [u8],
+    out: &mut [u8],
+    lengths: &mut Lengths,
+) -> u8 {
+    // SAFETY: pointers and lengths are those of slices; work space, schema, result slice
+    // and lengths are writable.
+    unsafe {
+        type_formula_apply(
+            file.as_ptr(),
+            file.len(),
+            node,
+            instantiation.as_ptr(),
+            instantiation.len(),
+            work.as_mut_ptr(),
+            work.len(),
+            schema.as_mut_ptr(),
+            schema.len(),
+            out.as_mut_ptr(),
+            out.len(),
+            &mut lengths.schema,
+            &mut lengths.output,
+        )
+    }
+}
+
+/// Recover: 0 if the schema types the node, and then writes its instantiation and the
+/// length; 255 if it does not; else the number of the first refusal. The result slice
+/// and the value stay unless the answer is 0.
+#[inline]
+pub fn recover(
+    file: &[u8],
+    node: usize,
+    schema: &[u8],
+    work: &mut [u8],
+    instantiation: &mut [u8],
+    value: &mut usize,
+) -> u8 {
+    // SAFETY: pointers and lengths are those of slices; work space, result slice and
+    // value are writable.
+    unsafe {
+        type_formula_recover(
+            file.as_ptr(),
+            file.len(),
+            node,
+            schema.as_ptr(),
+            schema.len(),
+            work.as_mut_ptr(),
+            work.len(),
+            instantiation.as_mut_ptr(),
+            instantiation.len(),
             value,
         )
     }

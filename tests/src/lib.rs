@@ -7,9 +7,11 @@ pub mod examples;
 /// Examples of document 01 with the formula, verdict, typings and listing of their last
 /// node.
 pub mod formula_examples;
+/// Calls of Apply and Recover with their answers.
+pub mod instantiation_examples;
 /// Slices to lend to the engine.
 pub mod lent;
-/// Seeded generation of files, assignments and bytes.
+/// Seeded generation of files, assignments, instantiations and bytes.
 pub mod random;
 /// The other implementation, written from document 01.
 pub mod reference;

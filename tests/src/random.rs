@@ -1,8 +1,23 @@
-//! Seeded generation of files, assignments and bytes.
+//! Seeded generation of files, assignments, instantiations and bytes.
 
 use crate::reference::{
-    allowed_subsets, assignment_of, encode_file, Formula, Node, Type, COLUMNS, LEGAL_MAPS,
+    allowed_subsets, encode_file, type_variables, untypable_attribute, Formula, Instantiation,
+    Node, Type, COLUMN_LENGTH, LEGAL_MAPS, OUTPUT_START,
 };
+
+/// The typable node whose columns allow the fewest subsets in all.
+fn strictest_typable(formulas: &[Formula]) -> usize {
+    let allowed = |node: &usize| -> u32 {
+        let columns = formulas[*node].chunks_exact(COLUMN_LENGTH);
+        let bytes = columns.flat_map(|column| &column[..OUTPUT_START]);
+        bytes.map(|byte| byte.count_ones()).sum()
+    };
+    let is_typable = |node: &usize| untypable_attribute(&formulas[*node]).is_none();
+    (0..formulas.len())
+        .filter(is_typable)
+        .min_by_key(allowed)
+        .expect("node 0 is typable")
+}
 
 /// The generator splitmix64.
 pub struct Random {
@@ -174,6 +189,15 @@ impl Random {
         }
     }
 
+    /// A node of an accepted file with these formulas: any, or most often the typable one
+    /// whose columns allow the fewest subsets.
+    pub fn likely_node(&mut self, formulas: &[Formula]) -> usize {
+        match self.below(4) {
+            0 => self.below(formulas.len()),
+            _ => strictest_typable(formulas),
+        }
+    }
+
     /// An allowed subset of the column if there is one, else the empty one.
     pub fn allowed_subset(&mut self, formula: &Formula, column: usize) -> usize {
         match allowed_subsets(formula, column).as_slice() {
@@ -201,21 +225,28 @@ impl Random {
         attributes
     }
 
-    /// The image of an instantiation of the formula: each special attribute has a
-    /// subset that its column allows, and so many ordinary attributes are in lists of
-    /// type variables. Where there is no such subset or variable, no relation has the
-    /// attribute.
-    pub fn image(&mut self, formula: &Formula, relations: u8, ordinary: usize) -> Vec<Type> {
-        let mut subsets: Vec<(u32, usize)> = (1..COLUMNS)
-            .map(|column| (column as u32, self.allowed_subset(formula, column)))
-            .collect();
-        let variables = &allowed_subsets(formula, 0)[1..];
+    /// An instantiation of the formula: each special attribute has a subset that its
+    /// column allows, and so many ordinary attributes are in lists of type variables.
+    /// Where there is no such subset, the attribute has the empty one; where there is no
+    /// variable, there is no list.
+    pub fn instantiation(&mut self, formula: &Formula, ordinary: usize) -> Instantiation {
+        let mut instantiation = Instantiation::default();
+        for (column, subset) in (1..).zip(&mut instantiation.subsets) {
+            *subset = self.allowed_subset(formula, column) as u8;
+        }
+        let variables = type_variables(formula);
         if !variables.is_empty() {
             for attribute in self.ordinary_attributes(ordinary) {
-                subsets.push((attribute, variables[self.below(variables.len())]));
+                let variable = variables[self.below(variables.len())];
+                instantiation.insert(variable, attribute);
             }
         }
-        assignment_of(relations, subsets)
+        instantiation
+    }
+
+    /// The image of an instantiation as above.
+    pub fn image(&mut self, formula: &Formula, relations: u8, ordinary: usize) -> Vec<Type> {
+        self.instantiation(formula, ordinary).image(relations)
     }
 
     /// An attribute that some relation has, if there is one; one time in four any.
@@ -239,6 +270,48 @@ impl Random {
         } else if self.below(2) == 0 {
             let other = self.below(assignment.len());
             assignment[other].insert(attribute);
+        }
+    }
+
+    /// A subset of m relations; sometimes the empty one, sometimes any of 256.
+    fn likely_subset(&mut self, relations: u8) -> usize {
+        match self.below(8) {
+            0 => 0,
+            1 => self.below(256),
+            _ => self.below(1 << relations),
+        }
+    }
+
+    /// An attribute that some list has, if there is one; else any ordinary one.
+    fn listed_attribute(&mut self, instantiation: &Instantiation) -> u32 {
+        let listed: Vec<u32> = instantiation.lists.values().flatten().copied().collect();
+        match listed.as_slice() {
+            [] => self.ordinary_attribute(),
+            listed => listed[self.below(listed.len())],
+        }
+    }
+
+    /// One of the subsets that have a list, if there is one; else any.
+    fn listed_subset(&mut self, relations: u8, instantiation: &Instantiation) -> usize {
+        let subsets: Vec<usize> = instantiation.lists.keys().copied().collect();
+        match subsets.as_slice() {
+            [] => self.likely_subset(relations),
+            subsets => subsets[self.below(subsets.len())],
+        }
+    }
+
+    /// Gives a special attribute any subset, empties a list, or puts an attribute in a
+    /// list: one below 16, an ordinary one, or one that some list has.
+    pub fn disturb_instantiation(&mut self, relations: u8, instantiation: &mut Instantiation) {
+        let any = self.likely_subset(relations);
+        let listed = self.listed_subset(relations, instantiation);
+        match self.below(8) {
+            0..=1 => instantiation.subsets[self.below(15)] = any as u8,
+            2 => drop(instantiation.lists.insert(listed, Type::new())),
+            3 => instantiation.insert(listed, self.below(16) as u32),
+            4 => instantiation.insert(listed, self.ordinary_attribute()),
+            5 => instantiation.insert(any, self.ordinary_attribute()),
+            _ => instantiation.insert(any, self.listed_attribute(instantiation)),
         }
     }
 }

@@ -7,9 +7,9 @@ use type_formula_tests::examples::{cases, e1, from_hexadecimal, join_of_eight};
 use type_formula_tests::formula_examples::{e1_columns, formula_examples, E2_SCHEMA};
 use type_formula_tests::random::Random;
 use type_formula_tests::reference::{
-    allowed_subsets, assignment_of, encode_file, formula, infer, is_allowed, is_output, listing,
-    read_schema, type_of, verdict, Formula, Inferred, Node, Type, Verdict, COLUMNS, COLUMN_LENGTH,
-    FORMULA_LENGTH, SCHEMA_LENGTH,
+    allowed_subsets, assignment_of, encode_file, formula, holders, infer, is_allowed, is_output,
+    listing, read_schema, type_of, verdict, Formula, Inferred, Node, Type, Verdict, COLUMNS,
+    COLUMN_LENGTH, FORMULA_LENGTH, SCHEMA_LENGTH,
 };
 
 /// The ordinary attributes of the random assignments.
@@ -31,13 +31,6 @@ fn column_of(attribute: u32) -> usize {
     } else {
         0
     }
-}
-
-/// The relations that hold the attribute.
-fn holders(assignment: &[Type], attribute: u32) -> usize {
-    let holds = |relation: &usize| assignment[*relation].contains(&attribute);
-    let relations = (0..assignment.len()).filter(holds);
-    relations.map(|relation| 1 << relation).sum()
 }
 
 /// The assignment in which each attribute is held by the relations of its subset.

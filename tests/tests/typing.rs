@@ -14,8 +14,7 @@ use type_formula_tests::lent::Lent;
 use type_formula_tests::random::Random;
 use type_formula_tests::reference::{
     self, assignment_of, encode_file, encode_schema, infer, read_file, read_schema,
-    untypable_attribute, witness, Formula, Node, Type, Typing, COLUMN_LENGTH, OUTPUT_LENGTH,
-    OUTPUT_START, SCHEMA_LENGTH,
+    untypable_attribute, witness, Node, Type, Typing, OUTPUT_LENGTH, SCHEMA_LENGTH,
 };
 use type_formula_tests::typing_examples::{
     e2_to_e4, in_each_of_eight, spread_over_eight, typing_cases, TypingCase, E3_SCHEMA,
@@ -194,20 +193,6 @@ impl Comparisons {
     }
 }
 
-/// The typable node whose columns allow the fewest subsets in all.
-fn strictest_typable(formulas: &[Formula]) -> usize {
-    let allowed = |node: &usize| -> u32 {
-        let columns = formulas[*node].chunks_exact(COLUMN_LENGTH);
-        let bytes = columns.flat_map(|column| &column[..OUTPUT_START]);
-        bytes.map(|byte| byte.count_ones()).sum()
-    };
-    let is_typable = |node: &usize| untypable_attribute(&formulas[*node]).is_none();
-    (0..formulas.len())
-        .filter(is_typable)
-        .min_by_key(allowed)
-        .expect("node 0 is typable")
-}
-
 /// A file with an instantiation's image for one of its nodes, most often for the
 /// strictest typable one.
 fn file_with_image(random: &mut Random, relations: u8, count: u8) -> (Vec<u8>, usize, Vec<Type>) {
@@ -216,10 +201,7 @@ fn file_with_image(random: &mut Random, relations: u8, count: u8) -> (Vec<u8>, u
         _ => random.mild_file(relations, count),
     };
     let formulas = infer(&bytes).expect("accepted").formulas;
-    let node = match random.below(4) {
-        0 => random.below(formulas.len()),
-        _ => strictest_typable(&formulas),
-    };
+    let node = random.likely_node(&formulas);
     let ordinary = match random.below(8) {
         0 => random.below(MOST_IN_IMAGE + 1),
         _ => random.below(12),

@@ -1,9 +1,10 @@
 //! Formula and Verdict of the engine, in one run with the same operations by the
 //! reference and by a loop over 64-bit words, and with copying the bytes of the
-//! formulas; and Typing, with that of the reference and with copying schema and output
-//! record. Prints medians and the ratio of the engine's to each.
+//! formulas; Typing, with that of the reference and with copying schema and output
+//! record; and Apply and Recover, with those of the reference and with copying the bytes
+//! that they write. Prints medians and the ratio of the engine's to each.
 //!
-//! Work space, schema and result slice are reused and not cleared between runs.
+//! Work space and result slices are reused and not cleared between runs.
 
 #[cfg(not(verdict_in_archive))]
 fn main() {
@@ -485,32 +486,49 @@ mod measurement {
 
     #[cfg(typing_in_archive)]
     fn print_typing() {
-        for setting in typing::settings() {
-            setting.check();
-            print(&format!("Typing, {}", setting.name), &mut setting.rows());
+        for setting in typed::settings() {
+            typing::check(&setting);
+            print(
+                &format!("Typing, {}", setting.name),
+                &mut typing::rows(&setting),
+            );
         }
     }
 
-    #[cfg(typing_in_archive)]
-    mod typing {
-        use std::hint::black_box;
+    #[cfg(not(instantiations_in_archive))]
+    fn print_apply_and_recover() {
+        println!("\nthe archive of the engine has no Apply or no Recover");
+    }
 
-        use type_formula_tests::engine;
+    #[cfg(instantiations_in_archive)]
+    fn print_apply_and_recover() {
+        for setting in typed::settings() {
+            let setting = instantiations::Setting::new(setting);
+            setting.check();
+            let name = setting.name();
+            print(&format!("Apply, {name}"), &mut setting.apply_rows());
+            print(&format!("Recover, {name}"), &mut setting.recover_rows());
+        }
+    }
+
+    /// Files with a schema that types the last node.
+    #[cfg(any(typing_in_archive, instantiations_in_archive))]
+    mod typed {
         use type_formula_tests::examples::{e1, join_of_eight};
         use type_formula_tests::reference::{
-            self, assignment_of, encode_file, encode_schema, Node, Typing, OUTPUT_LENGTH,
+            assignment_of, encode_file, encode_schema, Node, OUTPUT_LENGTH,
         };
 
-        use super::{copy, has_all_cases, Row};
+        use super::has_all_cases;
 
         /// A file, its last node, a schema that types it, and the length of the output
         /// record.
         pub struct Setting {
             pub name: &'static str,
-            bytes: Vec<u8>,
-            last: usize,
-            schema: Vec<u8>,
-            length: usize,
+            pub bytes: Vec<u8>,
+            pub last: usize,
+            pub schema: Vec<u8>,
+            pub length: usize,
         }
 
         /// E1 with three ordinary attributes, one for each of its type variables. The
@@ -593,47 +611,209 @@ mod measurement {
         pub fn settings() -> [Setting; 2] {
             [e1_with_10_columns(), large()]
         }
+    }
+
+    #[cfg(typing_in_archive)]
+    mod typing {
+        use std::hint::black_box;
+
+        use type_formula_tests::engine;
+        use type_formula_tests::reference::{self, Typing, OUTPUT_LENGTH};
+
+        use super::{copy, typed::Setting, Row};
+
+        /// Asserts that the engine and the reference give the same answer and bytes.
+        pub fn check(setting: &Setting) {
+            let (bytes, last, schema) = (&setting.bytes, setting.last, &setting.schema);
+            let (mut out, mut wanted) = ([0x55; 600], [0x55; 600]);
+            let typing = reference::typing(bytes, last, schema, &mut wanted);
+            let length = setting.length;
+            assert_eq!(typing, Typing::Typed { length }, "{}", setting.name);
+            let mut value = 0;
+            let answer = engine::typing(bytes, last, schema, &mut out, &mut value);
+            assert_eq!((answer, value), (0, length), "{}", setting.name);
+            assert!(out == wanted, "{}", setting.name);
+        }
+
+        pub fn rows(setting: &Setting) -> Vec<Row<'_>> {
+            let (bytes, last, schema) = (&setting.bytes, setting.last, &setting.schema);
+            let (mut out, mut value) = ([0; OUTPUT_LENGTH], 0);
+            let by_engine = move || {
+                let (bytes, schema) = (black_box(bytes), black_box(schema));
+                let out = black_box(&mut out);
+                black_box(engine::typing(bytes, last, schema, out, &mut value));
+                black_box(value);
+            };
+            let mut out = [0; OUTPUT_LENGTH];
+            let by_reference = move || {
+                let (bytes, schema) = (black_box(bytes), black_box(schema));
+                let out = black_box(&mut out);
+                black_box(reference::typing(bytes, last, schema, out));
+            };
+            vec![
+                ("engine", Box::new(by_engine)),
+                ("reference", Box::new(by_reference)),
+                copy(schema.len() + setting.length),
+            ]
+        }
+    }
+
+    #[cfg(instantiations_in_archive)]
+    mod instantiations {
+        use std::hint::black_box;
+
+        use type_formula_tests::engine::{self, Lengths};
+        use type_formula_tests::reference::{
+            self, Apply, Recover, FORMULA_LENGTH, INSTANTIATION_LENGTH, OUTPUT_LENGTH,
+            SCHEMA_LENGTH,
+        };
+
+        use super::{copy, typed, Row};
+
+        /// A file with a schema that types its last node, and the instantiation whose
+        /// image the schema is.
+        pub struct Setting {
+            typed: typed::Setting,
+            instantiation: Vec<u8>,
+        }
+
+        /// The slices that every run uses again.
+        #[derive(PartialEq, Eq)]
+        struct Slices {
+            work: Vec<u8>,
+            schema: Vec<u8>,
+            out: Vec<u8>,
+            instantiation: Vec<u8>,
+        }
 
         impl Setting {
-            /// Asserts that the engine and the reference give the same answer and bytes.
-            pub fn check(&self) {
-                let (bytes, last, schema) = (&self.bytes, self.last, &self.schema);
-                let (mut out, mut wanted) = ([0x55; 600], [0x55; 600]);
-                let typing = reference::typing(bytes, last, schema, &mut wanted);
-                let length = self.length;
-                assert_eq!(typing, Typing::Typed { length }, "{}", self.name);
-                let mut value = 0;
-                let answer = engine::typing(bytes, last, schema, &mut out, &mut value);
-                assert_eq!((answer, value), (0, length), "{}", self.name);
-                assert!(out == wanted, "{}", self.name);
+            pub fn new(typed: typed::Setting) -> Self {
+                let mut setting = Setting {
+                    typed,
+                    instantiation: Vec::new(),
+                };
+                let mut slices = setting.slices();
+                let Recover::Recovered { length } = setting.recover(&mut slices) else {
+                    panic!("{}: not recovered", setting.name());
+                };
+                setting.instantiation = slices.instantiation[..length].to_vec();
+                setting
             }
 
-            pub fn rows(&self) -> Vec<Row<'_>> {
-                let (bytes, last, schema) = (&self.bytes, self.last, &self.schema);
-                let (mut out, mut value) = ([0; OUTPUT_LENGTH], 0);
+            pub fn name(&self) -> &'static str {
+                self.typed.name
+            }
+
+            fn work_length(&self) -> usize {
+                FORMULA_LENGTH * (self.typed.last + 1)
+            }
+
+            fn slices(&self) -> Slices {
+                Slices {
+                    work: vec![0x55; self.work_length()],
+                    schema: vec![0x55; SCHEMA_LENGTH],
+                    out: vec![0x55; OUTPUT_LENGTH],
+                    instantiation: vec![0x55; INSTANTIATION_LENGTH],
+                }
+            }
+
+            fn apply(&self, slices: &mut Slices) -> Apply {
+                reference::apply(
+                    black_box(&self.typed.bytes),
+                    self.typed.last,
+                    black_box(&self.instantiation),
+                    black_box(&mut slices.work),
+                    black_box(&mut slices.schema),
+                    black_box(&mut slices.out),
+                )
+            }
+
+            fn apply_by_engine(&self, slices: &mut Slices) -> (u8, Lengths) {
+                let mut lengths = Lengths::default();
+                let answer = engine::apply(
+                    black_box(&self.typed.bytes),
+                    self.typed.last,
+                    black_box(&self.instantiation),
+                    black_box(&mut slices.work),
+                    black_box(&mut slices.schema),
+                    black_box(&mut slices.out),
+                    &mut lengths,
+                );
+                (answer, lengths)
+            }
+
+            fn recover(&self, slices: &mut Slices) -> Recover {
+                reference::recover(
+                    black_box(&self.typed.bytes),
+                    self.typed.last,
+                    black_box(&self.typed.schema),
+                    black_box(&mut slices.work),
+                    black_box(&mut slices.instantiation),
+                )
+            }
+
+            fn recover_by_engine(&self, slices: &mut Slices) -> (u8, usize) {
+                let mut value = 0;
+                let answer = engine::recover(
+                    black_box(&self.typed.bytes),
+                    self.typed.last,
+                    black_box(&self.typed.schema),
+                    black_box(&mut slices.work),
+                    black_box(&mut slices.instantiation),
+                    &mut value,
+                );
+                (answer, value)
+            }
+
+            /// Asserts that the engine and the reference give the same answers and bytes.
+            pub fn check(&self) {
+                let (schema, output) = (self.typed.schema.len(), self.typed.length);
+                let (mut given, mut wanted) = (self.slices(), self.slices());
+                assert_eq!(self.apply(&mut wanted), Apply::Applied { schema, output });
+                let answer = self.apply_by_engine(&mut given);
+                assert_eq!(answer, (0, Lengths { schema, output }));
+                assert!(given == wanted, "{}: Apply", self.name());
+                let (mut given, mut wanted) = (self.slices(), self.slices());
+                let length = self.instantiation.len();
+                assert_eq!(self.recover(&mut wanted), Recover::Recovered { length });
+                assert_eq!(self.recover_by_engine(&mut given), (0, length));
+                assert!(given == wanted, "{}: Recover", self.name());
+            }
+
+            pub fn apply_rows(&self) -> Vec<Row<'_>> {
+                let (mut slices, mut others) = (self.slices(), self.slices());
                 let by_engine = move || {
-                    let (bytes, schema) = (black_box(bytes), black_box(schema));
-                    let out = black_box(&mut out);
-                    black_box(engine::typing(bytes, last, schema, out, &mut value));
-                    black_box(value);
+                    black_box(self.apply_by_engine(&mut slices));
                 };
-                let mut out = [0; OUTPUT_LENGTH];
                 let by_reference = move || {
-                    let (bytes, schema) = (black_box(bytes), black_box(schema));
-                    let out = black_box(&mut out);
-                    black_box(reference::typing(bytes, last, schema, out));
+                    black_box(self.apply(&mut others));
                 };
                 vec![
                     ("engine", Box::new(by_engine)),
                     ("reference", Box::new(by_reference)),
-                    copy(schema.len() + self.length),
+                    copy(self.work_length() + self.typed.schema.len() + self.typed.length),
+                ]
+            }
+
+            pub fn recover_rows(&self) -> Vec<Row<'_>> {
+                let (mut slices, mut others) = (self.slices(), self.slices());
+                let by_engine = move || {
+                    black_box(self.recover_by_engine(&mut slices));
+                };
+                let by_reference = move || {
+                    black_box(self.recover(&mut others));
+                };
+                vec![
+                    ("engine", Box::new(by_engine)),
+                    ("reference", Box::new(by_reference)),
+                    copy(self.work_length() + self.instantiation.len()),
                 ]
             }
         }
     }
 
     pub fn main() {
-        println!("Work space, schema and result slice are reused and not cleared between runs.");
+        println!("Work space and result slices are reused and not cleared between runs.");
         println!("Medians of {SAMPLES} samples; samples of the rows of a table alternate.");
         println!("words and reference read the file by the same function.");
         check_words();
@@ -653,5 +833,6 @@ mod measurement {
             );
         }
         print_typing();
+        print_apply_and_recover();
     }
 }

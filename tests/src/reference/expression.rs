@@ -21,6 +21,9 @@ pub const COUNT_BYTE_ZERO: u8 = 15;
 pub const LISTED_ATTRIBUTE_TOO_LOW: u8 = 16;
 pub const BYTES_LEFT_OVER: u8 = 17;
 pub const TOO_MANY_ORDINARY_ATTRIBUTES: u8 = 18;
+pub const ATTRIBUTE_IN_TWO_LISTS: u8 = 19;
+pub const STANDING_BIT_NO_TYPE_VARIABLE: u8 = 20;
+pub const SUBSET_NOT_ALLOWED: u8 = 21;
 
 /// The five legal bit maps of a node.
 pub const RELATION_MAP: u8 = 1;

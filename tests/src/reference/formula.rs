@@ -1,6 +1,8 @@
 //! Formulas and the operation Formula, written plainly from document 01.
 
-use super::{read_file, File, Node, WORK_SPACE_TOO_SHORT};
+use super::{
+    read_file, File, Node, NODE_NOT_BELOW_COUNT, RESULT_SLICE_TOO_SHORT, WORK_SPACE_TOO_SHORT,
+};
 
 /// Column 0 is for ordinary attributes, column i for attribute i.
 pub const COLUMNS: usize = 16;
@@ -66,12 +68,12 @@ fn follow(file: &File, column: usize, s: usize) -> Vec<Option<bool>> {
 }
 
 /// Lets bit s of the bytes stand.
-fn set_bit(bytes: &mut [u8], s: usize) {
+pub(super) fn set_bit(bytes: &mut [u8], s: usize) {
     bytes[s / 8] |= 1 << (s % 8);
 }
 
 /// Whether bit s of the bytes stands.
-fn bit(bytes: &[u8], s: usize) -> bool {
+pub(super) fn bit(bytes: &[u8], s: usize) -> bool {
     bytes[s / 8] >> (s % 8) & 1 == 1
 }
 
@@ -111,6 +113,13 @@ pub fn allowed_subsets(formula: &Formula, column: usize) -> Vec<usize> {
         .collect()
 }
 
+/// The type variables: the subsets above 0 allowed in column 0, rising.
+pub fn type_variables(formula: &Formula) -> Vec<usize> {
+    let mut subsets = allowed_subsets(formula, 0);
+    subsets.retain(|&s| s > 0);
+    subsets
+}
+
 /// An accepted file with the formulas of its nodes.
 pub struct Inferred {
     pub file: File,
@@ -119,9 +128,27 @@ pub struct Inferred {
 
 impl Inferred {
     /// Tests that the work space has at least 1,024 n bytes.
-    pub(super) fn check_work_space(&self, work: &[u8]) -> Result<(), u8> {
+    fn check_work_space(&self, work: &[u8]) -> Result<(), u8> {
         if work.len() < FORMULA_LENGTH * self.formulas.len() {
             return Err(WORK_SPACE_TOO_SHORT);
+        }
+        Ok(())
+    }
+
+    /// The first refusal, one of 11 to 13, if there is one. Each result slice is given
+    /// with the least length for its bytes.
+    pub(super) fn check(
+        &self,
+        node: usize,
+        work: &[u8],
+        results: &[(&[u8], usize)],
+    ) -> Result<(), u8> {
+        if node >= self.formulas.len() {
+            return Err(NODE_NOT_BELOW_COUNT);
+        }
+        self.check_work_space(work)?;
+        if results.iter().any(|(slice, least)| slice.len() < *least) {
+            return Err(RESULT_SLICE_TOO_SHORT);
         }
         Ok(())
     }

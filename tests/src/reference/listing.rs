@@ -1,7 +1,8 @@
 //! The text of the listing program, written plainly from document 01.
 
 use super::{
-    allowed_subsets, formulas, is_output, read_file, untypable_attribute, File, Formula, Node,
+    allowed_subsets, formulas, is_output, read_file, type_variables, untypable_attribute, File,
+    Formula, Node,
 };
 
 /// The attributes that a node names, as a set.
@@ -31,10 +32,7 @@ fn line(name: &str, items: impl Iterator<Item = String>) -> String {
 
 /// The lines of the relations and of the output: those type variables each.
 fn variable_lines(formula: &Formula, relations: u8) -> String {
-    let variables: Vec<usize> = allowed_subsets(formula, 0)
-        .into_iter()
-        .filter(|&s| s > 0)
-        .collect();
+    let variables = type_variables(formula);
     let of = |name: &str, is_listed: &dyn Fn(usize) -> bool| {
         let listed = variables.iter().filter(|&&s| is_listed(s));
         line(name, listed.map(|s| format!("{s:02x}")))

@@ -1,28 +1,35 @@
 //! The other implementation, written plainly from document 01.
 
+mod apply;
 mod expression;
 mod formula;
+mod instantiation;
 mod listing;
+mod recover;
 mod rules;
 mod schema;
 mod typing;
 mod verdict;
 
+pub use apply::{apply, Apply};
 pub use expression::{
-    encode_file, encode_node, read_file, read_node, record, File, Node, ATTRIBUTE_OUTSIDE_RANGE,
-    BYTES_AFTER_LAST_NODE, BYTES_END_BEFORE_OR_WITHIN_NODE, BYTES_END_EARLY, BYTES_LEFT_OVER,
-    CODE_NOT_OF_MAP, COUNT_BYTE_ZERO, FEWER_THAN_TWO_BYTES, LEGAL_MAPS, LISTED_ATTRIBUTE_TOO_LOW,
-    MAP_NOT_LEGAL, NODE_COUNT_OUTSIDE_RANGE, NODE_NOT_BELOW_COUNT, OPERAND_NOT_EARLIER, PAIR_MAP,
-    PROJECTING_OUT_MAP, RELATION_COUNT_OUTSIDE_RANGE, RELATION_MAP, RELATION_NOT_BELOW_COUNT,
-    RENAMING_MAP, RESULT_SLICE_TOO_SHORT, SET_MAP, TOO_MANY_ORDINARY_ATTRIBUTES,
-    WORK_SPACE_TOO_SHORT,
+    encode_file, encode_node, read_file, read_node, record, File, Node, ATTRIBUTE_IN_TWO_LISTS,
+    ATTRIBUTE_OUTSIDE_RANGE, BYTES_AFTER_LAST_NODE, BYTES_END_BEFORE_OR_WITHIN_NODE,
+    BYTES_END_EARLY, BYTES_LEFT_OVER, CODE_NOT_OF_MAP, COUNT_BYTE_ZERO, FEWER_THAN_TWO_BYTES,
+    LEGAL_MAPS, LISTED_ATTRIBUTE_TOO_LOW, MAP_NOT_LEGAL, NODE_COUNT_OUTSIDE_RANGE,
+    NODE_NOT_BELOW_COUNT, OPERAND_NOT_EARLIER, PAIR_MAP, PROJECTING_OUT_MAP,
+    RELATION_COUNT_OUTSIDE_RANGE, RELATION_MAP, RELATION_NOT_BELOW_COUNT, RENAMING_MAP,
+    RESULT_SLICE_TOO_SHORT, SET_MAP, STANDING_BIT_NO_TYPE_VARIABLE, SUBSET_NOT_ALLOWED,
+    TOO_MANY_ORDINARY_ATTRIBUTES, WORK_SPACE_TOO_SHORT,
 };
 pub use formula::{
-    allowed_subsets, formula, formulas, infer, is_allowed, is_output, Formula, Inferred, COLUMNS,
-    COLUMN_LENGTH, FORMULA_LENGTH, OUTPUT_START,
+    allowed_subsets, formula, formulas, infer, is_allowed, is_output, type_variables, Formula,
+    Inferred, COLUMNS, COLUMN_LENGTH, FORMULA_LENGTH, OUTPUT_START,
 };
+pub use instantiation::{encode_instantiation, read_instantiation, Instantiation, LISTS_START};
 pub use listing::listing;
-pub use rules::{assignment_of, type_of, Type};
+pub use recover::{recover, Recover, INSTANTIATION_LENGTH};
+pub use rules::{assignment_of, holders, type_of, Type};
 pub use schema::{encode_record, encode_schema, read_schema};
 pub use typing::{typing, Typing, OUTPUT_LENGTH};
 pub use verdict::{untypable_attribute, verdict, witness, Verdict, SCHEMA_LENGTH};

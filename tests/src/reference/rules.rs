@@ -22,6 +22,13 @@ pub fn assignment_of(relations: u8, subsets: impl IntoIterator<Item = (u32, usiz
     assignment
 }
 
+/// The relations that hold the attribute, as a subset.
+pub fn holders(assignment: &[Type], attribute: u32) -> usize {
+    let holds = |relation: &usize| assignment[*relation].contains(&attribute);
+    let relations = (0..assignment.len()).filter(holds);
+    relations.map(|relation| 1 << relation).sum()
+}
+
 /// The attributes of a set of a node.
 fn members(set: u16) -> Type {
     (1..=15)

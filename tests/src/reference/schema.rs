@@ -1,25 +1,27 @@
 //! Type records and schemas, written plainly from document 01.
 
-use std::collections::BTreeSet;
-
 use super::{
     Type, BYTES_END_EARLY, BYTES_LEFT_OVER, COUNT_BYTE_ZERO, LISTED_ATTRIBUTE_TOO_LOW,
     TOO_MANY_ORDINARY_ATTRIBUTES,
 };
 
 /// The lowest ordinary attribute.
-const LOWEST_ORDINARY: u32 = 16;
-/// The most different ordinary attributes of a schema.
-const MOST_ORDINARY: usize = 255;
+pub(super) const LOWEST_ORDINARY: u32 = 16;
+/// The most different ordinary attributes of a schema or an instantiation.
+pub(super) const MOST_ORDINARY: usize = 255;
 
 /// Bytes that are read from the front.
-struct Reader<'a> {
+pub(super) struct Reader<'a> {
     rest: &'a [u8],
 }
 
 impl<'a> Reader<'a> {
+    pub(super) fn new(bytes: &'a [u8]) -> Self {
+        Reader { rest: bytes }
+    }
+
     /// The next `count` bytes, or the refusal 14.
-    fn take(&mut self, count: usize) -> Result<&'a [u8], u8> {
+    pub(super) fn take(&mut self, count: usize) -> Result<&'a [u8], u8> {
         if self.rest.len() < count {
             return Err(BYTES_END_EARLY);
         }
@@ -45,17 +47,18 @@ impl<'a> Reader<'a> {
         let special = (1..LOWEST_ORDINARY).filter(|attribute| map >> attribute & 1 == 1);
         let mut attributes: Vec<u32> = special.collect();
         if map & 1 == 1 {
-            self.listed(&mut attributes)?;
+            attributes.extend(self.list()?);
         }
         Ok(attributes.into_iter().collect())
     }
 
     /// The count byte and so many ordinary attributes, each tested as it comes.
-    fn listed(&mut self, attributes: &mut Vec<u32>) -> Result<(), u8> {
+    pub(super) fn list(&mut self) -> Result<Vec<u32>, u8> {
         let count = self.byte()?;
         if count == 0 {
             return Err(COUNT_BYTE_ZERO);
         }
+        let mut attributes = Vec::new();
         let mut lowest = LOWEST_ORDINARY;
         for _ in 0..count {
             let attribute = u32::from(self.pair()?);
@@ -65,48 +68,60 @@ impl<'a> Reader<'a> {
             attributes.push(attribute);
             lowest = attribute + 1;
         }
+        Ok(attributes)
+    }
+
+    /// The refusal 17 unless all bytes are read.
+    pub(super) fn end(&self) -> Result<(), u8> {
+        if !self.rest.is_empty() {
+            return Err(BYTES_LEFT_OVER);
+        }
         Ok(())
     }
 }
 
-/// The number of different ordinary attributes.
-fn count_ordinary(schema: &[Type]) -> usize {
+/// The ordinary attributes of all relations.
+pub(super) fn ordinary_attributes(schema: &[Type]) -> Type {
     let ordinary = schema.iter().flat_map(|held| held.range(LOWEST_ORDINARY..));
-    ordinary.collect::<BTreeSet<_>>().len()
+    ordinary.copied().collect()
 }
 
 /// Reads a schema of m records: the set of each relation, or the first refusal: 14 to
 /// 16 as the bytes come, then 17, then 18.
 pub fn read_schema(relations: u8, bytes: &[u8]) -> Result<Vec<Type>, u8> {
-    let mut reader = Reader { rest: bytes };
+    let mut reader = Reader::new(bytes);
     let mut schema = Vec::new();
     for _ in 0..relations {
         schema.push(reader.record()?);
     }
-    if !reader.rest.is_empty() {
-        return Err(BYTES_LEFT_OVER);
-    }
-    if count_ordinary(&schema) > MOST_ORDINARY {
+    reader.end()?;
+    if ordinary_attributes(&schema).len() > MOST_ORDINARY {
         return Err(TOO_MANY_ORDINARY_ATTRIBUTES);
     }
     Ok(schema)
+}
+
+/// The bytes of a list: the count byte and the attributes, at most 255, each at most
+/// 65,535.
+pub(super) fn encode_list(list: &Type) -> Vec<u8> {
+    let mut bytes = vec![u8::try_from(list.len()).expect("at most 255")];
+    for &attribute in list {
+        let attribute = u16::try_from(attribute).expect("at most 65,535");
+        bytes.extend(attribute.to_le_bytes());
+    }
+    bytes
 }
 
 /// The bytes of a type record; the set has at most 255 ordinary attributes, each at
 /// most 65,535.
 pub fn encode_record(held: &Type) -> Vec<u8> {
     let special: u16 = held.range(..LOWEST_ORDINARY).map(|bit| 1 << bit).sum();
-    let ordinary: Vec<u16> = held
-        .range(LOWEST_ORDINARY..)
-        .map(|&attribute| u16::try_from(attribute).expect("at most 65,535"))
-        .collect();
+    let ordinary: Type = held.range(LOWEST_ORDINARY..).copied().collect();
     if ordinary.is_empty() {
         return special.to_le_bytes().to_vec();
     }
-    let count = u8::try_from(ordinary.len()).expect("at most 255");
     let mut bytes = (special | 1).to_le_bytes().to_vec();
-    bytes.push(count);
-    bytes.extend(ordinary.into_iter().flat_map(u16::to_le_bytes));
+    bytes.extend(encode_list(&ordinary));
     bytes
 }
 

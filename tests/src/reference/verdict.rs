@@ -1,9 +1,6 @@
 //! The operation Verdict, written plainly from document 01.
 
-use super::{
-    allowed_subsets, infer, Formula, Inferred, COLUMNS, NODE_NOT_BELOW_COUNT,
-    RESULT_SLICE_TOO_SHORT,
-};
+use super::{allowed_subsets, infer, Formula, Inferred, COLUMNS};
 
 /// The least length of a slice for a schema.
 pub const SCHEMA_LENGTH: usize = 4_104;
@@ -42,21 +39,9 @@ pub fn witness(formula: &Formula, relations: u8) -> Vec<u8> {
 }
 
 impl Inferred {
-    /// The first refusal, one of 11 to 13, if there is one.
-    fn check(&self, node: usize, work: &[u8], schema: &[u8]) -> Result<(), u8> {
-        if node >= self.formulas.len() {
-            return Err(NODE_NOT_BELOW_COUNT);
-        }
-        self.check_work_space(work)?;
-        if schema.len() < SCHEMA_LENGTH {
-            return Err(RESULT_SLICE_TOO_SHORT);
-        }
-        Ok(())
-    }
-
     /// Verdict of this file.
     pub fn verdict(&self, node: usize, work: &mut [u8], schema: &mut [u8]) -> Verdict {
-        if let Err(number) = self.check(node, work, schema) {
+        if let Err(number) = self.check(node, work, &[(schema, SCHEMA_LENGTH)]) {
             return Verdict::Refused { number };
         }
         self.fill(work);
