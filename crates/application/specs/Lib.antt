@@ -9,3 +9,7 @@ pub mod Image
 pub mod Tables
 pub mod ApplyLaws
 pub mod RecoverLaws
+pub mod RoundTrip
+pub mod ListZero
+pub mod Theorems
+pub mod Unrefused

@@ -88,7 +88,7 @@ module _ (m : ℕ) (few : m ≤ 8) (e : Expression) (subsets es : List ℕ) (non
       let less = ltb-true (getD subsets (i + 1) 0) (2 ^ m) (left (ltb (getD subsets (i + 1) 0) (2 ^ m)) (ok plain e (i + 1) (bit (getD subsets (i + 1) 0))) passes) in
       rw same at less
 
-  held-entries : Held m es
+  pub held-entries : Held m es
   unfolding entriesFit allowedBit
   held-entries =
       at-held m es

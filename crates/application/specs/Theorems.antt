@@ -1,0 +1,225 @@
+-- The second half of demand 2: "Apply and Recover undo each other byte by byte", for every accepted file and node; that Recover says untyped exactly when Typing does; that Apply's output record is Typing's for the schema that Apply writes; and that what Apply accepts is an instantiation of the stored formula in the sense of demand 3. A reader needs, besides this page:
+--   applyAnswer, applySchema, applyOut    what Apply leaves, by its contract     (Apply)
+--   recoverAnswer, recoverOut             what Recover leaves, by its contract   (Recover)
+--   typingAnswer, typingOut               what Typing leaves, by its contract    (crate typing, Typing)
+use Prim.Native.Nat.{ℕ, _+_, _*_, _≤_, _<_}
+use mathlib.Core.Path.{_≡_, refl, sym, ap, ap₂, _∙_}
+use mathlib.Core.Logic.{_↔_}
+use mathlib.Core.Bool.{Bool, true, false, _&&_, and-eq-true-iff}
+use mathlib.Core.List.{List, []}
+use native.Mathlib.Omega.{arith}
+use lib.ListN.{length, getD, take, length-append}
+use Rattle.bits.specs.Tab.{length-tab, over, take-over}
+use Rattle.bits.specs.Word.{Bytes}
+use Rattle.refusal.specs.Chain.{refuse}
+use Rattle.algebra.specs.Expression.{Expression, Legal}
+use Rattle.expression.specs.declared.files.Acceptance.the-variants.{Accepted}
+use Rattle.expression.specs.ReadFile.{acceptance}
+use Rattle.expression.specs.Accepted.{accepted-file}
+use Rattle.formula.specs.Expressions.{expressionAt, expression-legal}
+use Rattle.type_record.specs.Record.{TypeRecord, recordSize, recordBytes}
+use Rattle.schema.specs.Schema.{recordsRead, readRecords, schemaBytes, recordsOf, entriesOf, mapsOf, schemaReading}
+use Rattle.schema.specs.TableLaws.{ReadSchema, read-schema, read-entries}
+use Rattle.schema.specs.declared.reading.Schema.{Schema}
+use Rattle.instantiation.specs.Instantiation.{entriesIn, subsetsOf, listsOf, mapByte, instantiationBytes, instantiationReading}
+use Rattle.instantiation.specs.ReadLaws.{lists-read}
+use Rattle.instantiation.specs.TableLaws.{ReadInstantiation, instantiation-read, subsets-none} 
+use Rattle.instantiation.specs.TableLaws as Instantiations
+use Rattle.instantiation.specs.declared.reading.Instantiation.{Instantiation}
+use Rattle.typing.specs.Output.{typedIn, outputMap, outputList}
+use Rattle.typing.specs.Typing.{tableAnswer, tableOut, typingAnswer, typingOut}
+use Rattle.typing.specs.TypingLaws.{typing-records}
+use Rattle.typing.specs.declared.operation.Answer.the-variants.{Typed, Untyped as TypingUntyped}
+use Rattle.application.specs.Special.{mapsFrom, subsetsFrom}
+use Rattle.application.specs.SpecialLaws.{subsets-back}
+use Rattle.application.specs.Fits.{entriesFit, specialsFit, fits-typed}
+use Rattle.application.specs.Apply.{imageBytes, outputBytes, tableApplied, tableImage, tableOutput, readApplied, readImage, readOutput, applyAnswer, applySchema, applyOut}
+use Rattle.application.specs.ApplyLaws as Applying
+use Rattle.application.specs.Recover.{fits, recoveredBytes, tableRecovered, tableInstantiation, readRecovered, readInstantiation, recoverAnswer, recoverOut}
+use Rattle.application.specs.RecoverLaws as Recovering
+use Rattle.application.specs.Image.{IsTable, image-maps, image-entries}
+use Rattle.application.specs.Tables.{fits-same, held-entries}
+use Rattle.application.specs.ListZero.{list-zero}
+use Rattle.application.specs.RoundTrip.{applied-table, image-schema, recovered-same, recovered-table, written-instantiation, written-table, image-same}
+use Rattle.application.specs.declared.applying.Application.{Application}
+use Rattle.application.specs.declared.applying.Application.the-variants.{Applied}
+use Rattle.application.specs.declared.recovering.Recovery.{Recovery}
+use Rattle.application.specs.declared.recovering.Recovery.the-variants.{Recovered, Untyped}
+
+-- ---- Recover on a schema with these records
+
+-- nothing is refused: node k of an accepted file, a schema with these records, a work space and an instantiation slice that are long enough
+pub record Recovers (file : List ℕ) (k : ℕ) (schema : List ℕ) (space size m n : ℕ) (ts : List TypeRecord) : Type 0 where
+  pub accepted : acceptance file ≡ Accepted m n
+  pub node : k < n
+  pub workSpace : n * 1024 ≤ space
+  pub slice : 812 ≤ size
+  pub read : readRecords m schema ≡ recordsRead ts
+  pub few : length (entriesOf ts) ≤ 255
+
+recover-table : (file : List ℕ) (k : ℕ) (schema work out : List ℕ) (m n : ℕ) (ts : List TypeRecord) → Recovers file k schema (length work) (length out) m n ts → (recoverAnswer file k schema (length work) (length out) ≡ tableRecovered m (expressionAt file k) (mapsOf ts) (entriesOf ts)) × (recoverOut file k schema (length work) out ≡ tableInstantiation m (expressionAt file k) (mapsOf ts) (entriesOf ts) out)
+recover-table file k schema work out m n ts r =
+    let made = read-schema m schema ts (r .read) (r .few) in
+    let judged = ap (λ (s : Schema). s .judgement) (made .is) in
+    let special = ap (λ (s : Schema). s .special) (made .is) in
+    let entries = read-entries m schema (schemaReading m schema) ts made in
+    let table = Recovering.read-goes file m n (expressionAt file k) (schemaReading m schema) work out judged _ _ _ refl refl refl in
+    let goes = Recovering.recover-goes file k schema work out m n (record { accepted = r .accepted; node = r .node; workSpace = r .workSpace; slice = r .slice }) _ _ _ refl refl refl in (
+      sym (goes .0) ∙ sym (table .0) ∙ ap₂ (tableRecovered m (expressionAt file k)) special entries,
+      sym (goes .1 .1) ∙ sym (table .1 .1) ∙ ap₂ (λ (x y : List ℕ). tableInstantiation m (expressionAt file k) x y out) special entries,
+    )
+
+-- ---- Apply on an instantiation with these lists
+
+-- nothing is refused: node k of an accepted file, an instantiation with these lists whose table fits the node, and slices that are long enough
+pub record Applies (file : List ℕ) (k : ℕ) (bytes : List ℕ) (space size outSize m n : ℕ) (ls : List (List ℕ)) : Type 0 where
+  pub goes : Applying.Goes (acceptance file) k space size outSize m n
+  pub read : ReadInstantiation bytes (instantiationReading bytes) ls
+  pub entries : entriesFit m (expressionAt file k) (entriesIn ls) ≡ true
+  pub special : specialsFit m (expressionAt file k) (subsetsOf bytes) ≡ true
+
+apply-table : (file : List ℕ) (k : ℕ) (bytes work schema out : List ℕ) (m n : ℕ) (ls : List (List ℕ)) → Applies file k bytes (length work) (length schema) (length out) m n ls → (applyAnswer file k bytes (length work) (length schema) (length out) ≡ Applied (length (imageBytes m (subsetsOf bytes) (entriesIn ls))) (recordSize (length (outputList (expressionAt file k) (entriesIn ls))))) × ((applySchema file k bytes (length work) schema (length out) ≡ over (imageBytes m (subsetsOf bytes) (entriesIn ls)) schema) × (applyOut file k bytes (length work) (length schema) out ≡ over (outputBytes (expressionAt file k) (subsetsOf bytes) (entriesIn ls)) out))
+unfolding tableApplied tableImage tableOutput refuse
+apply-table file k bytes work schema out m n ls a =
+    let r = a .read in
+    let judged = ap (λ (i : Instantiation). i .judgement) (r .is) in
+    let subsets = ap (λ (i : Instantiation). i .subsets) (r .is) in
+    let entries = Instantiations.read-entries bytes (instantiationReading bytes) ls r in
+    let table = Applying.read-goes file m n (expressionAt file k) (instantiationReading bytes) work schema out judged _ _ _ _ refl refl refl refl in
+    let goes = Applying.apply-goes file k bytes work schema out m n (a .goes) _ _ _ _ refl refl refl refl in (
+      sym (goes .0) ∙ sym (table .0) ∙ ap₂ (tableApplied m (expressionAt file k)) subsets entries ∙ rw (a .entries, a .special),
+      (
+        sym (goes .1 .1 .0) ∙ sym (table .1 .1 .0) ∙ ap₂ (λ (x y : List ℕ). tableImage m (expressionAt file k) x y schema) subsets entries ∙ rw (a .entries, a .special),
+        sym (goes .1 .1 .1) ∙ sym (table .1 .1 .1) ∙ ap₂ (λ (x y : List ℕ). tableOutput m (expressionAt file k) x y out) subsets entries ∙ rw (a .entries, a .special),
+      ),
+    )
+
+-- ---- apply, then recover; and Typing on the schema that Apply writes
+
+module _ (file : List ℕ) (k : ℕ) (bytes work schema out : List ℕ) (m n : ℕ) (ls : List (List ℕ)) (below : Bytes bytes) (a : Applies file k bytes (length work) (length schema) (length out) m n ls) where
+  few : m ≤ 8
+  few = accepted-file file m n (a .goes .accepted) .counts .relations .1
+
+  legal : Legal m (expressionAt file k)
+  legal = expression-legal file m n (a .goes .accepted) k (a .goes .node)
+
+  -- the schema that Apply writes
+  abbrev image : List ℕ
+  image = take (length (imageBytes m (subsetsOf bytes) (entriesIn ls))) (applySchema file k bytes (length work) schema (length out))
+
+  image-is : image ≡ imageBytes m (subsetsOf bytes) (entriesIn ls)
+  image-is = ap (take (length (imageBytes m (subsetsOf bytes) (entriesIn ls)))) (apply-table file k bytes work schema out m n ls a .1 .0) ∙ take-over (imageBytes m (subsetsOf bytes) (entriesIn ls)) schema
+
+  table : IsTable m (mapsFrom (subsetsOf bytes)) (entriesIn ls)
+  table = applied-table m few (expressionAt file k) bytes below ls (a .read .long) (a .read .read) (a .read .once) (a .read .few) (a .entries) (a .special)
+
+  read-image : ReadSchema m (imageBytes m (subsetsOf bytes) (entriesIn ls)) (schemaReading m (imageBytes m (subsetsOf bytes) (entriesIn ls))) (recordsOf m (mapsFrom (subsetsOf bytes)) (entriesIn ls))
+  read-image = image-schema m few (expressionAt file k) bytes below ls (a .read .long) (a .read .read) (a .read .once) (a .read .few) (a .entries) (a .special)
+
+  maps-are : mapsOf (recordsOf m (mapsFrom (subsetsOf bytes)) (entriesIn ls)) ≡ mapsFrom (subsetsOf bytes)
+  maps-are = image-maps m few (mapsFrom (subsetsOf bytes)) (entriesIn ls) table
+
+  entries-are : entriesOf (recordsOf m (mapsFrom (subsetsOf bytes)) (entriesIn ls)) ≡ entriesIn ls
+  entries-are = image-entries m few (mapsFrom (subsetsOf bytes)) (entriesIn ls) table
+
+  fits-back : fits m (expressionAt file k) (mapsFrom (subsetsOf bytes)) (entriesIn ls) ≡ true
+  fits-back = ap₂ _&&_ (a .entries) (ap (specialsFit m (expressionAt file k)) (subsets-back (subsetsOf bytes) (Instantiations.subsets-size bytes) (Instantiations.subsets-small bytes below)) ∙ a .special)
+
+  -- recovering from the schema that was written gives the same instantiation, byte by byte
+  pub apply-recover : (work′ out′ : List ℕ) → n * 1024 ≤ length work′ → 812 ≤ length out′ → (recoverAnswer file k image (length work′) (length out′) ≡ Recovered (length bytes)) × (recoverOut file k image (length work′) out′ ≡ over bytes out′)
+  unfolding tableRecovered tableInstantiation
+  apply-recover work′ out′ space slice =
+      let results = recover-table file k (imageBytes m (subsetsOf bytes) (entriesIn ls)) work′ out′ m n (recordsOf m (mapsFrom (subsetsOf bytes)) (entriesIn ls)) (record { accepted = a .goes .accepted; node = a .goes .node; workSpace = space; slice = slice; read = read-image .read; few = read-image .few }) in
+      let same = recovered-same m few (expressionAt file k) bytes below ls (a .read .long) (a .read .read) (a .read .once) (a .read .few) (a .entries) (a .special) (list-zero m ls (lists-read bytes ls below (a .read .long) (a .read .read)) (a .read .once) (held-entries m few (expressionAt file k) (subsetsOf bytes) (entriesIn ls) (subsets-none bytes) (a .entries) (a .special))) in
+      rw image-is
+      (
+        results .0 ∙ rw (maps-are, entries-are, fits-back, same),
+        results .1 ∙ rw (maps-are, entries-are, fits-back, same),
+      )
+
+  -- Typing gives that schema the output record that Apply writes
+  pub apply-typing : (out′ : List ℕ) → 513 ≤ length out′ → (typingAnswer file k image (length out′) ≡ Typed (recordSize (length (outputList (expressionAt file k) (entriesIn ls))))) × (typingOut file k image out′ ≡ over (outputBytes (expressionAt file k) (subsetsOf bytes) (entriesIn ls)) out′)
+  unfolding tableAnswer tableOut
+  apply-typing out′ slice =
+      let results = typing-records file k (imageBytes m (subsetsOf bytes) (entriesIn ls)) out′ m n (recordsOf m (mapsFrom (subsetsOf bytes)) (entriesIn ls)) (record { accepted = a .goes .accepted; node = a .goes .node; slice = slice }) (read-image .read) (read-image .few) in
+      let typed = fits-typed m few (expressionAt file k) legal (subsetsOf bytes) (entriesIn ls) (subsets-none bytes) (a .entries) (a .special) in
+      rw image-is
+      (
+        results .0 ∙ rw (maps-are, entries-are, typed),
+        results .1 ∙ rw (maps-are, entries-are, typed),
+      )
+
+-- ---- recover, then apply; and Recover beside Typing
+
+module _ (file : List ℕ) (k : ℕ) (schema work out : List ℕ) (m n : ℕ) (ts : List TypeRecord) (below : Bytes schema) (r : Recovers file k schema (length work) (length out) m n ts) where
+  most : m ≤ 8
+  most = accepted-file file m n (r .accepted) .counts .relations .1
+
+  known : IsTable m (mapsOf ts) (entriesOf ts)
+  known = recovered-table m most schema below ts (r .read) (r .few)
+
+  -- a table fits exactly where it is typed
+  fits-typing : fits m (expressionAt file k) (mapsOf ts) (entriesOf ts) ≡ typedIn (expressionAt file k) (mapsOf ts) (entriesOf ts)
+  fits-typing = fits-same m most (expressionAt file k) (expression-legal file m n (r .accepted) k (r .node)) (mapsOf ts) (entriesOf ts) known
+
+  -- Recover says untyped exactly when Typing does
+  pub recover-untyped : (out′ : List ℕ) → 513 ≤ length out′ → (recoverAnswer file k schema (length work) (length out) ≡ Untyped) ↔ (typingAnswer file k schema (length out′) ≡ TypingUntyped)
+  unfolding tableRecovered tableAnswer
+  recover-untyped out′ slice =
+      let recovered = recover-table file k schema work out m n ts r .0 in
+      let typing = typing-records file k schema out′ m n ts (record { accepted = r .accepted; node = r .node; slice = slice }) (r .read) (r .few) .0 in
+      (
+        (λ said. typing ∙ go (typedIn (expressionAt file k) (mapsOf ts) (entriesOf ts)) refl (sym recovered ∙ said)),
+        (λ said. recovered ∙ back (typedIn (expressionAt file k) (mapsOf ts) (entriesOf ts)) refl (sym typing ∙ said)),
+      )
+    where
+      go : (t : Bool) → typedIn (expressionAt file k) (mapsOf ts) (entriesOf ts) ≡ t → tableRecovered m (expressionAt file k) (mapsOf ts) (entriesOf ts) ≡ Untyped → tableAnswer (expressionAt file k) (mapsOf ts) (entriesOf ts) ≡ TypingUntyped
+      go true e said = absurd (let fit = fits-typing ∙ e in let both = rw fit at said in let z : _≡_ {A = ℕ} 0 1 = cc in omega arith)
+      go false e said = rw e
+
+      back : (t : Bool) → typedIn (expressionAt file k) (mapsOf ts) (entriesOf ts) ≡ t → tableAnswer (expressionAt file k) (mapsOf ts) (entriesOf ts) ≡ TypingUntyped → tableRecovered m (expressionAt file k) (mapsOf ts) (entriesOf ts) ≡ Untyped
+      back true e said = absurd (let both = rw e at said in let z : _≡_ {A = ℕ} 0 1 = cc in omega arith)
+      back false e said = let fit = fits-typing ∙ e in rw fit
+
+  -- the instantiation that Recover writes, where the schema types the node
+  abbrev recoveredPart : List ℕ
+  recoveredPart = take (length (recoveredBytes (mapsOf ts) (entriesOf ts))) (recoverOut file k schema (length work) out)
+
+  module _ (typed : typedIn (expressionAt file k) (mapsOf ts) (entriesOf ts) ≡ true) where
+    pub recover-typed : recoverAnswer file k schema (length work) (length out) ≡ Recovered (length (recoveredBytes (mapsOf ts) (entriesOf ts)))
+    unfolding tableRecovered
+    recover-typed = let fit = fits-typing ∙ typed in recover-table file k schema work out m n ts r .0 ∙ rw fit
+
+    part-is : recoveredPart ≡ recoveredBytes (mapsOf ts) (entriesOf ts)
+    unfolding tableInstantiation
+    part-is =
+        let fit = fits-typing ∙ typed in
+        ap (take (length (recoveredBytes (mapsOf ts) (entriesOf ts)))) (recover-table file k schema work out m n ts r .1 ∙ rw fit) ∙ take-over (recoveredBytes (mapsOf ts) (entriesOf ts)) out
+
+    long : 47 ≤ length (recoveredBytes (mapsOf ts) (entriesOf ts))
+    unfolding instantiationBytes
+    long =
+        let head = length-tab 15 (λ i. getD (subsetsFrom (mapsOf ts)) (i + 1) 0) in
+        let map = length-tab 32 (mapByte (listsOf (entriesOf ts))) in
+        rw (length-append, length-append) (omega arith)
+
+    -- applying what was recovered gives the same schema, byte by byte
+    pub recover-apply : (work′ schema′ out′ : List ℕ) → n * 1024 ≤ length work′ → 4104 ≤ length schema′ → 513 ≤ length out′ → (applyAnswer file k recoveredPart (length work′) (length schema′) (length out′) ≡ Applied (length schema) (recordSize (length (outputList (expressionAt file k) (entriesOf ts))))) × (applySchema file k recoveredPart (length work′) schema′ (length out′) ≡ over schema schema′)
+    recover-apply work′ schema′ out′ space size slice =
+        let read = written-instantiation m most schema below ts (r .read) (r .few) long in
+        let same = written-table m most schema below ts (r .read) (r .few) in
+        let fit = fits-typing ∙ typed in
+        let both = and-eq-true-iff (entriesFit m (expressionAt file k) (entriesOf ts)) (specialsFit m (expressionAt file k) (subsetsFrom (mapsOf ts))) .0 fit in
+        let applied = apply-table file k (recoveredBytes (mapsOf ts) (entriesOf ts)) work′ schema′ out′ m n (listsOf (entriesOf ts))
+        (record {
+          goes = record { accepted = r .accepted; node = r .node; workSpace = space; schema = size; output = slice };
+          read = read;
+          entries = rw (same .1) (both .0);
+          special = rw (same .0) (both .1);
+        }) in
+        let image = image-same m most schema below ts (r .read) (r .few) in
+        rw part-is
+        (
+          applied .0 ∙ rw (same .0, same .1, image),
+          applied .1 .0 ∙ rw (same .0, same .1, image),
+        )
