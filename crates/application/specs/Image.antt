@@ -70,7 +70,7 @@ module _ (m : ℕ) (few : m ≤ 8) (maps es : List ℕ) (table : IsTable m maps 
   abbrev records : List TypeRecord
   records = recordsOf m maps es
 
-  image-size : length (recordsOf m maps es) ≡ m
+  pub image-size : length (recordsOf m maps es) ≡ m
   unfolding recordsOf
   image-size = length-tab m _
 

@@ -13,3 +13,5 @@ pub mod RoundTrip
 pub mod ListZero
 pub mod Theorems
 pub mod Unrefused
+pub mod Link
+pub mod Composed

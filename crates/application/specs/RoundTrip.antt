@@ -24,7 +24,7 @@ use Rattle.instantiation.specs.ReadLaws.{IsLists, lists-read, lists-written, wr
 use Rattle.instantiation.specs.EntriesLaws.{entries-rising, entries-below, entries-lists, lists-of, lists-once, lists-entries}
 use Rattle.instantiation.specs.TableLaws.{ReadInstantiation, read-instantiation, subsets-size, subsets-none, subsets-small}
 use Rattle.application.specs.Special.{mapsFrom, subsetsFrom}
-use Rattle.application.specs.SpecialLaws.{subsets-back, maps-back, subset-zero} 
+use Rattle.application.specs.SpecialLaws.{subsets-back, maps-back, subset-zero}
 use Rattle.application.specs.SpecialLaws as Special
 use Rattle.application.specs.Fits.{entriesFit, specialsFit}
 use Rattle.application.specs.Apply.{imageBytes}

@@ -19,11 +19,12 @@ use Rattle.expression.specs.Accepted.{accepted-file}
 use Rattle.formula.specs.Expressions.{expressionAt, expression-legal}
 use Rattle.type_record.specs.Record.{TypeRecord, recordSize, recordBytes}
 use Rattle.schema.specs.Schema.{recordsRead, readRecords, schemaBytes, recordsOf, entriesOf, mapsOf, schemaReading}
+use Rattle.schema.specs.RecordsLaws.{schema-most}
 use Rattle.schema.specs.TableLaws.{ReadSchema, read-schema, read-entries}
 use Rattle.schema.specs.declared.reading.Schema.{Schema}
 use Rattle.instantiation.specs.Instantiation.{entriesIn, subsetsOf, listsOf, mapByte, instantiationBytes, instantiationReading}
 use Rattle.instantiation.specs.ReadLaws.{lists-read}
-use Rattle.instantiation.specs.TableLaws.{ReadInstantiation, instantiation-read, subsets-none} 
+use Rattle.instantiation.specs.TableLaws.{ReadInstantiation, instantiation-read, subsets-none}
 use Rattle.instantiation.specs.TableLaws as Instantiations
 use Rattle.instantiation.specs.declared.reading.Instantiation.{Instantiation}
 use Rattle.typing.specs.Output.{typedIn, outputMap, outputList}
@@ -37,7 +38,7 @@ use Rattle.application.specs.Apply.{imageBytes, outputBytes, tableApplie
 use Rattle.application.specs.ApplyLaws as Applying
 use Rattle.application.specs.Recover.{fits, recoveredBytes, tableRecovered, tableInstantiation, readRecovered, readInstantiation, recoverAnswer, recoverOut}
 use Rattle.application.specs.RecoverLaws as Recovering
-use Rattle.application.specs.Image.{IsTable, image-maps, image-entries}
+use Rattle.application.specs.Image.{IsTable, image-size, image-records, image-maps, image-entries}
 use Rattle.application.specs.Tables.{fits-same, held-entries}
 use Rattle.application.specs.ListZero.{list-zero}
 use Rattle.application.specs.RoundTrip.{applied-table, image-schema, recovered-same, recovered-table, written-instantiation, written-table, image-same}
@@ -94,6 +95,24 @@ apply-table file k bytes work schema out m n ls a =
       ),
     )
 
+-- the length that Apply gives is the image's
+pub apply-size : (file : List ℕ) (k : ℕ) (bytes work schema out : List ℕ) (m n : ℕ) (ls : List (List ℕ)) → Applies file k bytes (length work) (length schema) (length out) m n ls → (size width : ℕ) → applyAnswer file k bytes (length work) (length schema) (length out) ≡ Applied size width → size ≡ length (imageBytes m (subsetsOf bytes) (entriesIn ls))
+apply-size file k bytes work schema out m n ls a size width said = sized (sym said ∙ apply-table file k bytes work schema out m n ls a .0)
+  where
+    sized : {x y z w : ℕ} → Applied x y ≡ Applied z w → x ≡ z
+    sized e = cc
+
+-- it lies within the schema slice: eight records of at most 513 bytes
+pub apply-fits : (file : List ℕ) (k : ℕ) (bytes work schema out : List ℕ) (m n : ℕ) (ls : List (List ℕ)) → Bytes bytes → Applies file k bytes (length work) (length schema) (length out) m n ls → (size width : ℕ) → applyAnswer file k bytes (length work) (length schema) (length out) ≡ Applied size width → size ≤ length schema
+apply-fits file k bytes work schema out m n ls below a size width said =
+    let few = accepted-file file m n (a .goes .accepted) .counts .relations .1 in
+    let table = applied-table m few (expressionAt file k) bytes below ls (a .read .long) (a .read .read) (a .read .once) (a .read .few) (a .entries) (a .special) in
+    let most = schema-most (recordsOf m (mapsFrom (subsetsOf bytes)) (entriesIn ls)) (image-records m few (mapsFrom (subsetsOf bytes)) (entriesIn ls) table) in
+    let count = image-size m few (mapsFrom (subsetsOf bytes)) (entriesIn ls) table in
+    let is = apply-size file k bytes work schema out m n ls a size width said in
+    let room = a .goes .schema in
+    omega arith
+
 -- ---- apply, then recover; and Typing on the schema that Apply writes
 
 module _ (file : List ℕ) (k : ℕ) (bytes work schema out : List ℕ) (m n : ℕ) (ls : List (List ℕ)) (below : Bytes bytes) (a : Applies file k bytes (length work) (length schema) (length out) m n ls) where
@@ -131,8 +150,7 @@ module _ (file : List ℕ) (k : ℕ) (bytes work schema out : List ℕ) (m n : �
   apply-recover work′ out′ space slice =
       let results = recover-table file k (imageBytes m (subsetsOf bytes) (entriesIn ls)) work′ out′ m n (recordsOf m (mapsFrom (subsetsOf bytes)) (entriesIn ls)) (record { accepted = a .goes .accepted; node = a .goes .node; workSpace = space; slice = slice; read = read-image .read; few = read-image .few }) in
       let same = recovered-same m few (expressionAt file k) bytes below ls (a .read .long) (a .read .read) (a .read .once) (a .read .few) (a .entries) (a .special) (list-zero m ls (lists-read bytes ls below (a .read .long) (a .read .read)) (a .read .once) (held-entries m few (expressionAt file k) (subsetsOf bytes) (entriesIn ls) (subsets-none bytes) (a .entries) (a .special))) in
-      rw image-is
-      (
+      rw image-is (
         results .0 ∙ rw (maps-are, entries-are, fits-back, same),
         results .1 ∙ rw (maps-are, entries-are, fits-back, same),
       )
@@ -143,8 +161,7 @@ module _ (file : List ℕ) (k : ℕ) (bytes work schema out : List ℕ) (m n : �
   apply-typing out′ slice =
       let results = typing-records file k (imageBytes m (subsetsOf bytes) (entriesIn ls)) out′ m n (recordsOf m (mapsFrom (subsetsOf bytes)) (entriesIn ls)) (record { accepted = a .goes .accepted; node = a .goes .node; slice = slice }) (read-image .read) (read-image .few) in
       let typed = fits-typed m few (expressionAt file k) legal (subsetsOf bytes) (entriesIn ls) (subsets-none bytes) (a .entries) (a .special) in
-      rw image-is
-      (
+      rw image-is (
         results .0 ∙ rw (maps-are, entries-are, typed),
         results .1 ∙ rw (maps-are, entries-are, typed),
       )
@@ -167,8 +184,7 @@ module _ (file : List ℕ) (k : ℕ) (schema work out : List ℕ) (m n : ℕ) (t
   unfolding tableRecovered tableAnswer
   recover-untyped out′ slice =
       let recovered = recover-table file k schema work out m n ts r .0 in
-      let typing = typing-records file k schema out′ m n ts (record { accepted = r .accepted; node = r .node; slice = slice }) (r .read) (r .few) .0 in
-      (
+      let typing = typing-records file k schema out′ m n ts (record { accepted = r .accepted; node = r .node; slice = slice }) (r .read) (r .few) .0 in (
         (λ said. typing ∙ go (typedIn (expressionAt file k) (mapsOf ts) (entriesOf ts)) refl (sym recovered ∙ said)),
         (λ said. recovered ∙ back (typedIn (expressionAt file k) (mapsOf ts) (entriesOf ts)) refl (sym typing ∙ said)),
       )
@@ -218,8 +234,7 @@ module _ (file : List ℕ) (k : ℕ) (schema work out : List ℕ) (m n : ℕ) (t
           special = rw (same .0) (both .1);
         }) in
         let image = image-same m most schema below ts (r .read) (r .few) in
-        rw part-is
-        (
+        rw part-is (
           applied .0 ∙ rw (same .0, same .1, image),
           applied .1 .0 ∙ rw (same .0, same .1, image),
         )

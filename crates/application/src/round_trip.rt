@@ -1,0 +1,35 @@
+// Apply, and then Recover on the bytes just written.
+ghost use mathlib.Core.Path.{_≡_};
+ghost use lib.ListN.{length};
+ghost use Rattle.application.specs.Apply.{applyAnswer, applySchema, applyOut};
+ghost use Rattle.application.specs.Composed.{unlessShort, roundTrip, roundTripSpace, roundTripOut};
+use crate::applying::Application;
+use crate::applying::apply;
+use crate::recovering::Recovery;
+use crate::recovering::recover;
+use refusal::Refusal;
+
+// Applies an instantiation and recovers it from the schema that was written: the same bytes, where nothing is refused.
+pub fn apply_and_recover(
+    file: &[u8],
+    node: usize,
+    instantiation: &[u8],
+    work: &mut [u8],
+    schema: &mut [u8],
+    out: &mut [u8],
+    recovered: &mut [u8],
+) -> Recovery
+    ensures { λ r. ⌜ r ≡ roundTrip (applyAnswer (now (file .entry)) node (now (instantiation .entry)) (length (now (work .entry))) (length (now (schema .entry))) (length (now (out .entry)))) (length (now (instantiation .entry))) (length (now (recovered .entry))) ⌝ }
+    ensures { λ _. ⌜ now (work .exit) ≡ roundTripSpace (now (file .entry)) node (now (instantiation .entry)) (now (work .entry)) (now (schema .entry)) (now (out .entry)) (length (now (recovered .entry))) ⌝ }
+    ensures { λ _. ⌜ now (schema .exit) ≡ unlessShort (length (now (recovered .entry))) (now (schema .entry)) (applySchema (now (file .entry)) node (now (instantiation .entry)) (length (now (work .entry))) (now (schema .entry)) (length (now (out .entry)))) ⌝ }
+    ensures { λ _. ⌜ now (out .exit) ≡ unlessShort (length (now (recovered .entry))) (now (out .entry)) (applyOut (now (file .entry)) node (now (instantiation .entry)) (length (now (work .entry))) (length (now (schema .entry))) (now (out .entry))) ⌝ }
+    ensures { λ _. ⌜ now (recovered .exit) ≡ roundTripOut (applyAnswer (now (file .entry)) node (now (instantiation .entry)) (length (now (work .entry))) (length (now (schema .entry))) (length (now (out .entry)))) (now (instantiation .entry)) (now (recovered .entry)) ⌝ }
+{
+    if recovered.len() < 812 {
+        return Recovery::Refused(Refusal::ResultSlice);
+    }
+    match apply(file, node, instantiation, work, schema, out) {
+        Application::Applied(size, _) => recover(file, node, &schema[..size], work, recovered),
+        Application::Refused(r) => Recovery::Refused(r),
+    }
+}
