@@ -56,7 +56,7 @@ holders-small (e ∷ es) a = go (eqb a (attributeOf e)) (holders-small es a)
     go true rest = mod-lt e (lit< tt)
     go false rest = rest
 
-holders-held : (m : ℕ) (es : List ℕ) → Held m es → (a : ℕ) → holdersIn es a < 2 ^ m
+pub holders-held : (m : ℕ) (es : List ℕ) → Held m es → (a : ℕ) → holdersIn es a < 2 ^ m
 holders-held m [] h a = pow-pos m
 holders-held m (e ∷ es) h a = go (eqb a (attributeOf e)) (holders-held m es (h .2) a)
   where
@@ -74,7 +74,7 @@ module _ (m : ℕ) (few : m ≤ 8) (maps es : List ℕ) (table : IsTable m maps 
   unfolding recordsOf
   image-size = length-tab m _
 
-  image-at : (r : ℕ) → r < m → getD (recordsOf m maps es) r noRecord ≡ record { map = getD maps r 0; ordinary = heldBy r es }
+  pub image-at : (r : ℕ) → r < m → getD (recordsOf m maps es) r noRecord ≡ record { map = getD maps r 0; ordinary = heldBy r es }
   unfolding recordsOf
   image-at r h = getD-tab m (λ r. record { map = getD maps r 0; ordinary = heldBy r es }) r noRecord h
 

@@ -15,3 +15,4 @@ pub mod Theorems
 pub mod Unrefused
 pub mod Link
 pub mod Composed
+pub mod LinkBytes

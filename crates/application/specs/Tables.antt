@@ -79,7 +79,7 @@ right : (a b : Bool) → a && b ≡ true → b ≡ true
 right a b h = and-eq-true-iff a b .0 h .1
 
 module _ (m : ℕ) (few : m ≤ 8) (e : Expression) (subsets es : List ℕ) (none : getD subsets 0 0 ≡ 0) (fit : entriesFit m e es ≡ true) (special : specialsFit m e subsets ≡ true) where
-  subsets-below : (i : ℕ) → i < 16 → getD subsets i 0 < 2 ^ m
+  pub subsets-below : (i : ℕ) → i < 16 → getD subsets i 0 < 2 ^ m
   unfolding specialsFit allowedBit
   subsets-below zero h = rw none (pow-pos m)
   subsets-below (suc i) h =
