@@ -24,7 +24,7 @@ use Rattle.formula.specs.Storage.{columnAt}
 use Rattle.formula.specs.StorageLaws.{lent-paste, paste-inside, paste-outside}
 use Rattle.formula.specs.ColumnLaws.{column-length}
 use Rattle.formula.specs.Expressions.{expressionAt, expression-is}
-use Rattle.formula.specs.NodeColumn.{nodeColumn, node-cells}
+use Rattle.formula.specs.NodeColumn.{ownColumn, nodeColumn, node-cells}
 use Rattle.formula.specs.Stored.{cellColumn, storedByte, formulasOf}
 
 -- node k stands at byte `at` of the file: what the walk over an accepted file's nodes gives
@@ -111,7 +111,7 @@ filled-more file m old work k c hc fits filled =
     front i h (no below) = paste-outside work (cellColumn m (expressionAt file k) c) (k * 1024 + c * 64) 64 fits (cell-length m (expressionAt file k) c) i (inl (omega arith)) ∙ filled .front i (omega arith)
 
 -- the next column of a node, from the columns that stand there already
-pub next-column : (file : List ℕ) (m : ℕ) (old work : List ℕ) (k c : ℕ) → c < 16 → LegalNode m k (nodeAt file k) → k * 1024 + c * 64 ≤ length work → FilledTo file m (k * 1024 + c * 64) old work → nodeColumn (2 ^ m) (nodeAt file k) c (λ l. columnAt work l c) ≡ cellColumn m (expressionAt file k) c
+pub next-column : (file : List ℕ) (m : ℕ) (old work : List ℕ) (k c : ℕ) → c < 16 → LegalNode m k (nodeAt file k) → k * 1024 + c * 64 ≤ length work → FilledTo file m (k * 1024 + c * 64) old work → nodeColumn (ownColumn (2 ^ m) (nodeAt file k)) (nodeAt file k) c (λ l. columnAt work l c) ≡ cellColumn m (expressionAt file k) c
 next-column file m old work k c hc legal fits filled =
     node-cells m k c (nodeAt file k) (λ l. columnAt work l c) (expressionAt file) hc legal
     (λ l below. filled-column file m (k * 1024 + c * 64) old work l c filled fits (omega arith) hc)

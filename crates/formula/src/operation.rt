@@ -6,7 +6,7 @@ ghost use Rattle.bits.specs.Tab.{over};
 ghost use Rattle.expression.specs.ReadFile.{acceptance, sizeAt};
 ghost use Rattle.expression.specs.declared.files.Acceptance.the-variants.{Accepted};
 ghost use Rattle.formula.specs.Storage.{columnAt};
-ghost use Rattle.formula.specs.NodeColumn.{OperandsFit, nodeColumn};
+ghost use Rattle.formula.specs.NodeColumn.{HasMap, OperandsFit, ownColumn, nodeColumn};
 ghost use Rattle.formula.specs.Stored.{formulasOf, formulaAnswer, formulaSpace};
 ghost use Rattle.formula.specs.Filling.{Here, FilledTo};
 use crate::columns::combined_column;
@@ -31,14 +31,29 @@ pub enum Formulas {
     Refused(Refusal),
 }
 
-// Column c of a node whose operands' formulas stand in the work space.
-fn node_column(work: &[u8], m: u8, node: Node, c: u8) -> [u8; 64]
-    requires { ⌜ (m ≤ 8) × (c < 16) ⌝ }
-    requires { ⌜ OperandsFit (length (now work)) node ⌝ }
-    ensures { λ r. ⌜ r ≡ nodeColumn (2 ^ m) node c (λ l. columnAt (now (work .entry)) l c) ⌝ }
+// What a node brings by itself: "A relation's membership map depends on its number alone".
+fn own_column(m: u8, node: Node) -> [u8; 64]
+    requires { ⌜ m ≤ 8 ⌝ }
+    requires { ⌜ HasMap node ⌝ }
+    ensures { λ r. ⌜ r ≡ ownColumn (2 ^ m) node ⌝ }
 {
     match node {
         Node::Relation(r) => relation_column(1 << m, r),
+        Node::Binary(_, _, _) => [0u8; 64],
+        Node::WithSet(_, _, _) => [0u8; 64],
+        Node::Renaming(_, _, _) => [0u8; 64],
+        Node::ProjectingOut(_, _) => [0u8; 64],
+    }
+}
+
+// Column c of a node whose operands' formulas stand in the work space.
+fn node_column(work: &[u8], own: [u8; 64], node: Node, c: u8) -> [u8; 64]
+    requires { ⌜ c < 16 ⌝ }
+    requires { ⌜ OperandsFit (length (now work)) node ⌝ }
+    ensures { λ r. ⌜ r ≡ nodeColumn own node c (λ l. columnAt (now (work .entry)) l c) ⌝ }
+{
+    match node {
+        Node::Relation(_) => own,
         Node::Binary(op, l, r) => combined_column(
             combination_of(op),
             read_column(work, l, c),
@@ -67,10 +82,11 @@ fn fill_node(file: &[u8], m: u8, k: u8, at: usize, work: &mut [u8]) -> usize
     let Reading::Read(node, size) = read_node(m, k, &file[at..]) else {
         return at;
     };
+    let own = own_column(m, node);
     let start = k as usize * 1024;
     let mut c = 0;
     while c < 16 {
-        let column = node_column(work, m, node, c);
+        let column = node_column(work, own, node, c);
         write_column(&mut work[start..], c, column);
         c += 1;
     }
