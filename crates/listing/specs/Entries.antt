@@ -7,7 +7,9 @@ use Rattle.bits.specs.Bit.{bit}
 use Rattle.formula.specs.Column.{allowedIn, outputIn}
 use Rattle.listing.specs.declared.entries.Kind.{Kind}
 use Rattle.listing.specs.declared.entries.Kind.the-variants.{Variables, Output, Signed}
-use Rattle.listing.specs.Text.{subsetText, each, whenSo}
+use Rattle.text.specs.Characters.{subsetText}
+use Rattle.text.specs.Each.{each}
+use Rattle.listing.specs.Text.{whenSo}
 
 -- a relation's number is below 8
 abbrev pub KindFits : Kind → Type 0

@@ -13,7 +13,9 @@ use Rattle.expression.specs.ReadFile.{acceptance, parse, header, readNodes, ent
 use Rattle.formula.specs.Expressions.{expressionAt, earlier}
 use Rattle.formula.specs.Stored.{allowedBit, outputBit}
 use Rattle.verdict.specs.Cells.{subsetOf, blockedOf}
-use Rattle.listing.specs.Text.{textOf, listing, nodeLine, relationLine, outLine, attributeLine, namedBelow, isBlocked, each, subsetText, hexDigit, decimal}
+use Rattle.text.specs.Each.{each}
+use Rattle.text.specs.Characters.{subsetText, hexDigit, decimal}
+use Rattle.listing.specs.Text.{textOf, listing, nodeLine, relationLine, outLine, attributeLine, namedBelow, isBlocked}
 
 -- σ{2,3}((ρ1/2(r0) ∪ r1) ⋈ r2)
 abbrev pub e1 : List ℕ

@@ -1,7 +1,5 @@
 pub mod Text
 pub mod Listing
-pub mod TextLaws
-pub mod Put
 pub mod Entries
 pub mod Lines
 pub mod LineLaws

@@ -17,8 +17,10 @@ use Rattle.formula.specs.NodeColumn.{cell-allowed, cell-output}
 use Rattle.verdict.specs.Verdict.{blockedIn}
 use Rattle.verdict.specs.Cells.{blocked-cells}
 use Rattle.listing.specs.declared.entries.Kind.the-variants.{Variables, Output, Signed}
-use Rattle.listing.specs.Text.{decimal, subsetText, each, whenSo, newline, isBlocked, verdictText, nodeLine, relationLine, outLine, attributeLine, namedBelow, listing}
-use Rattle.listing.specs.TextLaws.{each-same}
+use Rattle.text.specs.Characters.{decimal, subsetText, newline}
+use Rattle.text.specs.Each.{each}
+use Rattle.listing.specs.Text.{whenSo, isBlocked, verdictText, nodeLine, relationLine, outLine, attributeLine, namedBelow, listing}
+use Rattle.text.specs.Each.{each-same}
 use Rattle.listing.specs.Entries.{entryText, listText}
 use Rattle.listing.specs.Lines.{nodeText, label, lineText, relationText, outText, attributeText, attributesText, linesText}
 use Rattle.listing.specs.Naming.{Named, named-is}

@@ -9,7 +9,9 @@ use Rattle.formula.specs.Storage.{columnAt}
 use Rattle.verdict.specs.Verdict.{blockedIn}
 use Rattle.listing.specs.declared.entries.Kind.{Kind}
 use Rattle.listing.specs.declared.entries.Kind.the-variants.{Variables, Output, Signed}
-use Rattle.listing.specs.Text.{decimal, each, whenSo, newline, verdictText}
+use Rattle.text.specs.Characters.{decimal, newline}
+use Rattle.text.specs.Each.{each}
+use Rattle.listing.specs.Text.{whenSo, verdictText}
 use Rattle.listing.specs.Entries.{listText}
 
 unfoldable pub nodeText : Bool → ℕ → List ℕ

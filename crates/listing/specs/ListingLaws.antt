@@ -23,9 +23,10 @@ use Rattle.formula.specs.Stored.{afterFile, formulasOf, formulaAnswer, formulaS
 use Rattle.formula.specs.StoredLaws.{space-filled, stored-column}
 use Rattle.listing.specs.declared.operation.Listed.{Listed}
 use Rattle.listing.specs.declared.operation.Listed.the-variants.{Text, Refused}
-use Rattle.listing.specs.Text.{decimal, newline, listing, textAfter, textOf}
+use Rattle.text.specs.Characters.{decimal, newline}
+use Rattle.listing.specs.Text.{listing, textAfter, textOf}
 use Rattle.listing.specs.Listing.{listedAnswer, listedText, listedSpace}
-use Rattle.listing.specs.Put.{Wrote, wrote-as, wrote-front}
+use Rattle.text.specs.Put.{Wrote, wrote-as, wrote-front}
 use Rattle.listing.specs.Lines.{linesText}
 use Rattle.listing.specs.Naming.{Named}
 use Rattle.listing.specs.LineLaws.{lines-are}

@@ -4,6 +4,8 @@ use mathlib.Core.Bool.{Bool, true, false, cond, _&&_, _||_}
 use mathlib.Core.List.{List, [], _∷_, _++_}
 use lib.Dec.{eqb, ltb}
 use Rattle.bits.specs.Bit.{bit}
+use Rattle.text.specs.Characters.{decimal, subsetText, newline}
+use Rattle.text.specs.Each.{each}
 use Rattle.attribute_set.specs.AttrSet.{hasAttribute}
 use Rattle.refusal.specs.Number.{numberOf}
 use Rattle.algebra.specs.Expression.{Expression}
@@ -16,33 +18,12 @@ use Rattle.formula.specs.Expressions.{expressionAt}
 use Rattle.formula.specs.Stored.{allowedBit, outputBit}
 use Rattle.verdict.specs.Cells.{blockedOf}
 
--- ---- characters
-
--- "decimal without leading zeros", for numbers below 100
-unfoldable pub decimal : ℕ → List ℕ
-decimal n = cond (ltb n 10) ((48 + n) ∷ []) ((48 + n / 10) ∷ (48 + n % 10) ∷ [])
-
-unfoldable pub hexDigit : ℕ → ℕ
-hexDigit d = cond (ltb d 10) (48 + d) (87 + d)
-
--- "Subsets are two hexadecimal digits, rising, each after one space."
-unfoldable pub subsetText : ℕ → List ℕ
-subsetText s = 32 ∷ hexDigit (s / 16) ∷ hexDigit (s % 16) ∷ []
-
--- f 0, f 1, .., n texts one after the other
-unfoldable pub each : ℕ → (ℕ → List ℕ) → List ℕ
-each zero f = []
-each (suc n) f = each n f ++ f n
-
 -- what is printed where a test holds
 abbrev pub whenSo : Bool → List ℕ → List ℕ
 whenSo true text = text
 whenSo false text = []
 
--- ---- lines; every line has a line end
-
-abbrev pub newline : List ℕ
-newline = 10 ∷ []
+-- ---- lines
 
 -- "untypable": some special column allows nothing
 unfoldable pub isBlocked : ℕ → Expression → Bool

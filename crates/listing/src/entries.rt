@@ -3,13 +3,13 @@ ghost use mathlib.Core.Path.{_≡_};
 ghost use mathlib.Core.List.{_++_};
 ghost use Prim.Native.Nat.{_+_, _≤_, _<_};
 ghost use lib.ListN.{length};
-ghost use Rattle.listing.specs.Put.{Wrote};
-ghost use Rattle.listing.specs.Text.{newline};
+ghost use Rattle.text.specs.Put.{Wrote};
+ghost use Rattle.text.specs.Characters.{newline};
 ghost use Rattle.listing.specs.Entries.{KindFits, listed, signText, entryText, listText};
-use crate::characters::write_byte;
-use crate::characters::write_subset;
 use crate::columns::allowed_in;
 use crate::columns::output_in;
+use text::write_byte;
+use text::write_subset;
 
 // Which subsets a list has.
 pub enum Kind {

@@ -1,5 +1,4 @@
 // The text of the last node of a file: verdict, relations, output and named attributes.
-mod characters;
 mod columns;
 mod entries;
 mod lines;

@@ -1,18 +1,19 @@
 // The lines of a node.
 ghost use Prim.Native.Nat.{_+_, _*_, _≤_, _<_};
 ghost use lib.ListN.{length};
-ghost use Rattle.listing.specs.Put.{Wrote};
-ghost use Rattle.listing.specs.Text.{each, verdictText};
+ghost use Rattle.text.specs.Put.{Wrote};
+ghost use Rattle.text.specs.Each.{each};
+ghost use Rattle.listing.specs.Text.{verdictText};
 ghost use Rattle.listing.specs.Entries.{KindFits};
 ghost use Rattle.listing.specs.Lines.{nodeText, label, lineText, relationText, outText, attributeText, attributesText, linesText};
-use crate::characters::write_byte;
-use crate::characters::write_bytes;
-use crate::characters::write_decimal;
 use crate::columns::is_blocked;
 use crate::entries::Kind;
 use crate::entries::write_list;
 use attribute_set::AttrSet;
 use formula::read_column;
+use text::write_byte;
+use text::write_bytes;
+use text::write_decimal;
 
 fn write_verdict(text: &mut [u8], at: usize, blocked: bool) -> usize
     requires { ⌜ at + 10 ≤ length (now text) ⌝ }

@@ -4,17 +4,17 @@ ghost use mathlib.Core.List.{[], _∷_, _++_};
 ghost use Prim.Native.Nat.{_≤_};
 ghost use lib.ListN.{length};
 ghost use Rattle.refusal.specs.Number.{numberOf};
-ghost use Rattle.listing.specs.Text.{decimal, newline};
-ghost use Rattle.listing.specs.Put.{Wrote};
+ghost use Rattle.text.specs.Characters.{decimal, newline};
+ghost use Rattle.text.specs.Put.{Wrote};
 ghost use Rattle.listing.specs.Listing.{listedAnswer, listedText, listedSpace};
-use crate::characters::write_byte;
-use crate::characters::write_bytes;
-use crate::characters::write_decimal;
 use crate::lines::write_lines;
 use crate::naming::named_attributes;
 use formula::Formulas;
 use formula::formula;
 use refusal::Refusal;
+use text::write_byte;
+use text::write_bytes;
+use text::write_decimal;
 
 // The length of the text, or the refusal of a slice that is too short.
 pub enum Listed {

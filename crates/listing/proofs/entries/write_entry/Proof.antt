@@ -1,6 +1,6 @@
 use native.Mathlib.Omega.{arith}
 use borrow.Author.Tests.{not-true, not-false}
-use Rattle.listing.specs.Put.{wrote-none, wrote-more}
+use Rattle.text.specs.Put.{wrote-none, wrote-more}
 use Rattle.listing.specs.Entries.{entryText}
 use borrow.Author.Needs.{needs}
 use Rattle.listing.proofs.entries.write_entry.Statement.{statement}

@@ -1,9 +1,9 @@
 use Prim.Native.Nat.{_+_, _-_, _*_, _≤_}
 use mathlib.Core.Path.{_≡_}
 use native.Mathlib.Omega.{arith}
-use Rattle.listing.specs.Text.{each}
-use Rattle.listing.specs.TextLaws.{each-none, each-next}
-use Rattle.listing.specs.Put.{Wrote, wrote-none, wrote-as, wrote-more}
+use Rattle.text.specs.Each.{each}
+use Rattle.text.specs.Each.{each-none, each-next}
+use Rattle.text.specs.Put.{Wrote, wrote-none, wrote-as, wrote-more}
 use Rattle.listing.specs.Entries.{entryText}
 use borrow.Author.Needs.{needs}
 use Rattle.listing.proofs.entries.write_list.Statement.{statement}

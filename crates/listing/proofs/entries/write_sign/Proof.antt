@@ -1,5 +1,5 @@
 use native.Mathlib.Omega.{arith}
-use Rattle.listing.specs.Put.{wrote-none}
+use Rattle.text.specs.Put.{wrote-none}
 use borrow.Author.Needs.{needs}
 use Rattle.listing.proofs.entries.write_sign.Statement.{statement}
 use Rattle.listing.proofs.entries.write_sign.Tie as tie

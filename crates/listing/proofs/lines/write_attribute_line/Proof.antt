@@ -1,6 +1,6 @@
 use native.Mathlib.Omega.{arith}
 use borrow.Author.Tests.{not-true, not-false}
-use Rattle.listing.specs.Put.{wrote-none}
+use Rattle.text.specs.Put.{wrote-none}
 use Rattle.listing.specs.Lines.{attributeText}
 use borrow.Author.Needs.{needs}
 use Rattle.listing.proofs.lines.write_attribute_line.Statement.{statement}

@@ -1,6 +1,6 @@
 use native.Mathlib.Omega.{arith}
-use Rattle.listing.specs.Text.{newline}
-use Rattle.listing.specs.Put.{wrote-more, wrote-two}
+use Rattle.text.specs.Characters.{newline}
+use Rattle.text.specs.Put.{wrote-more, wrote-two}
 use Rattle.listing.specs.Entries.{listText}
 use Rattle.listing.specs.Lines.{lineText}
 use Rattle.listing.proofs.lines.write_list_line.Statement.{statement}

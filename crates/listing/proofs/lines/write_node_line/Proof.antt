@@ -1,5 +1,5 @@
 use native.Mathlib.Omega.{arith}
-use Rattle.listing.specs.Put.{wrote-more}
+use Rattle.text.specs.Put.{wrote-more}
 use Rattle.listing.specs.Lines.{nodeText}
 use borrow.Author.Needs.{needs}
 use Rattle.listing.proofs.lines.write_node_line.Statement.{statement}

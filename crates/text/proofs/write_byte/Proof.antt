@@ -1,8 +1,8 @@
 use native.Mathlib.Omega.{arith}
-use Rattle.listing.specs.Put.{wrote-byte}
+use Rattle.text.specs.Put.{wrote-byte}
 use borrow.Author.Needs.{needs}
-use Rattle.listing.proofs.characters.write_byte.Statement.{statement}
-use Rattle.listing.proofs.characters.write_byte.Tie as tie
+use Rattle.text.proofs.write_byte.Statement.{statement}
+use Rattle.text.proofs.write_byte.Tie as tie
 
 slice-write-text : tie.Need-slice-write-text
 slice-write-text c = search needs

@@ -1,9 +1,9 @@
 use native.Mathlib.Omega.{arith}
-use Rattle.listing.specs.Put.{wrote-as, wrote-more}
-use Rattle.listing.specs.TextLaws.{decimal-low, decimal-high}
+use Rattle.text.specs.Put.{wrote-as, wrote-more}
+use Rattle.text.specs.CharacterLaws.{decimal-low, decimal-high}
 use borrow.Author.Needs.{needs}
-use Rattle.listing.proofs.characters.write_decimal.Statement.{statement}
-use Rattle.listing.proofs.characters.write_decimal.Tie as tie
+use Rattle.text.proofs.write_decimal.Statement.{statement}
+use Rattle.text.proofs.write_decimal.Tie as tie
 
 add-write-byte : tie.Need-add-write-byte
 add-write-byte c = search needs

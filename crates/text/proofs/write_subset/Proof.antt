@@ -1,9 +1,9 @@
 use native.Mathlib.Omega.{arith}
-use Rattle.listing.specs.Text.{subsetText}
-use Rattle.listing.specs.Put.{wrote-more}
+use Rattle.text.specs.Characters.{subsetText}
+use Rattle.text.specs.Put.{wrote-more}
 use borrow.Author.Needs.{needs}
-use Rattle.listing.proofs.characters.write_subset.Statement.{statement}
-use Rattle.listing.proofs.characters.write_subset.Tie as tie
+use Rattle.text.proofs.write_subset.Statement.{statement}
+use Rattle.text.proofs.write_subset.Tie as tie
 
 hex-digit-requires : tie.Need-hex-digit-requires
 hex-digit-requires c κs = search needs

@@ -4,10 +4,10 @@ use mathlib.Core.Path.{_≡_, sym}
 use native.Mathlib.Omega.{arith}
 use lib.ListN.{length, take}
 use lib.Seq.{take-length}
-use Rattle.listing.specs.Put.{Wrote, wrote-none, wrote-next}
+use Rattle.text.specs.Put.{Wrote, wrote-none, wrote-next}
 use borrow.Author.Needs.{needs}
-use Rattle.listing.proofs.characters.write_bytes.Statement.{statement}
-use Rattle.listing.proofs.characters.write_bytes.Tie as tie
+use Rattle.text.proofs.write_bytes.Statement.{statement}
+use Rattle.text.proofs.write_bytes.Tie as tie
 
 abbrev Inv-loop : tie.InvT-loop
 Inv-loop text₀ at bytes i₀ text i = (i ≤ length bytes) × Wrote at (take i bytes) text₀ text (at + i)

@@ -3,8 +3,8 @@ ghost use mathlib.Core.Path.{_≡_};
 ghost use mathlib.Core.List.{[], _∷_};
 ghost use Prim.Native.Nat.{_+_, _≤_, _<_};
 ghost use lib.ListN.{length};
-ghost use Rattle.listing.specs.Put.{Wrote};
-ghost use Rattle.listing.specs.Text.{decimal, hexDigit, subsetText};
+ghost use Rattle.text.specs.Put.{Wrote};
+ghost use Rattle.text.specs.Characters.{decimal, hexDigit, subsetText};
 
 pub fn write_byte(text: &mut [u8], at: usize, b: u8) -> usize
     requires { ⌜ at + 1 ≤ length (now text) ⌝ }

@@ -1,7 +1,7 @@
-use Rattle.listing.specs.TextLaws.{hex-low, hex-high}
+use Rattle.text.specs.CharacterLaws.{hex-low, hex-high}
 use borrow.Author.Needs.{needs}
-use Rattle.listing.proofs.characters.hex_digit.Statement.{statement}
-use Rattle.listing.proofs.characters.hex_digit.Tie as tie
+use Rattle.text.proofs.hex_digit.Statement.{statement}
+use Rattle.text.proofs.hex_digit.Tie as tie
 
 add-result : tie.Need-add-result
 add-result c = search needs

@@ -1,0 +1,4 @@
+pub mod Characters
+pub mod CharacterLaws
+pub mod Each
+pub mod Put
