@@ -1,17 +1,8 @@
--- What a Boolean test says.
+-- What the tests of rules and cells say.
 use mathlib.Core.Path.{_≡_, refl, sym, _∙_}
 use mathlib.Core.Logic.{_↔_}
 use mathlib.Core.Bool.{Bool, true, false, cond, not, _&&_, _||_, false≢true, Bool·not-not, and-true, and-false, or-true, or-false}
 use Rattle.algebra.specs.Cell.{sameBool}
-
-pub is-false : (b : Bool) → (b ≡ true → ⊥) → b ≡ false
-is-false true h = absurd (h refl)
-is-false false h = refl
-
--- two tests that pass together are one
-pub same-test : (p q : Bool) → (p ≡ true) ↔ (q ≡ true) → p ≡ q
-same-test true q h = sym (h .0 refl)
-same-test false q h = sym (is-false q (λ e. false≢true (h .1 e)))
 
 -- a join's values never break it
 pub join-free : (l r : Bool) → not (l && r && not (sameBool l r)) ≡ true

@@ -5,10 +5,10 @@ use mathlib.Core.Bool.{Bool, true, false, cond, true≢false}
 use native.Mathlib.Omega.{arith}
 use borrow.Author.Tests.{eqb-true}
 use lib.Dec.{eqb}
+use Rattle.bits.specs.Booleans.{is-false}
 use Rattle.attribute_set.specs.AttrSet.{special}
 use Rattle.attribute_set.specs.Laws.{special-range, special-above}
 use Rattle.types.specs.Types.{Attrs, _⊆_, column}
-use Rattle.algebra.specs.Booleans.{is-false}
 
 -- no set of special attributes tells c from d
 abbrev pub Alike : ℕ → ℕ → Type 0

@@ -12,9 +12,10 @@ use Rattle.attribute_set.specs.Laws.{special-above}
 use Rattle.types.specs.Types.{Attrs, Assignment, _⊆_, without, with}
 use Rattle.algebra.specs.Expression.{Operator, union, difference, join, product, SetOperator, selection, projection, Expression, relation, binary, withSet, renaming, projectingOut, Legal}
 use Rattle.algebra.specs.Cell.{plain, breaks, yields, breaksSet, yieldsSet, breaksRenaming, yieldsRenaming, breaksOut, yieldsOut}
+use Rattle.bits.specs.Booleans.{same-test}
 use Rattle.bits.specs.AllBelow.{allBelow}
 use Rattle.algebra.specs.Infer.{provided, andThen, inferBinary, inferSet, infer}
-use Rattle.algebra.specs.Booleans.{same-test, join-free, either, kept, dropped, renamed, has-lacks}
+use Rattle.algebra.specs.Booleans.{join-free, either, kept, dropped, renamed, has-lacks}
 use Rattle.algebra.specs.Columns.{single, single-within, absent}
 use Rattle.algebra.specs.TypedCells.{subset, has-one, renames, okAt, outAt}
 

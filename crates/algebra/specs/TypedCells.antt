@@ -5,11 +5,12 @@ use mathlib.Core.Logic.{_↔_}
 use mathlib.Core.Bool.{Bool, true, false, not, _&&_, _||_, and-eq-true-iff, true≢false}
 use borrow.Author.Tests.{eq-eqb, eqb-true}
 use lib.Dec.{eqb}
+use Rattle.bits.specs.Booleans.{is-false}
 use Rattle.types.specs.Types.{Attrs, Assignment, _⊆_, Disjoint}
 use Rattle.algebra.specs.Expression.{Operator, union, difference, join, product, SetOperator, selection, projection, Expression, relation, binary, withSet, renaming, projectingOut}
 use Rattle.algebra.specs.Rules.{Typed, relations, unions, differences, joins, products, selections, projections, renamings, projectionsOut}
 use Rattle.algebra.specs.Cell.{plain, sameBool, out, ok, breaks, yields, breaksSet, yieldsSet, breaksRenaming}
-use Rattle.algebra.specs.Booleans.{is-false, join-free, either, kept, dropped, renamed, agrees, implies, excludes, neither}
+use Rattle.algebra.specs.Booleans.{join-free, either, kept, dropped, renamed, agrees, implies, excludes, neither}
 use Rattle.algebra.specs.Columns.{single, single-within}
 
 -- ---- conditions on sets, by attribute

@@ -17,7 +17,7 @@ use Rattle.bits.specs.Tab.{tab, length-tab, getD-tab}
 use Rattle.algebra.specs.Expression.{Expression, Legal}
 use Rattle.algebra.specs.Cell.{plain, out, ok}
 use Rattle.algebra.specs.CellLaws.{cell-depends}
-use Rattle.algebra.specs.Booleans.{same-test}
+use Rattle.bits.specs.Booleans.{same-test}
 use Rattle.formula.specs.Stored.{allowedBit}
 use Rattle.type_record.specs.Record.{TypeRecord}
 use Rattle.membership.specs.Entries.{subsetOf}

@@ -1,11 +1,11 @@
 -- The bits of a number.
-use Prim.Native.Nat.{ℕ, zero, suc, _/_, _%_, _^_, _-_, _<_}
+use Prim.Native.Nat.{ℕ, zero, suc, _*_, _/_, _%_, _^_, _-_, _<_}
 use mathlib.Core.Path.{_≡_, refl, sym, ap, _∙_}
 use mathlib.Core.Bool.{Bool, true, false, not, _||_, _&&_, and-true}
-use native.Mathlib.Nat.{div-one, div-div-eq-div-mul, div-eq-of-lt, mul-comm, pow-suc, mod-lt, mod-eq-of-lt, le-of-suc-le-suc, mul-div-cancel, mul-mod-left, zero-div}
+use native.Mathlib.Nat.{div-one, div-div-eq-div-mul, div-eq-of-lt, mul-comm, one-mul, pow-suc, mod-lt, mod-eq-of-lt, le-of-suc-le-suc, mul-div-cancel, mul-mod-left, zero-div}
 use native.Mathlib.Omega.{arith}
 use borrow.Author.Tests.{eq-eqb}
-use lib.Pow.{pow-pos}
+use lib.Pow.{pow-pos, pow-lt}
 use lib.Dec.{eqb, eqb·zero-suc, eqb·suc-zero, eqb·suc-suc, lit<}
 use lib.Bits.{xor-add-and, and-mask, bitOr, or-shr, or-mod, bitAnd, and-shr, and-mod, bitXor, xor-shr, xor-mod}
 
@@ -55,6 +55,10 @@ bit-power (suc a) (suc b) =
     ∙ ap (λ (x : ℕ). bit x b) (ap (λ (p : ℕ). p / 2) (pow-suc 2 a) ∙ mul-div-cancel (2 ^ a) (lit< tt))
     ∙ bit-power a b
     ∙ sym (eqb·suc-suc a b)
+
+-- 1 << j in a number of w bits is not cut
+pub shifted-one : (w j : ℕ) → j < w → 1 * 2 ^ j % 2 ^ w ≡ 2 ^ j
+shifted-one w j h = ap (λ (p : ℕ). p % 2 ^ w) (one-mul (2 ^ j)) ∙ mod-eq-of-lt (pow-lt {j = w} h)
 
 -- a digit is 0 or 1
 digit : (P : ℕ → Type 0) → P 0 → P 1 → (x : ℕ) → x < 2 → P x

@@ -8,4 +8,5 @@ pub mod Written
 pub mod Word
 pub mod Rising
 pub mod PackFrom
+pub mod Booleans
 pub mod AllBelow

@@ -2,12 +2,13 @@
 use Prim.Native.Nat.{ℕ, suc, _+_, _-_, _*_, _%_, _^_, _≤_, _<_}
 use mathlib.Core.Path.{_≡_, refl, sym, ap, ap₂, _∙_}
 use mathlib.Core.List.{List, [], _∷_, _++_}
-use native.Mathlib.Nat.{sub-zero, mod-eq-of-lt}
+use native.Mathlib.Nat.{sub-zero}
 use native.Mathlib.Decide.{decLt}
 use native.Mathlib.Omega.{arith}
 use borrow.Author.Tests.{lt-ltb, le-ltb}
 use lib.ListN.{length, set, take, drop, length-append, length-drop, drop-of-length-le}
 use lib.Seq.{drop-drop, drop-cons, getD-drop}
+use Rattle.bits.specs.Bit.{shifted-one}
 use Rattle.bits.specs.Part.{part-from}
 use Rattle.bits.specs.Tab.{tab}
 use Rattle.bits.specs.Word.{word, Bytes}
@@ -24,7 +25,7 @@ use Rattle.membership.specs.TableLaws.{is-table, enter-table, table-count, tabl
 use Rattle.schema.specs.declared.reading.Judgement.the-variants.{Read}
 use Rattle.schema.specs.Schema.{recordsRead, follow, atEnd, readRecords, entriesOf, mapsOf, tabled, refusedSchema, schemaReading}
 use Rattle.schema.specs.RecordsLaws.{AllRecords}
-use Rattle.schema.specs.EntriesLaws.{single-below, entries-below}
+use Rattle.schema.specs.EntriesLaws.{entries-below}
 use Rattle.schema.proofs.More.{precedeAll, precede-more, precede-refused, precede-none, all-more, entries-more, maps-more}
 
 pub record Resumed (m : ℕ) (bytes special : List ℕ) (entries : Entries) (at r : ℕ) : Type 0 where
@@ -51,10 +52,6 @@ resumed-start m bytes entries e =
       table = e;
       rest = ap (λ (n : ℕ). readRecords n bytes) (sym (sub-zero m));
     }
-
--- 1 << r
-single : (r : ℕ) → r < 8 → 1 * 2 ^ r % 256 ≡ 2 ^ r
-single r h = let below = single-below r h in omega (arith, mod-eq-of-lt {m = 256} below)
 
 module _ {m : ℕ} {bytes special : List ℕ} {entries : Entries} {at r : ℕ} (h : Resumed m bytes special entries at r) (below : Bytes bytes) (few : m ≤ 8) where
   -- the record at `at` as the code reads it
@@ -111,7 +108,7 @@ module _ {m : ℕ} {bytes special : List ℕ} {entries : Entries} {at r : ℕ} (
 
     entered-is : r < m → entered ≡ tableOf (entriesOf (h .done ++ (recordAt (drop at bytes) map n ∷ [])))
     entered-is more =
-        rw (single r (omega arith), listed-is, h .table, entries-more (recordAt (drop at bytes) map n) (h .done), h .count)
+        rw (shifted-one 8 r (omega arith), listed-is, h .table, entries-more (recordAt (drop at bytes) map n) (h .done), h .count)
         (enter-table (2 ^ r) (recordAt (drop at bytes) map n .ordinary) (entriesOf (h .done)))
 
     maps-is : r < m → set special r map ≡ mapsOf (h .done ++ (recordAt (drop at bytes) map n ∷ []))

@@ -18,7 +18,7 @@ use Rattle.bits.specs.Tab.{tab, length-tab, getD-tab, tab-is}
 use Rattle.algebra.specs.Expression.{Expression, Legal}
 use Rattle.algebra.specs.Cell.{plain, out, ok}
 use Rattle.algebra.specs.CellLaws.{cell-none}
-use Rattle.algebra.specs.Booleans.{same-test}
+use Rattle.bits.specs.Booleans.{same-test}
 use Rattle.formula.specs.declared.steps.Bytes.{Bytes}
 use Rattle.membership.specs.Entries.{entry, attributeOf}
 use Rattle.membership.specs.EnterLaws.{entry-attribute}

@@ -1,17 +1,12 @@
-use Prim.Native.Nat.{ℕ, _*_, _^_, _%_, _≤_}
-use mathlib.Core.Path.{_≡_, sym, ap, subst, _∙_}
-use native.Mathlib.Nat.{one-mul, mod-eq-of-lt}
+use Prim.Native.Nat.{ℕ, _^_}
+use mathlib.Core.Path.{sym, ap, subst, _∙_}
 use native.Mathlib.Omega.{arith}
-use lib.Pow.{pow-lt}
+use Rattle.bits.specs.Bit.{shifted-one}
 use Rattle.formula.specs.Column.{relationColumn}
 use Rattle.formula.specs.NodeColumn.{HasMap, ownColumn}
 use borrow.Author.Needs.{needs}
 use Rattle.formula.proofs.operation.own_column.Statement.{statement}
 use Rattle.formula.proofs.operation.own_column.Tie as tie
-
--- a power of two below the width is not cut
-power : (m : ℕ) → m ≤ 8 → 1 * 2 ^ m % 2 ^ 64 ≡ 2 ^ m
-power m h = ap (λ (p : ℕ). p % 2 ^ 64) (one-mul (2 ^ m)) ∙ mod-eq-of-lt (pow-lt {j = 64} (omega arith))
 
 enum-known-node : tie.Need-enum-known-node
 enum-known-node c = search needs
@@ -35,7 +30,7 @@ enum-told-4 : tie.Need-enum-told-4
 enum-told-4 c = search needs
 
 returns : tie.Need-returns
-returns c = c .relation-column .ensures ∙ ap (λ (count : ℕ). relationColumn count (c .before .before .node .given .0 .0)) (power (c .before .before .before .before .args .m) (c .before .before .before .before .pre .0)) ∙ ap (ownColumn (2 ^ c .before .before .before .before .args .m)) (sym (c .before .before .node .given .1))
+returns c = c .relation-column .ensures ∙ ap (λ (count : ℕ). relationColumn count (c .before .before .node .given .0 .0)) (shifted-one 64 (c .before .before .before .before .args .m) (let few = c .before .before .before .before .pre .0 in omega arith)) ∙ ap (ownColumn (2 ^ c .before .before .before .before .args .m)) (sym (c .before .before .node .given .1))
 
 returns-2 : tie.Need-returns-2
 returns-2 c = search needs

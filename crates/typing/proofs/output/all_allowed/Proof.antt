@@ -1,22 +1,17 @@
-use Prim.Native.Nat.{ℕ, _+_, _-_, _*_, _≤_, _<_}
-use mathlib.Core.Path.{_≡_, sym}
+use Prim.Native.Nat.{ℕ, _+_, _-_, _*_, _≤_}
+use mathlib.Core.Path.{_≡_, refl, sym}
 use mathlib.Core.Bool.{true}
-use mathlib.Core.Logic.{_⊎_, ⊎-elim}
-use native.Mathlib.Nat.{eq-or-lt-of-le}
 use native.Mathlib.Omega.{arith}
 use borrow.Author.Tests.{eq-eqb, ne-eqb}
 use lib.Dec.{eqb}
 use lib.ListN.{getD}
-use Rattle.bits.specs.AllBelow.{in-all, not-all}
+use Rattle.bits.specs.AllBelow.{allBelow, all-next, not-all}
 use borrow.Author.Needs.{needs}
 use Rattle.typing.proofs.output.all_allowed.Statement.{statement}
 use Rattle.typing.proofs.output.all_allowed.Tie as tie
 
-upTo : (x b : ℕ) → x < b + 1 → x ≤ b
-upTo x b h = omega arith
-
 abbrev Inv-loop : tie.InvT-loop
-Inv-loop allowed node lanes start b₀ b = (b ≤ lanes) × ((x : ℕ) → x < b → eqb (getD allowed (node * 48 + x) 0) 255 ≡ true)
+Inv-loop allowed node lanes start b₀ b = (b ≤ lanes) × (allBelow b (λ x. eqb (getD allowed (node * 48 + x) 0) 255) ≡ true)
 
 abbrev μ-loop : tie.MeasureT-loop
 μ-loop allowed node lanes start b₀ b = lanes - b
@@ -25,7 +20,7 @@ mul-start : tie.Need-mul-start Inv-loop μ-loop
 mul-start c = search needs
 
 loop-holds : tie.Need-loop-holds Inv-loop μ-loop
-loop-holds c = (omega arith, λ x h. absurd (omega arith))
+loop-holds c = (omega arith, refl)
 
 add-if1 : tie.Need-add-if1 Inv-loop μ-loop
 add-if1 c = search needs
@@ -43,10 +38,10 @@ loop-less : tie.Need-loop-less Inv-loop μ-loop
 loop-less c = search needs
 
 loop-again : tie.Need-loop-again Inv-loop μ-loop
-loop-again c = (omega arith, λ x h. ⊎-elim (λ same. rw same (eq-eqb _ 255 (c .if1 .left))) (λ below. c .before .before .before .loop .inv .1 x below) (eq-or-lt-of-le (upTo x (c .before .before .before .loop .b) h)))
+loop-again c = (omega arith, all-next _ _ (c .before .before .before .loop .inv .1) (eq-eqb _ 255 (c .if1 .left)))
 
 returns-2 : tie.Need-returns-2 Inv-loop μ-loop
-returns-2 c = let all : c .before .loop .b ≡ c .before .before .args .lanes = omega arith in sym (in-all (c .before .before .args .lanes) _ (rw all at (c .before .loop .inv .1)))
+returns-2 c = let all : c .before .loop .b ≡ c .before .before .args .lanes = omega arith in sym (rw all at (c .before .loop .inv .1))
 
 pub all-allowed-spec : {M : Type 1} → statement M
 all-allowed-spec =
