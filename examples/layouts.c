@@ -2,6 +2,7 @@
  * Layouts of a query: prints, for the last node of an expression file, the witness schema, the
  * output record under it, its instantiation, and the schema that the instantiation gives back.
  * Bytes are hexadecimal. The file is named on the command line; without a name it is examples/e1.
+ * gcc -std=c11 -Iinclude examples/layouts.c target/staticlib/libexports.a -o target/layouts
  */
 #include <stdio.h>
 

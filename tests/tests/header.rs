@@ -7,7 +7,7 @@ use std::path::Path;
 const HEADER: &str = include_str!("../../include/type_formula.h");
 const CRATE: &str = include_str!("../../rust/src/c.rs");
 
-/// A declaration: the result's type, the name, then each parameter with its type, as in C.
+/// A declaration: its name, the result's type, and each parameter with its type, as in C.
 #[derive(Debug, PartialEq, Eq, PartialOrd, Ord)]
 struct Function {
     name: String,
