@@ -1,99 +1,27 @@
-//! The C functions of the engine, wrapped safely: slices in, values out; and a run of
-//! the listing program.
+//! The C functions of the engine, wrapped safely: slices in, values out, and the numbers lent
+//! as a caller in C lends them; and a run of the listing program.
 //!
-//! The wrappers are inline, so that only a test that calls them needs the archive.
+//! The wrappers are inline, so that the benchmark measures the C functions alone.
 
 use std::env;
 use std::io::{ErrorKind, Write};
 use std::path::PathBuf;
 use std::process::{Command, Stdio};
 
+use type_formula::c::{
+    type_formula_accept, type_formula_apply, type_formula_formula, type_formula_read_node,
+    type_formula_record, type_formula_recover, type_formula_typing, type_formula_verdict,
+};
+pub use type_formula::c::{UNTYPABLE, UNTYPED};
+
 /// The environment variable for the path of the listing program.
 const LIST_PROGRAM_VARIABLE: &str = "TYPE_FORMULA_LIST_PROGRAM";
-
-/// The answer of Verdict for an untypable node.
-pub const UNTYPABLE: u8 = 255;
-
-/// The answer of Typing and of Recover for a node that the schema does not type.
-pub const UNTYPED: u8 = 255;
 
 /// The lengths that Apply writes.
 #[derive(Clone, Copy, Debug, Default, PartialEq, Eq)]
 pub struct Lengths {
     pub schema: usize,
     pub output: usize,
-}
-
-extern "C" {
-    fn type_formula_accept(
-        file: *const u8,
-        file_len: usize,
-        relations: *mut u8,
-        nodes: *mut u8,
-    ) -> u8;
-
-    fn type_formula_record(
-        file: *const u8,
-        file_len: usize,
-        node: usize,
-        start: *mut usize,
-    ) -> usize;
-
-    fn type_formula_read_node(relations: u8, number: u8, bytes: *const u8, len: usize) -> u64;
-
-    fn type_formula_formula(file: *const u8, file_len: usize, work: *mut u8, work_len: usize)
-        -> u8;
-
-    fn type_formula_verdict(
-        file: *const u8,
-        file_len: usize,
-        node: usize,
-        work: *mut u8,
-        work_len: usize,
-        schema: *mut u8,
-        schema_len: usize,
-        value: *mut usize,
-    ) -> u8;
-
-    fn type_formula_typing(
-        file: *const u8,
-        file_len: usize,
-        node: usize,
-        schema: *const u8,
-        schema_len: usize,
-        out: *mut u8,
-        out_len: usize,
-        value: *mut usize,
-    ) -> u8;
-
-    fn type_formula_apply(
-        file: *const u8,
-        file_len: usize,
-        node: usize,
-        instantiation: *const u8,
-        instantiation_len: usize,
-        work: *mut u8,
-        work_len: usize,
-        schema: *mut u8,
-        schema_len: usize,
-        out: *mut u8,
-        out_len: usize,
-        schema_size: *mut usize,
-        out_size: *mut usize,
-    ) -> u8;
-
-    fn type_formula_recover(
-        file: *const u8,
-        file_len: usize,
-        node: usize,
-        schema: *const u8,
-        schema_len: usize,
-        work: *mut u8,
-        work_len: usize,
-        instantiation: *mut u8,
-        instantiation_len: usize,
-        value: *mut usize,
-    ) -> u8;
 }
 
 /// 0 if the expression file is accepted, and then writes its relation count m and

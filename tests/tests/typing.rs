@@ -1,7 +1,5 @@
 //! The engine against the reference: Typing.
 
-#![cfg(typing_in_archive)]
-
 use std::time::{Duration, Instant};
 
 use type_formula_tests::engine::{self, UNTYPED};

@@ -6,18 +6,11 @@
 //!
 //! Work space and result slices are reused and not cleared between runs.
 
-#[cfg(not(verdict_in_archive))]
-fn main() {
-    eprintln!("the archive of the engine has no Verdict");
-}
-
-#[cfg(verdict_in_archive)]
 fn main() {
     measurement::main();
 }
 
 /// Formula and Verdict by a loop over 64-bit words.
-#[cfg_attr(not(verdict_in_archive), allow(dead_code))]
 mod words {
     use type_formula_tests::reference::{
         read_file, Node, Verdict, COLUMNS, COLUMN_LENGTH, FORMULA_LENGTH, NODE_NOT_BELOW_COUNT,
@@ -247,7 +240,6 @@ mod words {
     }
 }
 
-#[cfg(verdict_in_archive)]
 mod measurement {
     use std::hint::black_box;
     use std::mem::discriminant;
@@ -479,12 +471,6 @@ mod measurement {
         ]
     }
 
-    #[cfg(not(typing_in_archive))]
-    fn print_typing() {
-        println!("\nthe archive of the engine has no Typing");
-    }
-
-    #[cfg(typing_in_archive)]
     fn print_typing() {
         for setting in typed::settings() {
             typing::check(&setting);
@@ -495,12 +481,6 @@ mod measurement {
         }
     }
 
-    #[cfg(not(instantiations_in_archive))]
-    fn print_apply_and_recover() {
-        println!("\nthe archive of the engine has no Apply or no Recover");
-    }
-
-    #[cfg(instantiations_in_archive)]
     fn print_apply_and_recover() {
         for setting in typed::settings() {
             let setting = instantiations::Setting::new(setting);
@@ -512,7 +492,6 @@ mod measurement {
     }
 
     /// Files with a schema that types the last node.
-    #[cfg(any(typing_in_archive, instantiations_in_archive))]
     mod typed {
         use type_formula_tests::examples::{e1, join_of_eight};
         use type_formula_tests::reference::{
@@ -613,7 +592,6 @@ mod measurement {
         }
     }
 
-    #[cfg(typing_in_archive)]
     mod typing {
         use std::hint::black_box;
 
@@ -658,7 +636,6 @@ mod measurement {
         }
     }
 
-    #[cfg(instantiations_in_archive)]
     mod instantiations {
         use std::hint::black_box;
 

@@ -1,0 +1,25 @@
+//! The greatest counts and the sizes of slices.
+
+/// The most relations of an expression file.
+pub const MOST_RELATIONS: usize = 8;
+
+/// The most nodes of an expression file.
+pub const MOST_NODES: usize = 64;
+
+/// No accepted expression file has more bytes than this.
+pub const LONGEST_FILE: usize = 322;
+
+/// The bytes of work space that a node's formula takes.
+pub const FORMULA_SIZE: usize = 1_024;
+
+/// The bytes of work space that are enough for every file: one formula for each of the most nodes.
+pub const WORK_SIZE: usize = MOST_NODES * FORMULA_SIZE;
+
+/// The least length of a result slice for an output record; no output record is longer.
+pub const OUTPUT_SIZE: usize = 513;
+
+/// The least length of a result slice for a schema; no schema is longer.
+pub const SCHEMA_SIZE: usize = 4_104;
+
+/// The least length of a result slice for an instantiation; no instantiation is longer.
+pub const INSTANTIATION_SIZE: usize = 812;

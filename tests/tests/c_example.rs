@@ -1,0 +1,175 @@
+//! The header for callers in C, compiled and used: the example program, every constant, and C++.
+
+use std::collections::BTreeSet;
+use std::fs;
+use std::path::{Path, PathBuf};
+use std::process::{Command, Output};
+
+use type_formula::{c, Refusal};
+use type_formula_tests::formula_examples::formula_examples;
+
+const HEADER: &str = include_str!("../../include/type_formula.h");
+const C: [&str; 2] = ["gcc", "-std=c11"];
+const CPP: [&str; 2] = ["g++", "-std=c++11"];
+const WARNINGS: [&str; 4] = ["-Wall", "-Wextra", "-Wpedantic", "-Werror"];
+
+/// A path of the repository.
+fn repository(path: &str) -> PathBuf {
+    Path::new(env!("CARGO_MANIFEST_DIR")).join("..").join(path)
+}
+
+/// A path for what a test writes.
+fn written(name: &str) -> PathBuf {
+    Path::new(env!("CARGO_TARGET_TMPDIR")).join(name)
+}
+
+/// Compiles a source file with the header, linked with the archive, and gives the program.
+fn compile(compiler: [&str; 2], source: &Path, name: &str) -> PathBuf {
+    let program = written(name);
+    let [command, standard] = compiler;
+    let output = Command::new(command)
+        .arg(standard)
+        .args(WARNINGS)
+        .arg("-I")
+        .arg(repository("include"))
+        .arg(source)
+        .arg(Path::new(env!("TYPE_FORMULA_ARCHIVE_DIRECTORY")).join("libexports.a"))
+        .arg("-o")
+        .arg(&program)
+        .output()
+        .unwrap_or_else(|error| panic!("{command}: {error}"));
+    let errors = String::from_utf8_lossy(&output.stderr);
+    assert!(output.status.success(), "{}\n{errors}", source.display());
+    program
+}
+
+/// Writes a source file and compiles it.
+fn compile_text(compiler: [&str; 2], text: &str, name: &str) -> PathBuf {
+    let source = written(name);
+    fs::write(&source, text).expect("written");
+    compile(compiler, &source, &format!("{name}.program"))
+}
+
+/// Runs a program in the top directory of the repository.
+fn run(program: &Path, arguments: &[&Path]) -> Output {
+    Command::new(program)
+        .args(arguments)
+        .current_dir(repository(""))
+        .output()
+        .unwrap_or_else(|error| panic!("{}: {error}", program.display()))
+}
+
+/// What a program that ended with this status wrote to standard output.
+fn text(output: Output, status: i32) -> String {
+    assert_eq!(output.status.code(), Some(status), "{output:?}");
+    String::from_utf8(output.stdout).expect("text")
+}
+
+#[test]
+fn the_example_prints_what_is_expected() {
+    let program = compile(C, &repository("examples/layouts.c"), "layouts");
+    let wanted = fs::read_to_string(repository("examples/layouts.txt")).expect("readable");
+    let e1 = run(&program, &[Path::new("examples/e1")]);
+    assert_eq!(text(e1, 0), wanted);
+    assert_eq!(text(run(&program, &[]), 0), wanted, "without a name");
+}
+
+#[test]
+fn the_example_prints_untypable_and_refusals() {
+    let program = compile(C, &repository("examples/layouts.c"), "layouts_of_others");
+    let print = |bytes: &[u8], status| {
+        let file = written("file_for_layouts");
+        fs::write(&file, bytes).expect("written");
+        text(run(&program, &[&file]), status)
+    };
+    let examples = formula_examples();
+    let e5 = examples.iter().find(|example| example.name == "E5");
+    let mut bytes = e5.expect("an example").bytes();
+    assert_eq!(print(&bytes, 0), "node 2 untypable, attribute 1\n");
+    bytes.push(0);
+    assert_eq!(print(&bytes, 1), "file refused 10\n");
+    assert_eq!(print(&[8; 1_000], 1), "file refused 5\n");
+    assert_eq!(print(&[], 1), "file refused 1\n");
+    assert_eq!(text(run(&program, &[Path::new("no such file")]), 2), "");
+}
+
+/// The name in C of a refusal, as `TYPE_FORMULA_NODE_MAP` of `NodeMap`.
+fn name_in_c(refusal: Refusal) -> String {
+    let mut name = String::from("TYPE_FORMULA");
+    for letter in format!("{refusal:?}").chars() {
+        if letter.is_uppercase() {
+            name.push('_');
+        }
+        name.push(letter.to_ascii_uppercase());
+    }
+    name
+}
+
+/// The constants of the crate, by their names in C.
+fn constants_of_crate() -> Vec<(String, usize)> {
+    let sizes = [
+        ("MOST_RELATIONS", type_formula::MOST_RELATIONS),
+        ("MOST_NODES", type_formula::MOST_NODES),
+        ("LONGEST_FILE", type_formula::LONGEST_FILE),
+        ("FORMULA_SIZE", type_formula::FORMULA_SIZE),
+        ("WORK_SIZE", type_formula::WORK_SIZE),
+        ("OUTPUT_SIZE", type_formula::OUTPUT_SIZE),
+        ("SCHEMA_SIZE", type_formula::SCHEMA_SIZE),
+        ("INSTANTIATION_SIZE", type_formula::INSTANTIATION_SIZE),
+        ("UNTYPED", usize::from(c::UNTYPED)),
+        ("UNTYPABLE", usize::from(c::UNTYPABLE)),
+    ];
+    let sizes = sizes.map(|(name, value)| (format!("TYPE_FORMULA_{name}"), value));
+    let refusals = (0..=u8::MAX).filter_map(Refusal::from_number);
+    let refusals = refusals.map(|refusal| (name_in_c(refusal), usize::from(refusal.number())));
+    sizes.into_iter().chain(refusals).collect()
+}
+
+/// The names of the constants of the header: all names in capitals but that of its guard.
+fn constants_of_header() -> BTreeSet<&'static str> {
+    let is_in_name = |letter: char| letter.is_ascii_alphanumeric() || letter == '_';
+    HEADER
+        .split(|letter| !is_in_name(letter))
+        .filter(|name| name.starts_with("TYPE_FORMULA_") && *name != "TYPE_FORMULA_H")
+        .collect()
+}
+
+#[test]
+fn the_header_has_the_constants_of_the_crate() {
+    let lines: String = constants_of_header()
+        .iter()
+        .map(|name| format!("    printf(\"{name} %lld\\n\", (long long){name});\n"))
+        .collect();
+    let includes = "#include <stdio.h>\n#include \"type_formula.h\"\n";
+    let source = format!("{includes}\nint main(void)\n{{\n{lines}}}\n");
+    let printed = text(run(&compile_text(C, &source, "constants.c"), &[]), 0);
+    let given: BTreeSet<String> = printed.lines().map(String::from).collect();
+    let wanted = constants_of_crate().into_iter();
+    let wanted: BTreeSet<String> = wanted
+        .map(|(name, value)| format!("{name} {value}"))
+        .collect();
+    assert_eq!(wanted.len(), 31);
+    assert_eq!(given, wanted);
+}
+
+/// The header twice, and a call, so that the name is looked up as one of C.
+const IN_CPP: &str = "\
+#include \"type_formula.h\"
+#include \"type_formula.h\"
+
+int main()
+{
+    size_t start = 1;
+    return static_cast<int>(type_formula_record(reinterpret_cast<const uint8_t *>(\"\"), 0, 0, &start) + start);
+}
+";
+
+#[test]
+fn the_header_is_usable_from_cpp() {
+    if Command::new(CPP[0]).arg("--version").output().is_err() {
+        println!("no {}: not compiled", CPP[0]);
+        return;
+    }
+    let program = compile_text(CPP, IN_CPP, "calls_from_cpp.cpp");
+    assert_eq!(text(run(&program, &[]), 0), "");
+}

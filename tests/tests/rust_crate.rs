@@ -1,0 +1,369 @@
+//! The safe functions of the crate `type_formula` against the C functions that they call:
+//! on the same inputs the same answers, and the same bytes in every slice.
+
+use type_formula::{
+    accept, apply, formula, read_node, record, recover, typing, verdict, Acceptance, Application,
+    BinaryOp, Formula, Node, Reading, Recovery, Refusal, SetOp, Typing, Verdict,
+    INSTANTIATION_SIZE, OUTPUT_SIZE, SCHEMA_SIZE, WORK_SIZE,
+};
+use type_formula_tests::engine::{self, Lengths, UNTYPABLE, UNTYPED};
+use type_formula_tests::examples::to_hexadecimal;
+use type_formula_tests::random::Random;
+use type_formula_tests::reference::{encode_instantiation, encode_node, encode_schema, infer};
+
+/// The number of inputs of each operation.
+const INPUTS: usize = 3_000;
+
+/// A file, a node to ask, a schema and an instantiation; each may be damaged.
+struct Input {
+    file: Vec<u8>,
+    node: usize,
+    schema: Vec<u8>,
+    instantiation: Vec<u8>,
+}
+
+impl Input {
+    /// An accepted file with a schema and an instantiation near its formula; one part is damaged
+    /// one time in two, and one time in eight all parts are any bytes.
+    fn new(random: &mut Random) -> Self {
+        if random.below(8) == 0 {
+            let mut bytes = || {
+                let length = random.below(60);
+                random.likely_bytes(length)
+            };
+            let (file, schema, instantiation) = (bytes(), bytes(), bytes());
+            let node = random.below(8);
+            return Input {
+                file,
+                node,
+                schema,
+                instantiation,
+            };
+        }
+        let mut input = Input::accepted(random);
+        match random.below(8) {
+            0 => random.disturb(&mut input.file),
+            1 => random.disturb(&mut input.schema),
+            2 => random.disturb(&mut input.instantiation),
+            3 => input.node = [input.node + 64, usize::MAX, 1 << 32][random.below(3)],
+            _ => {}
+        }
+        input
+    }
+
+    /// An accepted file; schema and instantiation mostly fit the node asked, else almost.
+    fn accepted(random: &mut Random) -> Self {
+        let (relations, nodes) = (random.between(1, 8), random.between(1, 12));
+        let file = random.mild_file(relations, nodes);
+        let inferred = infer(&file).expect("accepted");
+        let node = random.likely_node(&inferred.formulas);
+        let ordinary = random.below(40);
+        let mut instantiation = random.instantiation(&inferred.formulas[node], ordinary);
+        let mut image = instantiation.image(relations);
+        match random.below(4) {
+            0 => random.disturb_assignment(&mut image),
+            1 => random.disturb_instantiation(relations, &mut instantiation),
+            _ => {}
+        }
+        Input {
+            file,
+            node,
+            schema: encode_schema(&image),
+            instantiation: encode_instantiation(&instantiation),
+        }
+    }
+
+    /// The input, for a failed comparison.
+    fn text(&self) -> String {
+        format!(
+            "node {}\nfile {}\nschema {}\ninstantiation {}",
+            self.node,
+            to_hexadecimal(&self.file),
+            to_hexadecimal(&self.schema),
+            to_hexadecimal(&self.instantiation)
+        )
+    }
+}
+
+/// A slice of noise; one time in eight one byte too short.
+fn slice(random: &mut Random, least: usize) -> Vec<u8> {
+    let length = match random.below(8) {
+        0 => least - 1,
+        _ => least + random.below(40),
+    };
+    let noise = random.byte();
+    vec![noise; length]
+}
+
+/// A work space, most often for 12 nodes.
+fn work_space(random: &mut Random) -> Vec<u8> {
+    match random.below(8) {
+        0 => slice(random, WORK_SIZE),
+        _ => slice(random, 12 * 1_024),
+    }
+}
+
+/// How often there was a result, untyped or untypable, and each refusal.
+struct Counts {
+    results: usize,
+    without: usize,
+    refusals: [usize; 22],
+}
+
+impl Counts {
+    /// Compares the function on so many inputs, which gives the answer in C, and counts.
+    fn of(seed: u64, mut compare: impl FnMut(&mut Random, &Input) -> u8) -> Self {
+        let mut random = Random::new(seed);
+        let mut counts = Counts {
+            results: 0,
+            without: 0,
+            refusals: [0; 22],
+        };
+        for _ in 0..INPUTS {
+            let input = Input::new(&mut random);
+            match compare(&mut random, &input) {
+                0 => counts.results += 1,
+                255 => counts.without += 1,
+                number => counts.refusals[usize::from(number)] += 1,
+            }
+        }
+        counts
+    }
+
+    /// Asserts that results and these refusals came up.
+    fn assert_met(&self, refusals: &[usize]) {
+        println!(
+            "{} results, {} without, refusals {:?}",
+            self.results, self.without, self.refusals
+        );
+        assert!(self.results >= INPUTS / 8, "{} results", self.results);
+        for &number in refusals {
+            assert!(self.refusals[number] > 0, "{number} did not come up");
+        }
+    }
+}
+
+/// The refusal of a number that a C function answered.
+fn refusal(number: u8) -> Refusal {
+    Refusal::from_number(number).expect("a refusal")
+}
+
+#[test]
+fn accept_is_as_in_c() {
+    let counts = Counts::of(1, |_, input| {
+        let (mut relations, mut nodes) = (0, 0);
+        let answer = engine::accept(&input.file, &mut relations, &mut nodes);
+        let wanted = match answer {
+            0 => Acceptance::Accepted { relations, nodes },
+            number => Acceptance::Refused(refusal(number)),
+        };
+        assert_eq!(accept(&input.file), wanted, "{}", input.text());
+        answer
+    });
+    counts.assert_met(&[2, 3, 4, 5, 7, 8, 10]);
+}
+
+#[test]
+fn record_is_as_in_c() {
+    let counts = Counts::of(2, |_, input| {
+        let mut start = 0;
+        let length = engine::record(&input.file, input.node, &mut start);
+        let wanted = &input.file[start..start + length];
+        let given = record(&input.file, input.node);
+        assert_eq!(
+            given.as_ptr_range(),
+            wanted.as_ptr_range(),
+            "{}",
+            input.text()
+        );
+        if wanted.is_empty() {
+            255
+        } else {
+            0
+        }
+    });
+    assert!(counts.without > 0);
+    counts.assert_met(&[]);
+}
+
+/// The bytes of a node: its map and its fields in bit order.
+fn bytes_of(node: Node) -> Vec<u8> {
+    match node {
+        Node::Relation { relation } => vec![1, relation],
+        Node::Binary { op, left, right } => {
+            let code = match op {
+                BinaryOp::Union => 1,
+                BinaryOp::Difference => 2,
+                BinaryOp::Join => 3,
+                BinaryOp::Product => 4,
+            };
+            vec![14, left, right, code]
+        }
+        Node::WithSet { op, operand, set } => {
+            let code = match op {
+                SetOp::Selection => 5,
+                SetOp::Projection => 6,
+            };
+            vec![26, operand, code, set as u8, (set >> 8) as u8]
+        }
+        Node::Renaming { operand, old, new } => vec![98, operand, old, new],
+        Node::ProjectingOut { operand, old } => vec![34, operand, old],
+    }
+}
+
+#[test]
+fn read_node_is_as_in_c() {
+    let counts = Counts::of(3, |random, _| {
+        let (relations, number) = (random.between(1, 8), random.between(0, 63));
+        let nodes = random.nodes(relations, number + 1);
+        let mut bytes = encode_node(&nodes[usize::from(number)]);
+        for _ in 0..random.below(3) {
+            random.disturb(&mut bytes);
+        }
+        let word = engine::read_node(relations, number, &bytes);
+        match read_node(relations, number, &bytes) {
+            Reading::Read { node, size } => {
+                assert_eq!((0, usize::from(word[1])), (word[0], size));
+                assert_eq!(bytes_of(node), word[2..2 + size]);
+            }
+            Reading::Refused(refused) => assert_eq!(refused.number(), word[0]),
+        }
+        word[0]
+    });
+    counts.assert_met(&[4, 5, 6, 7, 8, 9]);
+}
+
+#[test]
+fn formula_is_as_in_c() {
+    let counts = Counts::of(4, |random, input| {
+        let mut work = work_space(random);
+        let mut wanted_work = work.clone();
+        let answer = engine::formula(&input.file, &mut wanted_work);
+        let wanted = match answer {
+            0 => Formula::Filled,
+            number => Formula::Refused(refusal(number)),
+        };
+        assert_eq!(formula(&input.file, &mut work), wanted, "{}", input.text());
+        assert!(work == wanted_work, "{}", input.text());
+        answer
+    });
+    counts.assert_met(&[4, 5, 10, 12]);
+}
+
+#[test]
+fn verdict_is_as_in_c() {
+    let counts = Counts::of(5, |random, input| {
+        let (mut work, mut schema) = (work_space(random), slice(random, SCHEMA_SIZE));
+        let (mut wanted_work, mut wanted_schema) = (work.clone(), schema.clone());
+        let mut value = 0;
+        let answer = engine::verdict(
+            &input.file,
+            input.node,
+            &mut wanted_work,
+            &mut wanted_schema,
+            &mut value,
+        );
+        let wanted = match answer {
+            0 => Verdict::Typable(&wanted_schema[..value]),
+            UNTYPABLE => Verdict::Untypable {
+                attribute: value as u8,
+            },
+            number => Verdict::Refused(refusal(number)),
+        };
+        let given = verdict(&input.file, input.node, &mut work, &mut schema);
+        assert_eq!(given, wanted, "{}", input.text());
+        assert!(work == wanted_work, "{}", input.text());
+        assert!(schema == wanted_schema, "{}", input.text());
+        answer
+    });
+    assert!(counts.without > 0);
+    counts.assert_met(&[4, 5, 10, 11, 12, 13]);
+}
+
+#[test]
+fn typing_is_as_in_c() {
+    let counts = Counts::of(6, |random, input| {
+        let mut out = slice(random, OUTPUT_SIZE);
+        let mut wanted_out = out.clone();
+        let (file, node, schema) = (&input.file, input.node, &input.schema);
+        let mut value = 0;
+        let answer = engine::typing(file, node, schema, &mut wanted_out, &mut value);
+        let wanted = match answer {
+            0 => Typing::Typed(&wanted_out[..value]),
+            UNTYPED => Typing::Untyped,
+            number => Typing::Refused(refusal(number)),
+        };
+        let given = typing(file, node, schema, &mut out);
+        assert_eq!(given, wanted, "{}", input.text());
+        assert!(out == wanted_out, "{}", input.text());
+        answer
+    });
+    assert!(counts.without > 0);
+    counts.assert_met(&[4, 5, 10, 11, 13, 14, 15, 16, 17]);
+}
+
+#[test]
+fn apply_is_as_in_c() {
+    let counts = Counts::of(7, |random, input| {
+        let mut work = work_space(random);
+        let (mut schema, mut out) = (slice(random, SCHEMA_SIZE), slice(random, OUTPUT_SIZE));
+        let (mut wanted_work, mut wanted_schema, mut wanted_out) =
+            (work.clone(), schema.clone(), out.clone());
+        let (file, node, instantiation) = (&input.file, input.node, &input.instantiation);
+        let mut lengths = Lengths::default();
+        let answer = engine::apply(
+            file,
+            node,
+            instantiation,
+            &mut wanted_work,
+            &mut wanted_schema,
+            &mut wanted_out,
+            &mut lengths,
+        );
+        let wanted = match answer {
+            0 => Application::Applied {
+                schema: &wanted_schema[..lengths.schema],
+                output: &wanted_out[..lengths.output],
+            },
+            number => Application::Refused(refusal(number)),
+        };
+        let given = apply(file, node, instantiation, &mut work, &mut schema, &mut out);
+        assert_eq!(given, wanted, "{}", input.text());
+        let slices = (work, schema, out);
+        let wanted_slices = (wanted_work, wanted_schema, wanted_out);
+        assert!(slices == wanted_slices, "{}", input.text());
+        answer
+    });
+    counts.assert_met(&[4, 5, 10, 11, 12, 13, 14, 15, 16, 17, 19, 20, 21]);
+}
+
+#[test]
+fn recover_is_as_in_c() {
+    let counts = Counts::of(8, |random, input| {
+        let mut work = work_space(random);
+        let mut instantiation = slice(random, INSTANTIATION_SIZE);
+        let (mut wanted_work, mut wanted_instantiation) = (work.clone(), instantiation.clone());
+        let (file, node, schema) = (&input.file, input.node, &input.schema);
+        let mut value = 0;
+        let answer = engine::recover(
+            file,
+            node,
+            schema,
+            &mut wanted_work,
+            &mut wanted_instantiation,
+            &mut value,
+        );
+        let wanted = match answer {
+            0 => Recovery::Recovered(&wanted_instantiation[..value]),
+            UNTYPED => Recovery::Untyped,
+            number => Recovery::Refused(refusal(number)),
+        };
+        let given = recover(file, node, schema, &mut work, &mut instantiation);
+        assert_eq!(given, wanted, "{}", input.text());
+        assert!(work == wanted_work, "{}", input.text());
+        assert!(instantiation == wanted_instantiation, "{}", input.text());
+        answer
+    });
+    assert!(counts.without > 0);
+    counts.assert_met(&[4, 5, 10, 11, 12, 13, 14, 15, 16, 17]);
+}
