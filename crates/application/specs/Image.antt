@@ -14,7 +14,7 @@ use Rattle.bits.specs.Pack.{bits-once}
 use Rattle.bits.specs.Rising.{member}
 use Rattle.bits.specs.Tab.{tab, length-tab, getD-tab, tab-is}
 use Rattle.type_record.specs.Record.{TypeRecord}
-use Rattle.type_record.specs.RecordLaws.{IsRecord}
+use Rattle.type_record.specs.RecordBytes.{IsRecord}
 use Rattle.membership.specs.Entries.{attributeOf, subsetOf, holdersIn}
 use Rattle.membership.specs.EnterLaws.{RisingEntries}
 use Rattle.membership.specs.EntriesOnce.{Positive, entries-once}

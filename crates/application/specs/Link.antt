@@ -15,7 +15,8 @@ use Rattle.formula.specs.Stored.{formulaSpace}
 use Rattle.verdict.specs.StoredFormula.{formulaIn}
 use Rattle.verdict.specs.Theorems.{principal}
 use Rattle.type_record.specs.Record.{TypeRecord, typeOf}
-use Rattle.type_record.specs.RecordLaws.{IsRecord, record-type}
+use Rattle.type_record.specs.RecordBytes.{IsRecord}
+use Rattle.type_record.specs.RecordTypes.{record-type}
 use Rattle.schema.specs.Schema.{noRecord, assignmentOf, recordsOf, entriesOf, mapsOf}
 use Rattle.schema.specs.RecordsLaws.{AllRecords}
 use Rattle.instantiation.specs.Instantiation.{entriesIn, subsetsOf}

@@ -28,7 +28,7 @@ use Rattle.verdict.specs.VerdictLaws.{Goes as VerdictGoes}
 use Rattle.verdict.specs.Cells.{subsetOf, blockedOf, witnessOf, verdict-answer, verdict-schema}
 use Rattle.type_record.specs.Lists.{readFrom, readList, listed}
 use Rattle.type_record.specs.Record.{readRecord, recordSize, recordAt, recordByte, recordBytes}
-use Rattle.type_record.specs.RecordLaws.{record-length}
+use Rattle.type_record.specs.RecordBytes.{record-length}
 use Rattle.membership.specs.Entries.{enter}
 use Rattle.schema.specs.Schema.{Records, recordsRefused, recordsRead, readRecords, entriesOf, mapsOf}
 use Rattle.typing.specs.Output.{typedIn, outputMap, outputList}

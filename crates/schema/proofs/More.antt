@@ -8,7 +8,7 @@ use lib.ListN.{length, getD, set, length-set, length-append, List·getD-append, 
 use lib.Seq.{getD-set-same, getD-set-other, getD-append-seam}
 use Rattle.bits.specs.Tab.{length-tab, getD-tab, tab-is}
 use Rattle.type_record.specs.Record.{TypeRecord}
-use Rattle.type_record.specs.RecordLaws.{IsRecord}
+use Rattle.type_record.specs.RecordBytes.{IsRecord}
 use Rattle.refusal.specs.declared.Refusal.{Refusal}
 use Rattle.membership.specs.Entries.{enter}
 use Rattle.membership.specs.EnterLaws.{Order, lower, higher, equal, order}

@@ -10,7 +10,7 @@ use lib.Seq.{length-take-le}
 use Rattle.bits.specs.Part.{over-more}
 use Rattle.bits.specs.Tab.{tab, length-tab, tab-more, over, over-length}
 use Rattle.type_record.specs.Record.{TypeRecord, recordSize, recordBytes}
-use Rattle.type_record.specs.RecordLaws.{size-most, record-length}
+use Rattle.type_record.specs.RecordBytes.{size-most, record-length}
 use Rattle.membership.specs.declared.holders.Held.{Held}
 use Rattle.membership.specs.Holders.{heldBy, heldList, ItemsFit}
 use Rattle.membership.specs.HolderLaws.{held-few, held-attributes}

@@ -18,7 +18,8 @@ use Rattle.type_record.specs.declared.records.RecordReading.{RecordReading}
 use Rattle.type_record.specs.declared.records.RecordReading.the-variants.{Read as RecordRead, Refused as RecordRefused}
 use Rattle.type_record.specs.Lists.{listed}
 use Rattle.type_record.specs.Record.{TypeRecord, readRecord, recordSize, recordAt}
-use Rattle.type_record.specs.RecordLaws.{ReadRecord, record-read, size-some, size-most}
+use Rattle.type_record.specs.RecordBytes.{size-some, size-most}
+use Rattle.type_record.specs.RecordReading.{ReadRecord, record-read}
 use Rattle.membership.specs.declared.merging.Entries.{Entries}
 use Rattle.membership.specs.Entries.{enter, tableOf, Table, ListFits}
 use Rattle.membership.specs.TableLaws.{is-table, enter-table, table-count, table-full}

@@ -13,7 +13,7 @@ use Rattle.bits.specs.Bit.{bit, bit-none, bit-power}
 use Rattle.bits.specs.Rising.{member, rising-once}
 use Rattle.bits.specs.Tab.{getD-tab, tab-is}
 use Rattle.type_record.specs.Record.{TypeRecord}
-use Rattle.type_record.specs.RecordLaws.{IsRecord}
+use Rattle.type_record.specs.RecordBytes.{IsRecord}
 use Rattle.membership.specs.Entries.{holdersIn, enter}
 use Rattle.membership.specs.EnterLaws.{RisingEntries, Order, lower, higher, equal, order, enter-rising, enter-holders}
 use Rattle.membership.specs.TableLaws.{Below, enter-below}

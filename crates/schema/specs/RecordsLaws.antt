@@ -9,7 +9,10 @@ use Rattle.bits.specs.Word.{Bytes}
 use Rattle.type_record.specs.declared.records.RecordReading.{RecordReading}
 use Rattle.type_record.specs.declared.records.RecordReading.the-variants.{Read as RecordRead, Refused as RecordRefused}
 use Rattle.type_record.specs.Record.{TypeRecord, readRecord, recordSize, recordAt, recordBytes}
-use Rattle.type_record.specs.RecordLaws.{IsRecord, record-read, read-written, written-read, written-record, type-once, size-most, record-length}
+use Rattle.type_record.specs.RecordBytes.{IsRecord, size-most, record-length}
+use Rattle.type_record.specs.RecordReading.{record-read}
+use Rattle.type_record.specs.RecordRoundTrip.{read-written, written-read, written-record}
+use Rattle.type_record.specs.RecordTypes.{type-once}
 use Rattle.schema.specs.Schema.{Records, recordsRefused, recordsRead, precede, follow, atEnd, readRecords, schemaBytes, assignmentOf}
 
 -- all of them are records

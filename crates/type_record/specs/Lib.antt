@@ -1,5 +1,8 @@
 pub mod Lists
 pub mod ListLaws
 pub mod Record
-pub mod RecordLaws
+pub mod RecordBytes
+pub mod RecordReading
+pub mod RecordRoundTrip
+pub mod RecordTypes
 pub mod WritingLaws

@@ -8,7 +8,7 @@ use lib.Seq.{set-comm}
 use Rattle.bits.specs.Tab.{over}
 use Rattle.bits.specs.Written.{Written, written-none, written-more, written-all}
 use Rattle.type_record.specs.Record.{recordSize, recordByte, recordBytes}
-use Rattle.type_record.specs.RecordLaws.{size-none, size-some, follows, follows-some, byte-first, byte-second, byte-count, byte-low, byte-high}
+use Rattle.type_record.specs.RecordBytes.{size-none, size-some, follows, follows-some, byte-first, byte-second, byte-count, byte-low, byte-high}
 
 module _ (map : ℕ) (ordinary old : List ℕ) where
   -- the map, its second byte written first

@@ -15,7 +15,7 @@ use Rattle.algebra.specs.Expression.{Expression, Legal}
 use Rattle.algebra.specs.Cell.{plain, out, ok}
 use Rattle.algebra.specs.CellLaws.{cell-depends}
 use Rattle.type_record.specs.Record.{TypeRecord}
-use Rattle.type_record.specs.RecordLaws.{IsRecord}
+use Rattle.type_record.specs.RecordBytes.{IsRecord}
 use Rattle.membership.specs.Entries.{attributeOf, subsetOf, holdersIn}
 use Rattle.membership.specs.EnterLaws.{RisingEntries, subset-bit}
 use Rattle.membership.specs.TableLaws.{Below}

@@ -18,7 +18,7 @@ use Rattle.algebra.specs.Cell.{plain, out, ok}
 use Rattle.algebra.specs.CellLaws.{cell-depends, cell-none}
 use Rattle.algebra.specs.ByAttribute.{CellOf, typed-cells, cells-typed, typed-once}
 use Rattle.type_record.specs.Record.{TypeRecord, typeOf}
-use Rattle.type_record.specs.RecordLaws.{IsRecord}
+use Rattle.type_record.specs.RecordBytes.{IsRecord}
 use Rattle.membership.specs.Entries.{holdersIn}
 use Rattle.schema.specs.Schema.{assignmentOf, entriesOf, mapsOf}
 use Rattle.schema.specs.RecordsLaws.{AllRecords}

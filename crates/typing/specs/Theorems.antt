@@ -21,7 +21,9 @@ use Rattle.expression.specs.ReadFile.{acceptance}
 use Rattle.expression.specs.Accepted.{accepted-file}
 use Rattle.formula.specs.Expressions.{expressionAt, expression-legal}
 use Rattle.type_record.specs.Record.{TypeRecord, recordSize, recordBytes, typeOf}
-use Rattle.type_record.specs.RecordLaws.{IsRecord, record-length, type-once, bytes-once}
+use Rattle.type_record.specs.RecordBytes.{IsRecord, record-length}
+use Rattle.type_record.specs.RecordRoundTrip.{bytes-once}
+use Rattle.type_record.specs.RecordTypes.{type-once}
 use Rattle.schema.specs.Schema.{recordsRead, readRecords, assignmentOf, entriesOf, mapsOf}
 use Rattle.schema.specs.RecordsLaws.{AllRecords, records-read}
 use Rattle.typing.specs.Output.{typedIn, outputMap, outputList}

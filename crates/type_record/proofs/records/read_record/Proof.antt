@@ -4,7 +4,7 @@ use Rattle.bits.specs.Part.{part-from}
 use Rattle.bits.specs.Word.{word}
 use Rattle.refusal.specs.Chain.{refuse, chain}
 use Rattle.type_record.specs.Record.{withList, readRecord}
-use Rattle.type_record.specs.RecordLaws.{read-none, read-some}
+use Rattle.type_record.specs.RecordReading.{read-none, read-some}
 use borrow.Author.Needs.{needs}
 use Rattle.type_record.proofs.records.read_record.Statement.{statement}
 use Rattle.type_record.proofs.records.read_record.Tie as tie

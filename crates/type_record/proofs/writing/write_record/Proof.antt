@@ -4,7 +4,7 @@ use native.Mathlib.Omega.{arith}
 use lib.ListN.{length, length-set}
 use Rattle.bits.specs.Written.{Written, written-self, written-again}
 use Rattle.type_record.specs.Record.{recordSize, recordByte}
-use Rattle.type_record.specs.RecordLaws.{size-none}
+use Rattle.type_record.specs.RecordBytes.{size-none}
 use Rattle.type_record.specs.WritingLaws.{written-short, written-head, written-attribute, written-long}
 use borrow.Author.Needs.{needs}
 use Rattle.type_record.proofs.writing.write_record.Statement.{statement}
