@@ -20,6 +20,7 @@ use Rattle.expression.specs.ReadFile.{acceptance, parse, header, readNodes, ent
 use Rattle.expression.specs.declared.files.Acceptance.{Acceptance}
 use Rattle.expression.specs.declared.files.Acceptance.the-variants.{Accepted, Refused}
 use Rattle.algebra.specs.Expression.{Expression}
+use Rattle.formulas.specs.Truth.{left, right}
 use Rattle.formula.specs.Expressions.{expressionAt, earlier}
 use Rattle.formula.specs.Stored.{allowedBit, outputBit}
 use Rattle.verdict.specs.Witness.{recordWord, recordByte as witnessByte}
@@ -136,36 +137,28 @@ every (x ∷ xs) = passes x && every xs
 
 -- ---- from the test to the facts
 
-first : (a b : Bool) → T (a && b) → T a
-first true b t = tt
-first false b t = t
-
-second : (a b : Bool) → T (a && b) → T b
-second true b t = t
-second false b t = absurd t
-
 same-is : (xs ys : List ℕ) → T (same xs ys) → xs ≡ ys
 unfolding same
 same-is [] [] t = refl
 same-is [] (y ∷ ys) t = absurd t
 same-is (x ∷ xs) [] t = absurd t
-same-is (x ∷ xs) (y ∷ ys) t = ap₂ _∷_ (eqb→eq x y (first (eqb x y) (same xs ys) t)) (same-is xs ys (second (eqb x y) (same xs ys) t))
+same-is (x ∷ xs) (y ∷ ys) t = ap₂ _∷_ (eqb→eq x y (left (eqb x y) (same xs ys) t)) (same-is xs ys (right (eqb x y) (same xs ys) t))
 
 accepts-is : (a : Acceptance) (m n : ℕ) → T (accepts a m n) → a ≡ Accepted m n
 unfolding accepts
-accepts-is (Accepted m′ n′) m n t = ap₂ Accepted (eqb→eq m′ m (first (eqb m′ m) (eqb n′ n) t)) (eqb→eq n′ n (second (eqb m′ m) (eqb n′ n) t))
+accepts-is (Accepted m′ n′) m n t = ap₂ Accepted (eqb→eq m′ m (left (eqb m′ m) (eqb n′ n) t)) (eqb→eq n′ n (right (eqb m′ m) (eqb n′ n) t))
 accepts-is (Refused r) m n t = absurd t
 
 columns-hold : (m : ℕ) (e : Expression) (cs : List Column) → T (columnsPass m e cs) → AllHold m e cs
 unfolding columnsPass
 columns-hold m e [] t = tt
 columns-hold m e (c ∷ cs) t =
-    let head = first (same (passing (2 ^ m) (allowedBit m e (c .number))) (c .allowed) && same (passing (2 ^ m) (outputBit m e (c .number))) (c .output)) (columnsPass m e cs) t in (
+    let head = left (same (passing (2 ^ m) (allowedBit m e (c .number))) (c .allowed) && same (passing (2 ^ m) (outputBit m e (c .number))) (c .output)) (columnsPass m e cs) t in (
       record {
-        allowed = same-is (passing (2 ^ m) (allowedBit m e (c .number))) (c .allowed) (first (same (passing (2 ^ m) (allowedBit m e (c .number))) (c .allowed)) (same (passing (2 ^ m) (outputBit m e (c .number))) (c .output)) head);
-        output = same-is (passing (2 ^ m) (outputBit m e (c .number))) (c .output) (second (same (passing (2 ^ m) (allowedBit m e (c .number))) (c .allowed)) (same (passing (2 ^ m) (outputBit m e (c .number))) (c .output)) head);
+        allowed = same-is (passing (2 ^ m) (allowedBit m e (c .number))) (c .allowed) (left (same (passing (2 ^ m) (allowedBit m e (c .number))) (c .allowed)) (same (passing (2 ^ m) (outputBit m e (c .number))) (c .output)) head);
+        output = same-is (passing (2 ^ m) (outputBit m e (c .number))) (c .output) (right (same (passing (2 ^ m) (allowedBit m e (c .number))) (c .allowed)) (same (passing (2 ^ m) (outputBit m e (c .number))) (c .output)) head);
       },
-      columns-hold m e cs (second (same (passing (2 ^ m) (allowedBit m e (c .number))) (c .allowed) && same (passing (2 ^ m) (outputBit m e (c .number))) (c .output)) (columnsPass m e cs) t),
+      columns-hold m e cs (right (same (passing (2 ^ m) (allowedBit m e (c .number))) (c .allowed) && same (passing (2 ^ m) (outputBit m e (c .number))) (c .output)) (columnsPass m e cs) t),
     )
 
 witness-is : (untypable : Bool) (w w′ schema : List ℕ) → T (witnessPasses untypable w w′) → cond untypable schema (over w schema) ≡ cond untypable schema (over w′ schema)
@@ -199,8 +192,8 @@ typing-holds x y out goes (recordsRefused r) read t = absurd t
 typing-holds x y out goes (recordsRead ts) read t =
     let few = leb (length (entriesOf ts)) 255 in
     let outputs = outputPasses (typedIn (lastOf x) (mapsOf ts) (entriesOf ts)) (y .typed) (recordBytes (outputMap (lastOf x) (mapsOf ts)) (outputList (lastOf x) (entriesOf ts))) (y .output) in
-    let results = typing-records (x .file) (x .nodes - 1) (y .schema) out (x .relations) (x .nodes) ts goes read (leb→le (length (entriesOf ts)) 255 (first few outputs t)) in
-    let is = output-is (typedIn (lastOf x) (mapsOf ts) (entriesOf ts)) (y .typed) (lastOf x) (mapsOf ts) (entriesOf ts) (y .output) out (second few outputs t) in
+    let results = typing-records (x .file) (x .nodes - 1) (y .schema) out (x .relations) (x .nodes) ts goes read (leb→le (length (entriesOf ts)) 255 (left few outputs t)) in
+    let is = output-is (typedIn (lastOf x) (mapsOf ts) (entriesOf ts)) (y .typed) (lastOf x) (mapsOf ts) (entriesOf ts) (y .output) out (right few outputs t) in
     record { answer = results .0 ∙ is .0; slice = results .1 ∙ is .1 }
 
 typings-hold : (x : Case) (ys : List Typing) (out : List ℕ) → Goes (acceptance (x .file)) (x .nodes - 1) (length out) (x .relations) (x .nodes) → T (typingsPass (x .relations) (lastOf x) ys) → TypingsHold x ys out
@@ -209,7 +202,7 @@ typings-hold x [] out goes t = tt
 typings-hold x (y ∷ ys) out goes t =
     let here = recordsPass (readRecords (x .relations) (y .schema)) (lastOf x) y in
     let rest = typingsPass (x .relations) (lastOf x) ys in
-    (typing-holds x y out goes (readRecords (x .relations) (y .schema)) refl (first here rest t), typings-hold x ys out goes (second here rest t))
+    (typing-holds x y out goes (readRecords (x .relations) (y .schema)) refl (left here rest t), typings-hold x ys out goes (right here rest t))
 
 case-holds : (x : Case) → T (passes x) → Holds x
 unfolding passes
@@ -220,19 +213,19 @@ case-holds x t =
     let w = witnessPasses (ltb (x .blocked) 16) (witnessOf (x .relations) (lastOf x)) (x .witness) in
     let n = ltb 0 (x .nodes) in
     let y = typingsPass (x .relations) (lastOf x) (x .typings) in
-    let upToN = first (a && c && b && w && n) y t in
-    let upToW = first (a && c && b && w) n upToN in
-    let upToB = first (a && c && b) w upToW in
-    let upToC = first (a && c) b upToB in
-    let accepted = accepts-is (acceptance (x .file)) (x .relations) (x .nodes) (first a c upToC) in
-    let some = ltb→lt 0 (x .nodes) (second (a && c && b && w) n upToN) in
+    let upToN = left (a && c && b && w && n) y t in
+    let upToW = left (a && c && b && w) n upToN in
+    let upToB = left (a && c && b) w upToW in
+    let upToC = left (a && c) b upToB in
+    let accepted = accepts-is (acceptance (x .file)) (x .relations) (x .nodes) (left a c upToC) in
+    let some = ltb→lt 0 (x .nodes) (right (a && c && b && w) n upToN) in
     record {
       accepted = accepted;
-      columns = columns-hold (x .relations) (lastOf x) (x .columns) (second a c upToC);
+      columns = columns-hold (x .relations) (lastOf x) (x .columns) (right a c upToC);
       verdict =
-          verdict-holds x accepted (eqb→eq (blockedOf (x .relations) (lastOf x)) (x .blocked) (second (a && c) b upToB)) (second (a && c && b) w upToW)
+          verdict-holds x accepted (eqb→eq (blockedOf (x .relations) (lastOf x)) (x .blocked) (right (a && c) b upToB)) (right (a && c && b) w upToW)
           some;
-      typings = λ out slice. typings-hold x (x .typings) out (record { accepted = accepted; node = omega arith; slice = slice }) (second (a && c && b && w && n) y t);
+      typings = λ out slice. typings-hold x (x .typings) out (record { accepted = accepted; node = omega arith; slice = slice }) (right (a && c && b && w && n) y t);
     }
 
 abbrev pub none : Case
@@ -241,8 +234,8 @@ none = record { file = []; relations = 0; nodes = 0; columns = []; blocked = 0; 
 each-holds : (xs : List Case) → T (every xs) → (i : ℕ) → i < length xs → Holds (getD xs i none)
 unfolding every
 each-holds [] t i h = absurd (omega arith)
-each-holds (x ∷ xs) t zero h = case-holds x (first (passes x) (every xs) t)
-each-holds (x ∷ xs) t (suc i) h = each-holds xs (second (passes x) (every xs) t) i (omega arith)
+each-holds (x ∷ xs) t zero h = case-holds x (left (passes x) (every xs) t)
+each-holds (x ∷ xs) t (suc i) h = each-holds xs (right (passes x) (every xs) t) i (omega arith)
 
 -- the theorem: every case of the table holds; antt computes the test
 pub examples-hold : (i : ℕ) → i < length table → Holds (getD table i none)
