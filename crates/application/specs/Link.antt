@@ -26,7 +26,7 @@ use Rattle.application.specs.Special.{mapsFrom}
 use Rattle.application.specs.Fits.{fits-typed}
 use Rattle.application.specs.Image.{IsTable, image-size, image-records, image-maps, image-entries}
 use Rattle.application.specs.RoundTrip.{applied-table}
-use Rattle.application.specs.Theorems.{Applies}
+use Rattle.application.specs.Theorems.{Applies, applies-admits}
 
 all-types : (ts : List TypeRecord) → AllRecords ts → (r : ℕ) → r < length ts → IsType (typeOf (getD ts r noRecord))
 all-types [] all r h = absurd (omega arith)
@@ -35,10 +35,10 @@ all-types (t ∷ ts) all (suc r) h = all-types ts (all .1) r (omega arith)
 
 module _ (file : List ℕ) (k : ℕ) (bytes work schema out : List ℕ) (m n : ℕ) (ls : List (List ℕ)) (below : Bytes bytes) (a : Applies file k bytes (length work) (length schema) (length out) m n ls) where
   few : m ≤ 8
-  few = accepted-file file m n (a .goes .accepted) .counts .relations .1
+  few = accepted-file file m n (applies-admits a .accepted) .counts .relations .1
 
   legal : Legal m (expressionAt file k)
-  legal = expression-legal file m n (a .goes .accepted) k (a .goes .node)
+  legal = expression-legal file m n (applies-admits a .accepted) k (applies-admits a .node)
 
   table : IsTable m (mapsFrom (subsetsOf bytes)) (entriesIn ls)
   table = applied-table m few (expressionAt file k) bytes below ls (a .read .long) (a .read .read) (a .read .once) (a .read .few) (a .entries) (a .special)
@@ -59,4 +59,4 @@ module _ (file : List ℕ) (k : ℕ) (bytes work schema out : List ℕ) (m n : �
       let typed = fits-typed m few (expressionAt file k) legal (subsetsOf bytes) (entriesIn ls) (subsets-none bytes) (a .entries) (a .special) in
       let rules = rw (maps, entries) at (table-rules m few (expressionAt file k) legal image all size (rw (maps, entries) typed)) in
       let is = rw (maps, entries) at (output-record m few (expressionAt file k) legal image all size (rw entries (a .read .few))) in
-      principal file m n (a .goes .accepted) k (a .goes .node) work′ enough (assignmentOf image) (λ r h. all-types image all r (omega arith)) (typeOf output) (record-type output is) .0 rules
+      principal file m n (applies-admits a .accepted) k (applies-admits a .node) work′ enough (assignmentOf image) (λ r h. all-types image all r (omega arith)) (typeOf output) (record-type output is) .0 rules

@@ -42,7 +42,7 @@ use Rattle.application.specs.SpecialLaws.{map-bit}
 use Rattle.application.specs.Tables.{subsets-below}
 use Rattle.application.specs.Image.{IsTable, image-at, holders-held}
 use Rattle.application.specs.RoundTrip.{applied-table}
-use Rattle.application.specs.Theorems.{Applies}
+use Rattle.application.specs.Theorems.{Applies, applies-admits}
 use Rattle.application.specs.Link.{apply-instantiation}
 
 -- its subsets and its lists are those of the bytes
@@ -52,7 +52,7 @@ pub record AreBytes {F : Formula} (I : Instantiation F) (bytes : List ℕ) (ls :
 
 module _ (file : List ℕ) (k : ℕ) (bytes work schema out : List ℕ) (m n : ℕ) (ls : List (List ℕ)) (below : Bytes bytes) (a : Applies file k bytes (length work) (length schema) (length out) m n ls) (F : Formula) (relations : F .relations ≡ m) (I : Instantiation F) (image : HasImage I (assignmentOf (recordsOf m (mapsFrom (subsetsOf bytes)) (entriesIn ls)))) where
   few : m ≤ 8
-  few = accepted-file file m n (a .goes .accepted) .counts .relations .1
+  few = accepted-file file m n (applies-admits a .accepted) .counts .relations .1
 
   table : IsTable m (mapsFrom (subsetsOf bytes)) (entriesIn ls)
   table = applied-table m few (expressionAt file k) bytes below ls (a .read .long) (a .read .read) (a .read .once) (a .read .few) (a .entries) (a .special)
