@@ -1,6 +1,6 @@
 -- Apply: "takes an instantiation and writes schema and output record" (document 01).
 use Prim.Native.Nat.{ℕ}
-use mathlib.Core.Bool.{Bool, true, false, not}
+use mathlib.Core.Bool.{not}
 use mathlib.Core.List.{List}
 use lib.ListN.{length, take}
 use Rattle.bits.specs.Tab.{over}

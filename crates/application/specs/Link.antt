@@ -1,12 +1,10 @@
 -- The link to demand 3: where Apply applies, the node's stored formula has an instantiation, in the sense of demand 3, whose image is the assignment that the schema written means and whose output is the type of the output record written.
 use Prim.Native.Nat.{ℕ, zero, suc, _*_, _≤_, _<_}
-use mathlib.Core.Path.{_≡_}
 use mathlib.Core.List.{List, [], _∷_}
 use native.Mathlib.Omega.{arith}
 use lib.ListN.{length, getD}
-use Rattle.bits.specs.Tab.{length-tab}
 use Rattle.bits.specs.Word.{Bytes}
-use Rattle.types.specs.Types.{IsType, IsAssignment}
+use Rattle.types.specs.Types.{IsType}
 use Rattle.algebra.specs.Expression.{Legal}
 use Rattle.expression.specs.Accepted.{accepted-file}
 use Rattle.formulas.specs.Instantiation.{Instantiation, HasImage, HasOutput}
@@ -15,8 +13,8 @@ use Rattle.formula.specs.Stored.{formulaSpace}
 use Rattle.verdict.specs.StoredFormula.{formulaIn}
 use Rattle.verdict.specs.Theorems.{principal}
 use Rattle.type_record.specs.Record.{TypeRecord, typeOf}
-use Rattle.type_record.specs.RecordLaws.{IsRecord, record-type}
-use Rattle.schema.specs.Schema.{noRecord, assignmentOf, recordsOf, entriesOf, mapsOf}
+use Rattle.type_record.specs.RecordLaws.{record-type}
+use Rattle.schema.specs.Schema.{noRecord, assignmentOf, recordsOf}
 use Rattle.schema.specs.RecordsLaws.{AllRecords}
 use Rattle.instantiation.specs.Instantiation.{entriesIn, subsetsOf}
 use Rattle.typing.specs.OutputRecord.{outputRecord}

@@ -7,13 +7,13 @@ use Prim.Native.Nat.{ℕ, _+_, _*_, _≤_, _<_}
 use mathlib.Core.Path.{_≡_, refl, sym, ap, ap₂, _∙_}
 use mathlib.Core.Logic.{_↔_}
 use mathlib.Core.Bool.{Bool, true, false, _&&_, and-eq-true-iff}
-use mathlib.Core.List.{List, []}
+use mathlib.Core.List.{List}
 use native.Mathlib.Omega.{arith}
 use lib.ListN.{length, getD, take, length-append}
 use Rattle.bits.specs.Tab.{length-tab, over, take-over}
 use Rattle.bits.specs.Word.{Bytes}
 use Rattle.refusal.specs.Chain.{refuse}
-use Rattle.algebra.specs.Expression.{Expression, Legal}
+use Rattle.algebra.specs.Expression.{Legal}
 use Rattle.expression.specs.declared.files.Acceptance.the-variants.{Accepted}
 use Rattle.expression.specs.ReadFile.{acceptance}
 use Rattle.expression.specs.Accepted.{accepted-file}
@@ -22,34 +22,32 @@ use Rattle.expression.specs.AdmissionLaws.{sliced-passes, asked-passes}
 use Rattle.formula.specs.Expressions.{expressionAt, expression-legal}
 use Rattle.formula.specs.Stored.{admitted}
 use Rattle.formula.specs.StoredLaws.{Admits, admitted-passes}
-use Rattle.type_record.specs.Record.{TypeRecord, recordSize, recordBytes}
-use Rattle.schema.specs.Schema.{recordsRead, readRecords, schemaBytes, recordsOf, entriesOf, mapsOf, schemaReading}
+use Rattle.type_record.specs.Record.{TypeRecord, recordSize}
+use Rattle.schema.specs.Schema.{recordsRead, readRecords, recordsOf, entriesOf, mapsOf, schemaReading}
 use Rattle.schema.specs.RecordsLaws.{schema-most}
 use Rattle.schema.specs.TableLaws.{ReadSchema, read-schema, read-entries}
 use Rattle.schema.specs.declared.reading.Schema.{Schema}
 use Rattle.instantiation.specs.Instantiation.{entriesIn, subsetsOf, listsOf, mapByte, instantiationBytes, instantiationReading}
 use Rattle.instantiation.specs.ReadLaws.{lists-read}
-use Rattle.instantiation.specs.TableLaws.{ReadInstantiation, instantiation-read, subsets-none}
+use Rattle.instantiation.specs.TableLaws.{ReadInstantiation, subsets-none}
 use Rattle.instantiation.specs.TableLaws as Instantiations
 use Rattle.instantiation.specs.declared.reading.Instantiation.{Instantiation}
-use Rattle.typing.specs.Output.{typedIn, outputMap, outputList}
+use Rattle.typing.specs.Output.{typedIn, outputList}
 use Rattle.typing.specs.Typing.{tableAnswer, tableOut, typingAnswer, typingOut}
 use Rattle.typing.specs.TypingLaws.{typing-records}
 use Rattle.typing.specs.declared.operation.Answer.the-variants.{Typed, Untyped as TypingUntyped}
 use Rattle.application.specs.Special.{mapsFrom, subsetsFrom}
 use Rattle.application.specs.SpecialLaws.{subsets-back}
 use Rattle.application.specs.Fits.{entriesFit, specialsFit, fits-typed}
-use Rattle.application.specs.Apply.{imageBytes, outputBytes, tableApplied, tableImage, tableOutput, readApplied, readImage, readOutput, applyAnswer, applySchema, applyOut}
+use Rattle.application.specs.Apply.{imageBytes, outputBytes, tableApplied, tableImage, tableOutput, applyAnswer, applySchema, applyOut}
 use Rattle.application.specs.ApplyLaws as Applying
-use Rattle.application.specs.Recover.{fits, recoveredBytes, tableRecovered, tableInstantiation, readRecovered, readInstantiation, recoverAnswer, recoverOut}
+use Rattle.application.specs.Recover.{fits, recoveredBytes, tableRecovered, tableInstantiation, recoverAnswer, recoverOut}
 use Rattle.application.specs.RecoverLaws as Recovering
 use Rattle.application.specs.Image.{IsTable, image-size, image-records, image-maps, image-entries}
 use Rattle.application.specs.Tables.{fits-same, held-entries}
 use Rattle.application.specs.ListZero.{list-zero}
 use Rattle.application.specs.RoundTrip.{applied-table, image-schema, recovered-same, recovered-table, written-instantiation, written-table, image-same}
-use Rattle.application.specs.declared.applying.Application.{Application}
 use Rattle.application.specs.declared.applying.Application.the-variants.{Applied}
-use Rattle.application.specs.declared.recovering.Recovery.{Recovery}
 use Rattle.application.specs.declared.recovering.Recovery.the-variants.{Recovered, Untyped}
 
 -- ---- Recover on a schema with these records

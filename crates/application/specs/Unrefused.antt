@@ -1,11 +1,10 @@
 -- Where Apply answers that it applied, nothing was refused: what there was to read, and that it fits.
-use Prim.Native.Nat.{ℕ, _*_, _≤_, _<_}
-use mathlib.Core.Path.{_≡_, refl, sym, ap, ap₂, _∙_}
+use Prim.Native.Nat.{ℕ}
+use mathlib.Core.Path.{_≡_, refl, sym, ap, _∙_}
 use mathlib.Core.Bool.{Bool, true, false, not}
 use mathlib.Core.List.{List}
 use native.Mathlib.Omega.{arith}
 use borrow.Author.Tests.{not-false}
-use lib.ListN.{length}
 use Rattle.refusal.specs.Chain.{refuse}
 use Rattle.refusal.specs.declared.Refusal.{Refusal}
 use Rattle.algebra.specs.Expression.{Expression}
@@ -16,8 +15,8 @@ use Rattle.formula.specs.Expressions.{expressionAt}
 use Rattle.formula.specs.Stored.{admitted}
 use Rattle.schema.specs.declared.reading.Judgement.{Judgement}
 use Rattle.schema.specs.declared.reading.Judgement.the-variants.{Read, Refused as ReadRefused}
-use Rattle.instantiation.specs.Instantiation.{entriesIn, subsetsOf, instantiationReading}
-use Rattle.instantiation.specs.TableLaws.{ReadInstantiation, instantiation-read, read-entries}
+use Rattle.instantiation.specs.Instantiation.{instantiationReading}
+use Rattle.instantiation.specs.TableLaws.{instantiation-read, read-entries}
 use Rattle.instantiation.specs.declared.reading.Instantiation.{Instantiation}
 use Rattle.typing.specs.Typing.{afterSchema}
 use Rattle.application.specs.Fits.{entriesFit, specialsFit}

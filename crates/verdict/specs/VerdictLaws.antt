@@ -20,7 +20,7 @@ use Rattle.formula.specs.Filling.{filled-column}
 use Rattle.verdict.specs.Lowest.{subsetsIn}
 use Rattle.verdict.specs.LowestLaws.{subsets-same}
 use Rattle.verdict.specs.Witness.{recordByte}
-use Rattle.verdict.specs.Verdict.{subsetIn, blockedIn, judged, judgement, witnessOver, judgedSchema, verdictAnswer, verdictSpace, verdictSchema}
+use Rattle.verdict.specs.Verdict.{subsetIn, blockedIn, judgement, witnessOver, judgedSchema, verdictAnswer, verdictSpace, verdictSchema}
 use Rattle.verdict.specs.declared.operation.Outcome.{Outcome}
 use Rattle.verdict.specs.declared.operation.Outcome.the-variants.{Typable, Untypable, Refused}
 

@@ -1,4 +1,4 @@
-use mathlib.Core.Path.{sym, _∙_}
+use mathlib.Core.Path.{sym}
 use Rattle.formula.specs.StoredLaws.{spaced-refused, spaced-stops, spaced-passes}
 use borrow.Author.Needs.{needs}
 use Rattle.formula.proofs.operation.with_space.Statement.{statement}
