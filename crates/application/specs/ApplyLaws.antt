@@ -1,12 +1,12 @@
 -- Laws of Apply: what the code finds is what the definitions say, the results after each refusal, and after none.
-use Prim.Native.Nat.{ℕ, _+_, _*_, _%_, _≤_, _<_}
+use Prim.Native.Nat.{ℕ, _+_, _*_, _≤_, _<_}
 use mathlib.Core.Path.{_≡_, refl, sym, ap, ap₂, _∙_}
-use mathlib.Core.Bool.{Bool, true, false, not}
-use mathlib.Core.List.{List, []}
+use mathlib.Core.Bool.{Bool, true, false}
+use mathlib.Core.List.{List}
 use native.Mathlib.Omega.{arith}
 use lib.ListN.{length, getD, take}
 use lib.Seq.{length-take-le, getD-take}
-use Rattle.bits.specs.AllBelow.{allBelow}
+use Rattle.bits.specs.AllBelow.{allBelow, all-same}
 use Rattle.bits.specs.Tab.{over}
 use Rattle.bits.specs.Word.{Bytes}
 use Rattle.refusal.specs.Chain.{refuse}
@@ -16,7 +16,6 @@ use Rattle.expression.specs.declared.files.Acceptance.the-variants.{Accepted, R
 use Rattle.expression.specs.Admission.{sliced}
 use Rattle.expression.specs.AdmissionLaws.{sliced-passed}
 use Rattle.algebra.specs.Expression.{Expression, Legal}
-use Rattle.formula.specs.Column.{allowedIn}
 use Rattle.formula.specs.Expressions.{expressionAt}
 use Rattle.formula.specs.Storage.{columnAt}
 use Rattle.formula.specs.Stored.{cellColumn, formulasOf, admitted}
@@ -24,7 +23,7 @@ use Rattle.formula.specs.StoredLaws.{stored-column, Admits, admitted-passed}
 use Rattle.type_record.specs.Record.{recordSize, recordBytes}
 use Rattle.membership.specs.Entries.{subsetOf}
 use Rattle.membership.specs.TableLaws.{table-count, is-table}
-use Rattle.schema.specs.Schema.{schemaBytes, recordsOf, WritesFrom}
+use Rattle.schema.specs.Schema.{schemaBytes, recordsOf}
 use Rattle.schema.specs.declared.reading.Judgement.the-variants.{Read, Refused as ReadRefused}
 use Rattle.instantiation.specs.Instantiation.{entriesIn, instantiationReading}
 use Rattle.instantiation.specs.ReadLaws.{lists-read}
@@ -32,14 +31,14 @@ use Rattle.instantiation.specs.EntriesLaws.{entries-below}
 use Rattle.instantiation.specs.TableLaws.{ReadInstantiation, instantiation-read, read-zeros, subsets-size, subsets-none, subsets-small}
 use Rattle.instantiation.specs.declared.reading.Instantiation.{Instantiation}
 use Rattle.typing.specs.Output.{typedIn, outputMap, outputList}
-use Rattle.typing.specs.Typing.{typedAnswer, tableAnswer, typedOut, tableOut, afterSchema}
+use Rattle.typing.specs.Typing.{tableAnswer, tableOut}
 use Rattle.typing.specs.TypingLaws.{ReadTable}
 use Rattle.typing.specs.declared.operation.Answer.{Answer}
 use Rattle.typing.specs.declared.operation.Answer.the-variants.{Typed, Untyped, Refused as TypingRefused}
 use Rattle.application.specs.Special.{mapsFrom}
 use Rattle.application.specs.SpecialLaws.{maps-length, maps-even}
 use Rattle.application.specs.Fitting.{variableIn, entriesAllowed, specialsAllowed}
-use Rattle.application.specs.Fits.{entriesFit, specialsFit, all-same, entries-stored, specials-stored, fits-typed}
+use Rattle.application.specs.Fits.{entriesFit, specialsFit, entries-stored, specials-stored, fits-typed}
 use Rattle.application.specs.Apply.{tableApplied, tableImage, tableOutput, entriesOf, readApplied, readImage, readOutput, readSpace, applyAnswer, applySpace, applySchema, applyOut}
 use Rattle.application.specs.declared.applying.Application.{Application}
 use Rattle.application.specs.declared.applying.Application.the-variants.{Applied, Refused}
