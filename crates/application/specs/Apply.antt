@@ -1,19 +1,16 @@
 -- Apply: "takes an instantiation and writes schema and output record" (document 01).
-use Prim.Native.Nat.{ℕ, _*_}
-use mathlib.Core.Bool.{Bool, true, false, not}
+use Prim.Native.Nat.{ℕ}
+use mathlib.Core.Bool.{not}
 use mathlib.Core.List.{List}
-use lib.Dec.{ltb, leb}
 use lib.ListN.{length, take}
 use Rattle.bits.specs.Tab.{over}
 use Rattle.refusal.specs.Chain.{refuse}
 use Rattle.refusal.specs.declared.Refusal.{Refusal}
-use Rattle.refusal.specs.declared.Refusal.the-variants.{NodeNumber, WorkSpace, ResultSlice, TypeVariable, SpecialSubset}
-use Rattle.expression.specs.declared.files.Acceptance.{Acceptance}
-use Rattle.expression.specs.declared.files.Acceptance.the-variants.{Accepted, Refused as FileRefused}
-use Rattle.expression.specs.ReadFile.{acceptance}
+use Rattle.refusal.specs.declared.Refusal.the-variants.{TypeVariable, SpecialSubset}
+use Rattle.expression.specs.Admission.{after, sliced}
 use Rattle.algebra.specs.Expression.{Expression}
 use Rattle.formula.specs.Expressions.{expressionAt}
-use Rattle.formula.specs.Stored.{formulasOf}
+use Rattle.formula.specs.Stored.{formulasOf, admitted}
 use Rattle.type_record.specs.Record.{recordSize, recordBytes}
 use Rattle.schema.specs.Schema.{schemaBytes, recordsOf}
 use Rattle.schema.specs.declared.reading.Judgement.{Judgement}
@@ -65,33 +62,23 @@ readOutput m e i out = afterSchema (i .judgement) (λ r. out) (tableOutput m e (
 unfoldable pub readSpace : List ℕ → ℕ → ℕ → Judgement → List ℕ → List ℕ
 readSpace file m n judgement work = afterSchema judgement (λ r. work) (over (formulasOf file m n) work)
 
--- ---- the operation
-
--- "10, 11, 12, 13": the refusal, or what comes with m relations and n nodes; the schema slice and the output slice have so many bytes
-abbrev pub afterFile : {A : Type 0} → Acceptance → ℕ → ℕ → ℕ → ℕ → (Refusal → A) → (ℕ → ℕ → A) → A
-afterFile (FileRefused r) k space size outSize stop go = stop r
-afterFile (Accepted m n) k space size outSize stop go =
-    refuse stop (leb n k) NodeNumber
-    (refuse stop (ltb space (n * 1024)) WorkSpace
-    (refuse stop (ltb size 4104) ResultSlice
-    (refuse stop (ltb outSize 513) ResultSlice
-    (go m n))))
+-- ---- the operation: "10, 11, 12, 13", of the schema slice and then of the output slice; and then the instantiation
 
 unfoldable pub applyAnswer : List ℕ → ℕ → List ℕ → ℕ → ℕ → ℕ → Application
 applyAnswer file k bytes space size outSize =
-    afterFile (acceptance file) k space size outSize Refused (λ m n. readApplied m (expressionAt file k) (instantiationReading bytes))
+    after (sliced (sliced (admitted file k space) size 4104) outSize 513) Refused (λ m n. readApplied m (expressionAt file k) (instantiationReading bytes))
 
 -- the work space afterwards
 unfoldable pub applySpace : List ℕ → ℕ → List ℕ → List ℕ → ℕ → ℕ → List ℕ
 applySpace file k bytes work size outSize =
-    afterFile (acceptance file) k (length work) size outSize (λ r. work) (λ m n. readSpace file m n (instantiationReading bytes .judgement) work)
+    after (sliced (sliced (admitted file k (length work)) size 4104) outSize 513) (λ r. work) (λ m n. readSpace file m n (instantiationReading bytes .judgement) work)
 
 -- the schema slice afterwards
 unfoldable pub applySchema : List ℕ → ℕ → List ℕ → ℕ → List ℕ → ℕ → List ℕ
 applySchema file k bytes space schema outSize =
-    afterFile (acceptance file) k space (length schema) outSize (λ r. schema) (λ m n. readImage m (expressionAt file k) (instantiationReading bytes) schema)
+    after (sliced (sliced (admitted file k space) (length schema) 4104) outSize 513) (λ r. schema) (λ m n. readImage m (expressionAt file k) (instantiationReading bytes) schema)
 
 -- the output slice afterwards
 unfoldable pub applyOut : List ℕ → ℕ → List ℕ → ℕ → ℕ → List ℕ → List ℕ
 applyOut file k bytes space size out =
-    afterFile (acceptance file) k space size (length out) (λ r. out) (λ m n. readOutput m (expressionAt file k) (instantiationReading bytes) out)
+    after (sliced (sliced (admitted file k space) size 4104) (length out) 513) (λ r. out) (λ m n. readOutput m (expressionAt file k) (instantiationReading bytes) out)

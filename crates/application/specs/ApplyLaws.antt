@@ -1,31 +1,29 @@
 -- Laws of Apply: what the code finds is what the definitions say, the results after each refusal, and after none.
-use Prim.Native.Nat.{ℕ, _+_, _*_, _%_, _≤_, _<_}
+use Prim.Native.Nat.{ℕ, _+_, _*_, _≤_, _<_}
 use mathlib.Core.Path.{_≡_, refl, sym, ap, ap₂, _∙_}
-use mathlib.Core.Bool.{Bool, true, false, not}
-use mathlib.Core.List.{List, []}
+use mathlib.Core.Bool.{Bool, true, false}
+use mathlib.Core.List.{List}
 use native.Mathlib.Omega.{arith}
-use borrow.Author.Tests.{lt-ltb, le-ltb, le-leb, lt-leb}
 use lib.ListN.{length, getD, take}
 use lib.Seq.{length-take-le, getD-take}
-use Rattle.bits.specs.AllBelow.{allBelow}
+use Rattle.bits.specs.AllBelow.{allBelow, all-same}
 use Rattle.bits.specs.Tab.{over}
 use Rattle.bits.specs.Word.{Bytes}
 use Rattle.refusal.specs.Chain.{refuse}
 use Rattle.refusal.specs.declared.Refusal.{Refusal}
-use Rattle.refusal.specs.declared.Refusal.the-variants.{NodeNumber, WorkSpace, ResultSlice, TypeVariable, SpecialSubset}
-use Rattle.expression.specs.declared.files.Acceptance.{Acceptance}
+use Rattle.refusal.specs.declared.Refusal.the-variants.{TypeVariable, SpecialSubset}
 use Rattle.expression.specs.declared.files.Acceptance.the-variants.{Accepted, Refused as FileRefused}
-use Rattle.expression.specs.ReadFile.{acceptance}
+use Rattle.expression.specs.Admission.{sliced}
+use Rattle.expression.specs.AdmissionLaws.{sliced-passed}
 use Rattle.algebra.specs.Expression.{Expression, Legal}
-use Rattle.formula.specs.Column.{allowedIn}
 use Rattle.formula.specs.Expressions.{expressionAt}
 use Rattle.formula.specs.Storage.{columnAt}
-use Rattle.formula.specs.Stored.{cellColumn, formulasOf}
-use Rattle.formula.specs.StoredLaws.{stored-column}
+use Rattle.formula.specs.Stored.{cellColumn, formulasOf, admitted}
+use Rattle.formula.specs.StoredLaws.{stored-column, Admits, admitted-passed}
 use Rattle.type_record.specs.Record.{recordSize, recordBytes}
 use Rattle.membership.specs.Entries.{subsetOf}
 use Rattle.membership.specs.TableLaws.{table-count, is-table}
-use Rattle.schema.specs.Schema.{schemaBytes, recordsOf, WritesFrom}
+use Rattle.schema.specs.Schema.{schemaBytes, recordsOf}
 use Rattle.schema.specs.declared.reading.Judgement.the-variants.{Read, Refused as ReadRefused}
 use Rattle.instantiation.specs.Instantiation.{entriesIn, instantiationReading}
 use Rattle.instantiation.specs.ReadLaws.{lists-read}
@@ -33,15 +31,15 @@ use Rattle.instantiation.specs.EntriesLaws.{entries-below}
 use Rattle.instantiation.specs.TableLaws.{ReadInstantiation, instantiation-read, read-zeros, subsets-size, subsets-none, subsets-small}
 use Rattle.instantiation.specs.declared.reading.Instantiation.{Instantiation}
 use Rattle.typing.specs.Output.{typedIn, outputMap, outputList}
-use Rattle.typing.specs.Typing.{typedAnswer, tableAnswer, typedOut, tableOut, afterSchema}
+use Rattle.typing.specs.Typing.{tableAnswer, tableOut}
 use Rattle.typing.specs.TypingLaws.{ReadTable}
 use Rattle.typing.specs.declared.operation.Answer.{Answer}
 use Rattle.typing.specs.declared.operation.Answer.the-variants.{Typed, Untyped, Refused as TypingRefused}
 use Rattle.application.specs.Special.{mapsFrom}
 use Rattle.application.specs.SpecialLaws.{maps-length, maps-even}
 use Rattle.application.specs.Fitting.{variableIn, entriesAllowed, specialsAllowed}
-use Rattle.application.specs.Fits.{entriesFit, specialsFit, all-same, entries-stored, specials-stored, fits-typed}
-use Rattle.application.specs.Apply.{tableApplied, tableImage, tableOutput, entriesOf, readApplied, readImage, readOutput, readSpace, afterFile, applyAnswer, applySpace, applySchema, applyOut}
+use Rattle.application.specs.Fits.{entriesFit, specialsFit, entries-stored, specials-stored, fits-typed}
+use Rattle.application.specs.Apply.{tableApplied, tableImage, tableOutput, entriesOf, readApplied, readImage, readOutput, readSpace, applyAnswer, applySpace, applySchema, applyOut}
 use Rattle.application.specs.declared.applying.Application.{Application}
 use Rattle.application.specs.declared.applying.Application.the-variants.{Applied, Refused}
 
@@ -177,36 +175,14 @@ module _ (file : List ℕ) (m n : ℕ) (e : Expression) (i : Instantiation) (wor
   unfolding readApplied readSpace readImage readOutput
   read-goes is a filled image written space applied imaged wrote = rw is (applied, (space, (imaged, wrote)))
 
--- ---- the order of the refusals
+-- ---- the answer, the work space and the two slices
 
--- refusal r is the first that applies before the instantiation is read
-pub data Stops (a : Acceptance) (k space size outSize : ℕ) : Refusal → Type 0 where
-  byFile : {r : Refusal} → a ≡ FileRefused r → Stops a k space size outSize r
-  byNode : {m n : ℕ} → a ≡ Accepted m n → n ≤ k → Stops a k space size outSize NodeNumber
-  bySpace : {m n : ℕ} → a ≡ Accepted m n → k < n → space < n * 1024 → Stops a k space size outSize WorkSpace
-  bySchema : {m n : ℕ} → a ≡ Accepted m n → k < n → n * 1024 ≤ space → size < 4104 → Stops a k space size outSize ResultSlice
-  byOutput : {m n : ℕ} → a ≡ Accepted m n → k < n → n * 1024 ≤ space → 4104 ≤ size → outSize < 513 → Stops a k space size outSize ResultSlice
-
--- none applies
-pub record Goes (a : Acceptance) (k space size outSize m n : ℕ) : Type 0 where
-  pub accepted : a ≡ Accepted m n
-  pub node : k < n
-  pub workSpace : n * 1024 ≤ space
-  pub schema : 4104 ≤ size
-  pub output : 513 ≤ outSize
-
-module _ {A : Type 0} (stop : Refusal → A) (go : ℕ → ℕ → A) (a : Acceptance) (k space size outSize : ℕ) where
-  stopped : (r : Refusal) → Stops a k space size outSize r → afterFile a k space size outSize stop go ≡ stop r
-  unfolding refuse
-  stopped r (byFile e) = rw e
-  stopped r (byNode {m} {n} e h) = rw (e, le-leb n k h)
-  stopped r (bySpace {m} {n} e h s) = rw (e, lt-leb n k h, lt-ltb space (n * 1024) s)
-  stopped r (bySchema {m} {n} e h s t) = rw (e, lt-leb n k h, le-ltb space (n * 1024) s, lt-ltb size 4104 t)
-  stopped r (byOutput {m} {n} e h s t u) = rw (e, lt-leb n k h, le-ltb space (n * 1024) s, le-ltb size 4104 t, lt-ltb outSize 513 u)
-
-  gone : (m n : ℕ) → Goes a k space size outSize m n → afterFile a k space size outSize stop go ≡ go m n
-  unfolding refuse
-  gone m n g = rw (g .accepted, lt-leb n k (g .node), le-ltb space (n * 1024) (g .workSpace), le-ltb size 4104 (g .schema), le-ltb outSize 513 (g .output))
+-- where none of 1 to 13 applies: the node and the work space, and the two slices
+pub apply-passed : (file : List ℕ) (k space size outSize : ℕ) {m n : ℕ} → sliced (sliced (admitted file k space) size 4104) outSize 513 ≡ Accepted m n → Admits file k space m n × (4104 ≤ size) × (513 ≤ outSize)
+apply-passed file k space size outSize e =
+    let output = sliced-passed (sliced (admitted file k space) size 4104) outSize 513 e in
+    let schema = sliced-passed (admitted file k space) size 4104 (output .0) in
+    (admitted-passed file k space (schema .0), schema .1, output .1)
 
 module _ (file : List ℕ) (k : ℕ) (bytes work schema out : List ℕ) where
   abbrev Results : Application → List ℕ → List ℕ → List ℕ → Type 0
@@ -216,28 +192,10 @@ module _ (file : List ℕ) (k : ℕ) (bytes work schema out : List ℕ) where
       × ((image ≡ applySchema file k bytes (length work) schema (length out))
       × (written ≡ applyOut file k bytes (length work) (length schema) out)))
 
-  pub apply-stops : (r : Refusal) → Stops (acceptance file) k (length work) (length schema) (length out) r → Results (Refused r) work schema out
+  pub apply-stops : (r : Refusal) → sliced (sliced (admitted file k (length work)) (length schema) 4104) (length out) 513 ≡ FileRefused r → Results (Refused r) work schema out
   unfolding applyAnswer applySpace applySchema applyOut
-  apply-stops r s = (
-    sym (stopped Refused (λ m n. readApplied m (expressionAt file k) (instantiationReading bytes)) (acceptance file) k (length work) (length schema) (length out) r s),
-    (
-      sym (stopped (λ r. work) (λ m n. readSpace file m n (instantiationReading bytes .judgement) work) (acceptance file) k (length work) (length schema) (length out) r s),
-      (
-        sym (stopped (λ r. schema) (λ m n. readImage m (expressionAt file k) (instantiationReading bytes) schema) (acceptance file) k (length work) (length schema) (length out) r s),
-        sym (stopped (λ r. out) (λ m n. readOutput m (expressionAt file k) (instantiationReading bytes) out) (acceptance file) k (length work) (length schema) (length out) r s),
-      ),
-    ),
-  )
+  apply-stops r e = rw e (refl, (refl, (refl, refl)))
 
-  pub apply-goes : (m n : ℕ) → Goes (acceptance file) k (length work) (length schema) (length out) m n → (a : Application) (filled image written : List ℕ) → a ≡ readApplied m (expressionAt file k) (instantiationReading bytes) → filled ≡ readSpace file m n (instantiationReading bytes .judgement) work → image ≡ readImage m (expressionAt file k) (instantiationReading bytes) schema → written ≡ readOutput m (expressionAt file k) (instantiationReading bytes) out → Results a filled image written
+  pub apply-goes : (m n : ℕ) → sliced (sliced (admitted file k (length work)) (length schema) 4104) (length out) 513 ≡ Accepted m n → (a : Application) (filled image written : List ℕ) → a ≡ readApplied m (expressionAt file k) (instantiationReading bytes) → filled ≡ readSpace file m n (instantiationReading bytes .judgement) work → image ≡ readImage m (expressionAt file k) (instantiationReading bytes) schema → written ≡ readOutput m (expressionAt file k) (instantiationReading bytes) out → Results a filled image written
   unfolding applyAnswer applySpace applySchema applyOut
-  apply-goes m n g a filled image written answered space imaged wrote = (
-    answered ∙ sym (gone Refused (λ m n. readApplied m (expressionAt file k) (instantiationReading bytes)) (acceptance file) k (length work) (length schema) (length out) m n g),
-    (
-      space ∙ sym (gone (λ r. work) (λ m n. readSpace file m n (instantiationReading bytes .judgement) work) (acceptance file) k (length work) (length schema) (length out) m n g),
-      (
-        imaged ∙ sym (gone (λ r. schema) (λ m n. readImage m (expressionAt file k) (instantiationReading bytes) schema) (acceptance file) k (length work) (length schema) (length out) m n g),
-        wrote ∙ sym (gone (λ r. out) (λ m n. readOutput m (expressionAt file k) (instantiationReading bytes) out) (acceptance file) k (length work) (length schema) (length out) m n g),
-      ),
-    ),
-  )
+  apply-goes m n e a filled image written answered space imaged wrote = rw e (answered, (space, (imaged, wrote)))

@@ -1,7 +1,7 @@
 -- Apply, and then Recover on the schema just written: the same instantiation, byte by byte, where nothing is refused.
-use Prim.Native.Nat.{ℕ, _*_, _≤_, _<_}
-use mathlib.Core.Path.{_≡_, refl, sym, ap, ap₂, _∙_}
-use mathlib.Core.Bool.{Bool, true, false, cond}
+use Prim.Native.Nat.{ℕ, _≤_, _<_}
+use mathlib.Core.Path.{_≡_, refl, sym, ap₂, _∙_}
+use mathlib.Core.Bool.{cond}
 use mathlib.Core.List.{List}
 use native.Mathlib.Omega.{arith}
 use borrow.Author.Tests.{lt-ltb, le-ltb}
@@ -13,7 +13,7 @@ use Rattle.refusal.specs.declared.Refusal.{Refusal}
 use Rattle.refusal.specs.declared.Refusal.the-variants.{ResultSlice}
 use Rattle.application.specs.Apply.{applyAnswer, applySpace, applySchema, applyOut}
 use Rattle.application.specs.Recover.{recoverAnswer, recoverSpace, recoverOut}
-use Rattle.application.specs.Theorems.{apply-size, apply-fits, apply-recover}
+use Rattle.application.specs.Theorems.{applies-admits, apply-size, apply-fits, apply-recover}
 use Rattle.application.specs.Unrefused.{applied-applies}
 use Rattle.application.specs.declared.applying.Application.{Application}
 use Rattle.application.specs.declared.applying.Application.the-variants.{Applied, Refused as ApplyRefused}
@@ -81,7 +81,7 @@ module _ (file : List ℕ) (k : ℕ) (bytes work schema out recovered : List ℕ
       let found = applied-applies file k bytes (length work) (length schema) (length out) size width (sym said) in
       let applies = found .1 .1 .1 in
       let sizes = apply-size file k bytes work schema out (found .0) (found .1 .0) (found .1 .1 .0) applies size width (sym said) in
-      let enough = applies .goes .workSpace in
+      let enough = applies-admits applies .workSpace in
       let results = apply-recover file k bytes work schema out (found .0) (found .1 .0) (found .1 .1 .0) below applies filled recovered (omega arith) h in
       rw (le-ltb (length recovered) 812 h, ← said) (
         answered ∙ ap₂ (λ (n : ℕ) (x : List ℕ). recoverAnswer file k (take n x) (length filled) (length recovered)) sizes image-is ∙ results .0,

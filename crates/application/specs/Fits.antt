@@ -1,19 +1,18 @@
 -- A table that fits a node: "Each subset must be allowed in its column and each standing bit a type variable." (document 01). A list that is not empty stands for each standing bit, so the subsets of the entries are the standing bits.
-use Prim.Native.Nat.{ℕ, zero, suc, _+_, _*_, _^_, _≤_, _<_}
-use mathlib.Core.Path.{_≡_, refl, sym, ap, ap₂, fun-ext, _∙_}
+use Prim.Native.Nat.{ℕ, zero, suc, _+_, _^_, _≤_, _<_}
+use mathlib.Core.Path.{_≡_, refl, sym, ap, fun-ext, _∙_}
 use mathlib.Core.Bool.{Bool, true, false, _&&_, and-eq-true-iff}
 use mathlib.Core.List.{List}
 use native.Mathlib.Nat.{lt-of-lt-of-le, mod-lt}
 use native.Mathlib.Omega.{arith}
-use borrow.Author.Tests.{lt-ltb, ltb-true}
 use lib.Dec.{ltb, lit<}
 use lib.ListN.{length, getD}
-use Rattle.bits.specs.AllBelow.{allBelow, in-all, all-in}
+use Rattle.bits.specs.AllBelow.{allBelow, in-all, all-in, all-same}
 use Rattle.bits.specs.Bit.{bit, bit-none}
 use Rattle.bits.specs.Pack.{bit-pack}
-use Rattle.bits.specs.Tab.{tab, getD-tab}
+use Rattle.bits.specs.Tab.{getD-tab}
 use Rattle.algebra.specs.Expression.{Expression, Legal}
-use Rattle.algebra.specs.Cell.{plain, out, ok}
+use Rattle.algebra.specs.Cell.{plain, ok}
 use Rattle.algebra.specs.CellLaws.{cell-depends, cell-none}
 use Rattle.formula.specs.Column.{allowedIn}
 use Rattle.formula.specs.Storage.{columnAt}
@@ -23,7 +22,7 @@ use Rattle.membership.specs.Entries.{subsetOf}
 use Rattle.typing.specs.Output.{specialHolders, typedIn}
 use Rattle.typing.specs.OutputRecord.{entry-cell}
 use Rattle.application.specs.Special.{mapOf, mapsFrom}
-use Rattle.application.specs.Fitting.{variableIn, entriesAllowed, specialsAllowed}
+use Rattle.application.specs.Fitting.{entriesAllowed, specialsAllowed}
 
 -- "The type variables are the s above 0 allowed in column 0."
 abbrev pub variable : ℕ → Expression → ℕ → Bool
@@ -36,10 +35,6 @@ unfoldable pub specialsFit : ℕ → Expression → List ℕ → Bool
 specialsFit m e subsets = allBelow 15 (λ i. allowedBit m e (i + 1) (getD subsets (i + 1) 0))
 
 -- ---- as the work space says
-
-pub all-same : (n : ℕ) (f g : ℕ → Bool) → ((i : ℕ) → i < n → f i ≡ g i) → allBelow n f ≡ allBelow n g
-all-same zero f g e = refl
-all-same (suc n) f g e = ap₂ _&&_ (e n (omega arith)) (all-same n f g (λ i h. e i (omega arith)))
 
 -- a work space that holds the columns of e at node k
 module _ (work : List ℕ) (k m : ℕ) (e : Expression) (columns : (c : ℕ) → c < 16 → columnAt work k c ≡ cellColumn m e c) where

@@ -15,4 +15,3 @@ pub mod Theorems
 pub mod Unrefused
 pub mod Link
 pub mod Composed
-pub mod LinkBytes

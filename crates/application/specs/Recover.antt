@@ -1,18 +1,13 @@
 -- Recover: "takes a schema and writes its instantiation, or says untyped" (document 01).
-use Prim.Native.Nat.{ℕ, _*_}
+use Prim.Native.Nat.{ℕ}
 use mathlib.Core.Bool.{Bool, true, false, _&&_}
 use mathlib.Core.List.{List}
-use lib.Dec.{ltb, leb}
 use lib.ListN.{length, take}
 use Rattle.bits.specs.Tab.{over}
-use Rattle.refusal.specs.Chain.{refuse}
-use Rattle.refusal.specs.declared.Refusal.{Refusal}
-use Rattle.refusal.specs.declared.Refusal.the-variants.{NodeNumber, WorkSpace, ResultSlice}
-use Rattle.expression.specs.declared.files.Acceptance.{Acceptance}
-use Rattle.expression.specs.declared.files.Acceptance.the-variants.{Accepted, Refused as FileRefused}
-use Rattle.expression.specs.ReadFile.{acceptance}
+use Rattle.expression.specs.Admission.{after, sliced}
 use Rattle.algebra.specs.Expression.{Expression}
 use Rattle.formula.specs.Expressions.{expressionAt}
+use Rattle.formula.specs.Stored.{admitted}
 use Rattle.schema.specs.Schema.{schemaReading}
 use Rattle.schema.specs.declared.reading.Schema.{Schema}
 use Rattle.instantiation.specs.Instantiation.{listsOf, instantiationBytes}
@@ -57,27 +52,18 @@ readRecovered m e s = afterSchema (s .judgement) Refused (tableRecovered m e (s 
 unfoldable pub readInstantiation : ℕ → Expression → Schema → List ℕ → List ℕ
 readInstantiation m e s out = afterSchema (s .judgement) (λ r. out) (tableInstantiation m e (s .special) (entriesOf s) out)
 
--- ---- the operation
-
--- "10, 11, 12, 13": the refusal, or what comes with m relations and n nodes; the instantiation slice has so many bytes
-abbrev pub afterFile : {A : Type 0} → Acceptance → ℕ → ℕ → ℕ → (Refusal → A) → (ℕ → ℕ → A) → A
-afterFile (FileRefused r) k space size stop go = stop r
-afterFile (Accepted m n) k space size stop go =
-    refuse stop (leb n k) NodeNumber
-    (refuse stop (ltb space (n * 1024)) WorkSpace
-    (refuse stop (ltb size 812) ResultSlice
-    (go m n)))
+-- ---- the operation: "10, 11, 12, 13", of the instantiation slice; and then the schema
 
 unfoldable pub recoverAnswer : List ℕ → ℕ → List ℕ → ℕ → ℕ → Recovery
 recoverAnswer file k bytes space size =
-    afterFile (acceptance file) k space size Refused (λ m n. readRecovered m (expressionAt file k) (schemaReading m bytes))
+    after (sliced (admitted file k space) size 812) Refused (λ m n. readRecovered m (expressionAt file k) (schemaReading m bytes))
 
 -- the work space afterwards: after untyped it holds the formulas too
 unfoldable pub recoverSpace : List ℕ → ℕ → List ℕ → List ℕ → ℕ → List ℕ
 recoverSpace file k bytes work size =
-    afterFile (acceptance file) k (length work) size (λ r. work) (λ m n. readSpace file m n (schemaReading m bytes .judgement) work)
+    after (sliced (admitted file k (length work)) size 812) (λ r. work) (λ m n. readSpace file m n (schemaReading m bytes .judgement) work)
 
 -- the instantiation slice afterwards
 unfoldable pub recoverOut : List ℕ → ℕ → List ℕ → ℕ → List ℕ → List ℕ
 recoverOut file k bytes space out =
-    afterFile (acceptance file) k space (length out) (λ r. out) (λ m n. readInstantiation m (expressionAt file k) (schemaReading m bytes) out)
+    after (sliced (admitted file k space) (length out) 812) (λ r. out) (λ m n. readInstantiation m (expressionAt file k) (schemaReading m bytes) out)

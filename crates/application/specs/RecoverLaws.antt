@@ -1,24 +1,19 @@
 -- Laws of Recover: what the code finds is what the definitions say, the results after each refusal, and after none.
-use Prim.Native.Nat.{ℕ, _*_, _≤_, _<_}
+use Prim.Native.Nat.{ℕ}
 use mathlib.Core.Path.{_≡_, refl, sym, ap, ap₂, _∙_}
 use mathlib.Core.Bool.{Bool, true, false, _&&_, and-false}
 use mathlib.Core.List.{List}
-use borrow.Author.Tests.{lt-ltb, le-ltb, le-leb, lt-leb}
 use lib.ListN.{length, getD, take}
-use lib.Seq.{length-take-le, getD-take}
 use native.Mathlib.Omega.{arith}
 use Rattle.bits.specs.AllBelow.{allBelow}
 use Rattle.bits.specs.Tab.{over}
-use Rattle.refusal.specs.Chain.{refuse}
 use Rattle.refusal.specs.declared.Refusal.{Refusal}
-use Rattle.refusal.specs.declared.Refusal.the-variants.{NodeNumber, WorkSpace, ResultSlice}
-use Rattle.expression.specs.declared.files.Acceptance.{Acceptance}
 use Rattle.expression.specs.declared.files.Acceptance.the-variants.{Accepted, Refused as FileRefused}
-use Rattle.expression.specs.ReadFile.{acceptance}
+use Rattle.expression.specs.Admission.{sliced}
 use Rattle.algebra.specs.Expression.{Expression}
 use Rattle.formula.specs.Expressions.{expressionAt}
 use Rattle.formula.specs.Storage.{columnAt}
-use Rattle.formula.specs.Stored.{formulasOf}
+use Rattle.formula.specs.Stored.{formulasOf, admitted}
 use Rattle.membership.specs.Entries.{subsetOf}
 use Rattle.schema.specs.Schema.{schemaReading}
 use Rattle.schema.specs.declared.reading.Judgement.the-variants.{Read, Refused as ReadRefused}
@@ -31,7 +26,7 @@ use Rattle.application.specs.Fitting.{variableIn, specialsAllowed}
 use Rattle.application.specs.Fits.{entriesFit, specialsFit, specials-stored}
 use Rattle.application.specs.Apply.{readSpace}
 use Rattle.application.specs.ApplyLaws.{Filled, entries-tested}
-use Rattle.application.specs.Recover.{fits, tableRecovered, tableInstantiation, entriesOf, readRecovered, readInstantiation, afterFile, recoverAnswer, recoverSpace, recoverOut}
+use Rattle.application.specs.Recover.{fits, tableRecovered, tableInstantiation, entriesOf, readRecovered, readInstantiation, recoverAnswer, recoverSpace, recoverOut}
 use Rattle.application.specs.declared.recovering.Recovery.{Recovery}
 use Rattle.application.specs.declared.recovering.Recovery.the-variants.{Recovered, Untyped, Refused}
 
@@ -81,33 +76,7 @@ module _ (file : List ℕ) (m n : ℕ) (e : Expression) (s : Schema) (work out :
   unfolding readRecovered readSpace readInstantiation
   read-goes is a filled written space answered wrote = rw is (answered, (space, wrote))
 
--- ---- the order of the refusals
-
--- refusal r is the first that applies before the schema is read
-pub data Stops (a : Acceptance) (k space size : ℕ) : Refusal → Type 0 where
-  byFile : {r : Refusal} → a ≡ FileRefused r → Stops a k space size r
-  byNode : {m n : ℕ} → a ≡ Accepted m n → n ≤ k → Stops a k space size NodeNumber
-  bySpace : {m n : ℕ} → a ≡ Accepted m n → k < n → space < n * 1024 → Stops a k space size WorkSpace
-  bySlice : {m n : ℕ} → a ≡ Accepted m n → k < n → n * 1024 ≤ space → size < 812 → Stops a k space size ResultSlice
-
--- none applies
-pub record Goes (a : Acceptance) (k space size m n : ℕ) : Type 0 where
-  pub accepted : a ≡ Accepted m n
-  pub node : k < n
-  pub workSpace : n * 1024 ≤ space
-  pub slice : 812 ≤ size
-
-module _ {A : Type 0} (stop : Refusal → A) (go : ℕ → ℕ → A) (a : Acceptance) (k space size : ℕ) where
-  stopped : (r : Refusal) → Stops a k space size r → afterFile a k space size stop go ≡ stop r
-  unfolding refuse
-  stopped r (byFile e) = rw e
-  stopped r (byNode {m} {n} e h) = rw (e, le-leb n k h)
-  stopped r (bySpace {m} {n} e h s) = rw (e, lt-leb n k h, lt-ltb space (n * 1024) s)
-  stopped r (bySlice {m} {n} e h s t) = rw (e, lt-leb n k h, le-ltb space (n * 1024) s, lt-ltb size 812 t)
-
-  gone : (m n : ℕ) → Goes a k space size m n → afterFile a k space size stop go ≡ go m n
-  unfolding refuse
-  gone m n g = rw (g .accepted, lt-leb n k (g .node), le-ltb space (n * 1024) (g .workSpace), le-ltb size 812 (g .slice))
+-- ---- the answer, the work space and the instantiation slice
 
 module _ (file : List ℕ) (k : ℕ) (bytes work out : List ℕ) where
   abbrev Answers : Recovery → List ℕ → List ℕ → Type 0
@@ -116,22 +85,10 @@ module _ (file : List ℕ) (k : ℕ) (bytes work out : List ℕ) where
       × ((filled ≡ recoverSpace file k bytes work (length out))
       × (written ≡ recoverOut file k bytes (length work) out))
 
-  pub recover-stops : (r : Refusal) → Stops (acceptance file) k (length work) (length out) r → Answers (Refused r) work out
+  pub recover-stops : (r : Refusal) → sliced (admitted file k (length work)) (length out) 812 ≡ FileRefused r → Answers (Refused r) work out
   unfolding recoverAnswer recoverSpace recoverOut
-  recover-stops r s = (
-    sym (stopped Refused (λ m n. readRecovered m (expressionAt file k) (schemaReading m bytes)) (acceptance file) k (length work) (length out) r s),
-    (
-      sym (stopped (λ r. work) (λ m n. readSpace file m n (schemaReading m bytes .judgement) work) (acceptance file) k (length work) (length out) r s),
-      sym (stopped (λ r. out) (λ m n. readInstantiation m (expressionAt file k) (schemaReading m bytes) out) (acceptance file) k (length work) (length out) r s),
-    ),
-  )
+  recover-stops r e = rw e (refl, (refl, refl))
 
-  pub recover-goes : (m n : ℕ) → Goes (acceptance file) k (length work) (length out) m n → (a : Recovery) (filled written : List ℕ) → a ≡ readRecovered m (expressionAt file k) (schemaReading m bytes) → filled ≡ readSpace file m n (schemaReading m bytes .judgement) work → written ≡ readInstantiation m (expressionAt file k) (schemaReading m bytes) out → Answers a filled written
+  pub recover-goes : (m n : ℕ) → sliced (admitted file k (length work)) (length out) 812 ≡ Accepted m n → (a : Recovery) (filled written : List ℕ) → a ≡ readRecovered m (expressionAt file k) (schemaReading m bytes) → filled ≡ readSpace file m n (schemaReading m bytes .judgement) work → written ≡ readInstantiation m (expressionAt file k) (schemaReading m bytes) out → Answers a filled written
   unfolding recoverAnswer recoverSpace recoverOut
-  recover-goes m n g a filled written answered space wrote = (
-    answered ∙ sym (gone Refused (λ m n. readRecovered m (expressionAt file k) (schemaReading m bytes)) (acceptance file) k (length work) (length out) m n g),
-    (
-      space ∙ sym (gone (λ r. work) (λ m n. readSpace file m n (schemaReading m bytes .judgement) work) (acceptance file) k (length work) (length out) m n g),
-      wrote ∙ sym (gone (λ r. out) (λ m n. readInstantiation m (expressionAt file k) (schemaReading m bytes) out) (acceptance file) k (length work) (length out) m n g),
-    ),
-  )
+  recover-goes m n e a filled written answered space wrote = rw e (answered, (space, wrote))

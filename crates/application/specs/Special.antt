@@ -3,13 +3,12 @@ use Prim.Native.Nat.{ℕ, _+_, _-_, _*_, _/_, _%_, _^_, _≤_, _<_}
 use mathlib.Core.Path.{_≡_, ap, _∙_}
 use mathlib.Core.List.{List}
 use native.Mathlib.Omega.{arith}
-use lib.ListN.{length, getD}
+use lib.ListN.{getD}
 use lib.Pow.{pow-mono}
 use Rattle.bits.specs.Bit.{bit}
 use Rattle.bits.specs.Pack.{pack}
 use Rattle.bits.specs.PackFrom.{packFrom, from-lower, from-below, bit-digit}
-use Rattle.bits.specs.Tab.{tab, tab-is}
-use Rattle.bits.specs.Written.{Written}
+use Rattle.bits.specs.Tab.{tab}
 
 -- relation r's map, of the subsets of attributes
 unfoldable pub mapOf : List ℕ → ℕ → ℕ
@@ -39,8 +38,3 @@ bits-below xs n at i some =
     let below = from-below n (λ i. bit (getD xs i 0) at) i in
     let most = pow-mono {i = n - i} {j = n - 1} (omega arith) in
     omega arith
-
--- ---- an array that is written whole
-
-pub written-whole : (f : ℕ → ℕ) (n : ℕ) (old now : List ℕ) → length old ≡ n → Written f n old now → now ≡ tab n f
-written-whole f n old now size w = tab-is n f 0 now (w .size ∙ size) (w .front)

@@ -2,49 +2,52 @@
 --   applyAnswer, applySchema, applyOut    what Apply leaves, by its contract     (Apply)
 --   recoverAnswer, recoverOut             what Recover leaves, by its contract   (Recover)
 --   typingAnswer, typingOut               what Typing leaves, by its contract    (crate typing, Typing)
+--   admitted, sliced                      refusals 1 to 12, and 13               (crate formula, Stored; crate expression, Admission)
 use Prim.Native.Nat.{ℕ, _+_, _*_, _≤_, _<_}
 use mathlib.Core.Path.{_≡_, refl, sym, ap, ap₂, _∙_}
 use mathlib.Core.Logic.{_↔_}
 use mathlib.Core.Bool.{Bool, true, false, _&&_, and-eq-true-iff}
-use mathlib.Core.List.{List, []}
+use mathlib.Core.List.{List}
 use native.Mathlib.Omega.{arith}
 use lib.ListN.{length, getD, take, length-append}
 use Rattle.bits.specs.Tab.{length-tab, over, take-over}
 use Rattle.bits.specs.Word.{Bytes}
 use Rattle.refusal.specs.Chain.{refuse}
-use Rattle.algebra.specs.Expression.{Expression, Legal}
+use Rattle.algebra.specs.Expression.{Legal}
 use Rattle.expression.specs.declared.files.Acceptance.the-variants.{Accepted}
 use Rattle.expression.specs.ReadFile.{acceptance}
 use Rattle.expression.specs.Accepted.{accepted-file}
+use Rattle.expression.specs.Admission.{asked, sliced}
+use Rattle.expression.specs.AdmissionLaws.{sliced-passes, asked-passes}
 use Rattle.formula.specs.Expressions.{expressionAt, expression-legal}
-use Rattle.type_record.specs.Record.{TypeRecord, recordSize, recordBytes}
-use Rattle.schema.specs.Schema.{recordsRead, readRecords, schemaBytes, recordsOf, entriesOf, mapsOf, schemaReading}
+use Rattle.formula.specs.Stored.{admitted}
+use Rattle.formula.specs.StoredLaws.{Admits, admitted-passes}
+use Rattle.type_record.specs.Record.{TypeRecord, recordSize}
+use Rattle.schema.specs.Schema.{recordsRead, readRecords, recordsOf, entriesOf, mapsOf, schemaReading}
 use Rattle.schema.specs.RecordsLaws.{schema-most}
 use Rattle.schema.specs.TableLaws.{ReadSchema, read-schema, read-entries}
 use Rattle.schema.specs.declared.reading.Schema.{Schema}
 use Rattle.instantiation.specs.Instantiation.{entriesIn, subsetsOf, listsOf, mapByte, instantiationBytes, instantiationReading}
 use Rattle.instantiation.specs.ReadLaws.{lists-read}
-use Rattle.instantiation.specs.TableLaws.{ReadInstantiation, instantiation-read, subsets-none}
+use Rattle.instantiation.specs.TableLaws.{ReadInstantiation, subsets-none}
 use Rattle.instantiation.specs.TableLaws as Instantiations
 use Rattle.instantiation.specs.declared.reading.Instantiation.{Instantiation}
-use Rattle.typing.specs.Output.{typedIn, outputMap, outputList}
+use Rattle.typing.specs.Output.{typedIn, outputList}
 use Rattle.typing.specs.Typing.{tableAnswer, tableOut, typingAnswer, typingOut}
 use Rattle.typing.specs.TypingLaws.{typing-records}
 use Rattle.typing.specs.declared.operation.Answer.the-variants.{Typed, Untyped as TypingUntyped}
 use Rattle.application.specs.Special.{mapsFrom, subsetsFrom}
 use Rattle.application.specs.SpecialLaws.{subsets-back}
 use Rattle.application.specs.Fits.{entriesFit, specialsFit, fits-typed}
-use Rattle.application.specs.Apply.{imageBytes, outputBytes, tableApplied, tableImage, tableOutput, readApplied, readImage, readOutput, applyAnswer, applySchema, applyOut}
+use Rattle.application.specs.Apply.{imageBytes, outputBytes, tableApplied, tableImage, tableOutput, applyAnswer, applySchema, applyOut}
 use Rattle.application.specs.ApplyLaws as Applying
-use Rattle.application.specs.Recover.{fits, recoveredBytes, tableRecovered, tableInstantiation, readRecovered, readInstantiation, recoverAnswer, recoverOut}
+use Rattle.application.specs.Recover.{fits, recoveredBytes, tableRecovered, tableInstantiation, recoverAnswer, recoverOut}
 use Rattle.application.specs.RecoverLaws as Recovering
 use Rattle.application.specs.Image.{IsTable, image-size, image-records, image-maps, image-entries}
 use Rattle.application.specs.Tables.{fits-same, held-entries}
 use Rattle.application.specs.ListZero.{list-zero}
 use Rattle.application.specs.RoundTrip.{applied-table, image-schema, recovered-same, recovered-table, written-instantiation, written-table, image-same}
-use Rattle.application.specs.declared.applying.Application.{Application}
 use Rattle.application.specs.declared.applying.Application.the-variants.{Applied}
-use Rattle.application.specs.declared.recovering.Recovery.{Recovery}
 use Rattle.application.specs.declared.recovering.Recovery.the-variants.{Recovered, Untyped}
 
 -- ---- Recover on a schema with these records
@@ -65,7 +68,7 @@ recover-table file k schema work out m n ts r =
     let special = ap (λ (s : Schema). s .special) (made .is) in
     let entries = read-entries m schema (schemaReading m schema) ts made in
     let table = Recovering.read-goes file m n (expressionAt file k) (schemaReading m schema) work out judged _ _ _ refl refl refl in
-    let goes = Recovering.recover-goes file k schema work out m n (record { accepted = r .accepted; node = r .node; workSpace = r .workSpace; slice = r .slice }) _ _ _ refl refl refl in (
+    let goes = Recovering.recover-goes file k schema work out m n (sliced-passes (admitted file k (length work)) (length out) 812 (admitted-passes file k (length work) (record { accepted = r .accepted; node = r .node; workSpace = r .workSpace })) (r .slice)) _ _ _ refl refl refl in (
       sym (goes .0) ∙ sym (table .0) ∙ ap₂ (tableRecovered m (expressionAt file k)) special entries,
       sym (goes .1 .1) ∙ sym (table .1 .1) ∙ ap₂ (λ (x y : List ℕ). tableInstantiation m (expressionAt file k) x y out) special entries,
     )
@@ -74,10 +77,13 @@ recover-table file k schema work out m n ts r =
 
 -- nothing is refused: node k of an accepted file, an instantiation with these lists whose table fits the node, and slices that are long enough
 pub record Applies (file : List ℕ) (k : ℕ) (bytes : List ℕ) (space size outSize m n : ℕ) (ls : List (List ℕ)) : Type 0 where
-  pub goes : Applying.Goes (acceptance file) k space size outSize m n
+  pub goes : sliced (sliced (admitted file k space) size 4104) outSize 513 ≡ Accepted m n
   pub read : ReadInstantiation bytes (instantiationReading bytes) ls
   pub entries : entriesFit m (expressionAt file k) (entriesIn ls) ≡ true
   pub special : specialsFit m (expressionAt file k) (subsetsOf bytes) ≡ true
+
+pub applies-admits : {file : List ℕ} {k : ℕ} {bytes : List ℕ} {space size outSize m n : ℕ} {ls : List (List ℕ)} → Applies file k bytes space size outSize m n ls → Admits file k space m n
+applies-admits {file} {k} {bytes} {space} {size} {outSize} a = Applying.apply-passed file k space size outSize (a .goes) .0
 
 apply-table : (file : List ℕ) (k : ℕ) (bytes work schema out : List ℕ) (m n : ℕ) (ls : List (List ℕ)) → Applies file k bytes (length work) (length schema) (length out) m n ls → (applyAnswer file k bytes (length work) (length schema) (length out) ≡ Applied (length (imageBytes m (subsetsOf bytes) (entriesIn ls))) (recordSize (length (outputList (expressionAt file k) (entriesIn ls))))) × ((applySchema file k bytes (length work) schema (length out) ≡ over (imageBytes m (subsetsOf bytes) (entriesIn ls)) schema) × (applyOut file k bytes (length work) (length schema) out ≡ over (outputBytes (expressionAt file k) (subsetsOf bytes) (entriesIn ls)) out))
 unfolding tableApplied tableImage tableOutput refuse
@@ -105,22 +111,22 @@ apply-size file k bytes work schema out m n ls a size width said = sized (sym sa
 -- it lies within the schema slice: eight records of at most 513 bytes
 pub apply-fits : (file : List ℕ) (k : ℕ) (bytes work schema out : List ℕ) (m n : ℕ) (ls : List (List ℕ)) → Bytes bytes → Applies file k bytes (length work) (length schema) (length out) m n ls → (size width : ℕ) → applyAnswer file k bytes (length work) (length schema) (length out) ≡ Applied size width → size ≤ length schema
 apply-fits file k bytes work schema out m n ls below a size width said =
-    let few = accepted-file file m n (a .goes .accepted) .counts .relations .1 in
+    let few = accepted-file file m n (applies-admits a .accepted) .counts .relations .1 in
     let table = applied-table m few (expressionAt file k) bytes below ls (a .read .long) (a .read .read) (a .read .once) (a .read .few) (a .entries) (a .special) in
     let most = schema-most (recordsOf m (mapsFrom (subsetsOf bytes)) (entriesIn ls)) (image-records m few (mapsFrom (subsetsOf bytes)) (entriesIn ls) table) in
     let count = image-size m few (mapsFrom (subsetsOf bytes)) (entriesIn ls) table in
     let is = apply-size file k bytes work schema out m n ls a size width said in
-    let room = a .goes .schema in
+    let room = Applying.apply-passed file k (length work) (length schema) (length out) (a .goes) .1 in
     omega arith
 
 -- ---- apply, then recover; and Typing on the schema that Apply writes
 
 module _ (file : List ℕ) (k : ℕ) (bytes work schema out : List ℕ) (m n : ℕ) (ls : List (List ℕ)) (below : Bytes bytes) (a : Applies file k bytes (length work) (length schema) (length out) m n ls) where
   few : m ≤ 8
-  few = accepted-file file m n (a .goes .accepted) .counts .relations .1
+  few = accepted-file file m n (applies-admits a .accepted) .counts .relations .1
 
   legal : Legal m (expressionAt file k)
-  legal = expression-legal file m n (a .goes .accepted) k (a .goes .node)
+  legal = expression-legal file m n (applies-admits a .accepted) k (applies-admits a .node)
 
   -- the schema that Apply writes
   abbrev image : List ℕ
@@ -148,7 +154,7 @@ module _ (file : List ℕ) (k : ℕ) (bytes work schema out : List ℕ) (m n : �
   pub apply-recover : (work′ out′ : List ℕ) → n * 1024 ≤ length work′ → 812 ≤ length out′ → (recoverAnswer file k image (length work′) (length out′) ≡ Recovered (length bytes)) × (recoverOut file k image (length work′) out′ ≡ over bytes out′)
   unfolding tableRecovered tableInstantiation
   apply-recover work′ out′ space slice =
-      let results = recover-table file k (imageBytes m (subsetsOf bytes) (entriesIn ls)) work′ out′ m n (recordsOf m (mapsFrom (subsetsOf bytes)) (entriesIn ls)) (record { accepted = a .goes .accepted; node = a .goes .node; workSpace = space; slice = slice; read = read-image .read; few = read-image .few }) in
+      let results = recover-table file k (imageBytes m (subsetsOf bytes) (entriesIn ls)) work′ out′ m n (recordsOf m (mapsFrom (subsetsOf bytes)) (entriesIn ls)) (record { accepted = applies-admits a .accepted; node = applies-admits a .node; workSpace = space; slice = slice; read = read-image .read; few = read-image .few }) in
       let same = recovered-same m few (expressionAt file k) bytes below ls (a .read .long) (a .read .read) (a .read .once) (a .read .few) (a .entries) (a .special) (list-zero m ls (lists-read bytes ls below (a .read .long) (a .read .read)) (a .read .once) (held-entries m few (expressionAt file k) (subsetsOf bytes) (entriesIn ls) (subsets-none bytes) (a .entries) (a .special))) in
       rw image-is (
         results .0 ∙ rw (maps-are, entries-are, fits-back, same),
@@ -159,7 +165,7 @@ module _ (file : List ℕ) (k : ℕ) (bytes work schema out : List ℕ) (m n : �
   pub apply-typing : (out′ : List ℕ) → 513 ≤ length out′ → (typingAnswer file k image (length out′) ≡ Typed (recordSize (length (outputList (expressionAt file k) (entriesIn ls))))) × (typingOut file k image out′ ≡ over (outputBytes (expressionAt file k) (subsetsOf bytes) (entriesIn ls)) out′)
   unfolding tableAnswer tableOut
   apply-typing out′ slice =
-      let results = typing-records file k (imageBytes m (subsetsOf bytes) (entriesIn ls)) out′ m n (recordsOf m (mapsFrom (subsetsOf bytes)) (entriesIn ls)) (record { accepted = a .goes .accepted; node = a .goes .node; slice = slice }) (read-image .read) (read-image .few) in
+      let results = typing-records file k (imageBytes m (subsetsOf bytes) (entriesIn ls)) out′ m n (recordsOf m (mapsFrom (subsetsOf bytes)) (entriesIn ls)) (sliced-passes (asked file k) (length out′) 513 (asked-passes file k (applies-admits a .accepted) (applies-admits a .node)) slice) (read-image .read) (read-image .few) in
       let typed = fits-typed m few (expressionAt file k) legal (subsetsOf bytes) (entriesIn ls) (subsets-none bytes) (a .entries) (a .special) in
       rw image-is (
         results .0 ∙ rw (maps-are, entries-are, typed),
@@ -184,7 +190,7 @@ module _ (file : List ℕ) (k : ℕ) (schema work out : List ℕ) (m n : ℕ) (t
   unfolding tableRecovered tableAnswer
   recover-untyped out′ slice =
       let recovered = recover-table file k schema work out m n ts r .0 in
-      let typing = typing-records file k schema out′ m n ts (record { accepted = r .accepted; node = r .node; slice = slice }) (r .read) (r .few) .0 in (
+      let typing = typing-records file k schema out′ m n ts (sliced-passes (asked file k) (length out′) 513 (asked-passes file k (r .accepted) (r .node)) slice) (r .read) (r .few) .0 in (
         (λ said. typing ∙ go (typedIn (expressionAt file k) (mapsOf ts) (entriesOf ts)) refl (sym recovered ∙ said)),
         (λ said. recovered ∙ back (typedIn (expressionAt file k) (mapsOf ts) (entriesOf ts)) refl (sym typing ∙ said)),
       )
@@ -228,7 +234,7 @@ module _ (file : List ℕ) (k : ℕ) (schema work out : List ℕ) (m n : ℕ) (t
         let both = and-eq-true-iff (entriesFit m (expressionAt file k) (entriesOf ts)) (specialsFit m (expressionAt file k) (subsetsFrom (mapsOf ts))) .0 fit in
         let applied = apply-table file k (recoveredBytes (mapsOf ts) (entriesOf ts)) work′ schema′ out′ m n (listsOf (entriesOf ts))
         (record {
-          goes = record { accepted = r .accepted; node = r .node; workSpace = space; schema = size; output = slice };
+          goes = sliced-passes (sliced (admitted file k (length work′)) (length schema′) 4104) (length out′) 513 (sliced-passes (admitted file k (length work′)) (length schema′) 4104 (admitted-passes file k (length work′) (record { accepted = r .accepted; node = r .node; workSpace = space })) size) slice;
           read = read;
           entries = rw (same .1) (both .0);
           special = rw (same .0) (both .1);

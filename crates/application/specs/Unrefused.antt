@@ -1,27 +1,26 @@
 -- Where Apply answers that it applied, nothing was refused: what there was to read, and that it fits.
-use Prim.Native.Nat.{ℕ, _*_, _≤_, _<_}
-use mathlib.Core.Path.{_≡_, refl, sym, ap, ap₂, _∙_}
+use Prim.Native.Nat.{ℕ}
+use mathlib.Core.Path.{_≡_, refl, sym, ap, _∙_}
 use mathlib.Core.Bool.{Bool, true, false, not}
 use mathlib.Core.List.{List}
 use native.Mathlib.Omega.{arith}
-use borrow.Author.Tests.{leb-false, ltb-false, not-false}
-use lib.ListN.{length}
+use borrow.Author.Tests.{not-false}
 use Rattle.refusal.specs.Chain.{refuse}
 use Rattle.refusal.specs.declared.Refusal.{Refusal}
 use Rattle.algebra.specs.Expression.{Expression}
 use Rattle.expression.specs.declared.files.Acceptance.{Acceptance}
 use Rattle.expression.specs.declared.files.Acceptance.the-variants.{Accepted, Refused as FileRefused}
-use Rattle.expression.specs.ReadFile.{acceptance}
+use Rattle.expression.specs.Admission.{after, sliced}
 use Rattle.formula.specs.Expressions.{expressionAt}
+use Rattle.formula.specs.Stored.{admitted}
 use Rattle.schema.specs.declared.reading.Judgement.{Judgement}
 use Rattle.schema.specs.declared.reading.Judgement.the-variants.{Read, Refused as ReadRefused}
-use Rattle.instantiation.specs.Instantiation.{entriesIn, subsetsOf, instantiationReading}
-use Rattle.instantiation.specs.TableLaws.{ReadInstantiation, instantiation-read, read-entries}
+use Rattle.instantiation.specs.Instantiation.{instantiationReading}
+use Rattle.instantiation.specs.TableLaws.{instantiation-read, read-entries}
 use Rattle.instantiation.specs.declared.reading.Instantiation.{Instantiation}
 use Rattle.typing.specs.Typing.{afterSchema}
 use Rattle.application.specs.Fits.{entriesFit, specialsFit}
-use Rattle.application.specs.Apply.{tableApplied, entriesOf, readApplied, afterFile, applyAnswer}
-use Rattle.application.specs.ApplyLaws as Applying
+use Rattle.application.specs.Apply.{tableApplied, entriesOf, readApplied, applyAnswer}
 use Rattle.application.specs.Theorems.{Applies}
 use Rattle.application.specs.declared.applying.Application.{Application}
 use Rattle.application.specs.declared.applying.Application.the-variants.{Applied, Refused}
@@ -49,7 +48,7 @@ read-fit m e i size width said = go (i .judgement) refl said
     go Read is q = (is, q)
 
 module _ (file : List ℕ) (k : ℕ) (bytes : List ℕ) (space size outSize : ℕ) where
-  made : (m n s w : ℕ) → Applying.Goes (acceptance file) k space size outSize m n → readApplied m (expressionAt file k) (instantiationReading bytes) ≡ Applied s w → (ls : List (List ℕ)) × Applies file k bytes space size outSize m n ls
+  made : (m n s w : ℕ) → sliced (sliced (admitted file k space) size 4104) outSize 513 ≡ Accepted m n → readApplied m (expressionAt file k) (instantiationReading bytes) ≡ Applied s w → (ls : List (List ℕ)) × Applies file k bytes space size outSize m n ls
   made m n s w goes said =
       let read = read-fit m (expressionAt file k) (instantiationReading bytes) s w said in
       let lists = instantiation-read bytes (read .0) in
@@ -61,14 +60,8 @@ module _ (file : List ℕ) (k : ℕ) (bytes : List ℕ) (space size outSize : �
   -- Apply applied: nothing was refused
   pub applied-applies : (s w : ℕ) → applyAnswer file k bytes space size outSize ≡ Applied s w → (m : ℕ) × ((n : ℕ) × ((ls : List (List ℕ)) × Applies file k bytes space size outSize m n ls))
   unfolding applyAnswer
-  applied-applies s w said = go (acceptance file) refl said
+  applied-applies s w said = go (sliced (sliced (admitted file k space) size 4104) outSize 513) refl said
     where
-      go : (a : Acceptance) → acceptance file ≡ a → afterFile a k space size outSize Refused (λ m n. readApplied m (expressionAt file k) (instantiationReading bytes)) ≡ Applied s w → (m : ℕ) × ((n : ℕ) × ((ls : List (List ℕ)) × Applies file k bytes space size outSize m n ls))
-      go (FileRefused r) is q = absurd (let z : _≡_ {A = ℕ} 0 1 = cc in omega arith)
-      go (Accepted m n) is q =
-          let node = passed _ _ _ s w q in
-          let workSpace = passed _ _ _ s w (node .1) in
-          let schema = passed _ _ _ s w (workSpace .1) in
-          let output = passed _ _ _ s w (schema .1) in
-          let goes : Applying.Goes (acceptance file) k space size outSize m n = record { accepted = is; node = leb-false n k (node .0); workSpace = ltb-false space (n * 1024) (workSpace .0); schema = ltb-false size 4104 (schema .0); output = ltb-false outSize 513 (output .0) } in
-          (m, (n, made m n s w goes (output .1)))
+      go : (a : Acceptance) → sliced (sliced (admitted file k space) size 4104) outSize 513 ≡ a → after a Refused (λ m n. readApplied m (expressionAt file k) (instantiationReading bytes)) ≡ Applied s w → (m : ℕ) × ((n : ℕ) × ((ls : List (List ℕ)) × Applies file k bytes space size outSize m n ls))
+      go (FileRefused r) goes q = absurd (let z : _≡_ {A = ℕ} 0 1 = cc in omega arith)
+      go (Accepted m n) goes q = (m, (n, made m n s w goes q))

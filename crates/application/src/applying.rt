@@ -12,7 +12,7 @@ use crate::fitting::entries_allowed;
 use crate::fitting::specials_allowed;
 use crate::special::maps_from;
 use expression::Acceptance;
-use expression::accept;
+use formula::admit;
 use formula::fill;
 use instantiation::read_instantiation;
 use refusal::Refusal;
@@ -124,15 +124,9 @@ pub fn apply(
     ensures { λ _. ⌜ now (schema .exit) ≡ applySchema (now (file .entry)) node (now (instantiation .entry)) (length (now (work .entry))) (now (schema .entry)) (length (now (out .entry))) ⌝ }
     ensures { λ _. ⌜ now (out .exit) ≡ applyOut (now (file .entry)) node (now (instantiation .entry)) (length (now (work .entry))) (length (now (schema .entry))) (now (out .entry)) ⌝ }
 {
-    match accept(file) {
+    match admit(file, node, work.len()) {
         Acceptance::Refused(r) => Application::Refused(r),
         Acceptance::Accepted(m, n) => {
-            if n as usize <= node {
-                return Application::Refused(Refusal::NodeNumber);
-            }
-            if work.len() < n as usize * 1024 {
-                return Application::Refused(Refusal::WorkSpace);
-            }
             if schema.len() < 4104 {
                 return Application::Refused(Refusal::ResultSlice);
             }

@@ -14,7 +14,7 @@ use crate::fitting::entries_allowed;
 use crate::fitting::specials_allowed;
 use crate::special::subsets_from;
 use expression::Acceptance;
-use expression::accept;
+use formula::admit;
 use formula::fill;
 use instantiation::write_instantiation;
 use refusal::Refusal;
@@ -92,15 +92,9 @@ pub fn recover(file: &[u8], node: usize, schema: &[u8], work: &mut [u8], out: &m
     ensures { λ _. ⌜ now (work .exit) ≡ recoverSpace (now (file .entry)) node (now (schema .entry)) (now (work .entry)) (length (now (out .entry))) ⌝ }
     ensures { λ _. ⌜ now (out .exit) ≡ recoverOut (now (file .entry)) node (now (schema .entry)) (length (now (work .entry))) (now (out .entry)) ⌝ }
 {
-    match accept(file) {
+    match admit(file, node, work.len()) {
         Acceptance::Refused(r) => Recovery::Refused(r),
         Acceptance::Accepted(m, n) => {
-            if n as usize <= node {
-                return Recovery::Refused(Refusal::NodeNumber);
-            }
-            if work.len() < n as usize * 1024 {
-                return Recovery::Refused(Refusal::WorkSpace);
-            }
             if out.len() < 812 {
                 return Recovery::Refused(Refusal::ResultSlice);
             }

@@ -1,6 +1,6 @@
 -- A test at each number below a bound.
 use Prim.Native.Nat.{ℕ, zero, suc, _+_, _<_}
-use mathlib.Core.Path.{_≡_, refl, sym, ap, _∙_}
+use mathlib.Core.Path.{_≡_, refl, sym, ap, ap₂, _∙_}
 use mathlib.Core.Bool.{Bool, true, false, _&&_, and-eq-true-iff}
 use mathlib.Core.Logic.{_⊎_, inl, inr}
 use native.Mathlib.Nat.{eq-or-lt-of-le, le-of-suc-le-suc}
@@ -37,3 +37,8 @@ not-all n test i l e = go (allBelow n test) refl
     go : (t : Bool) → allBelow n test ≡ t → t ≡ false
     go true h = sym (all-in n test h i l) ∙ e
     go false h = refl
+
+-- two tests that agree below the bound
+pub all-same : (n : ℕ) (f g : ℕ → Bool) → ((i : ℕ) → i < n → f i ≡ g i) → allBelow n f ≡ allBelow n g
+all-same zero f g e = refl
+all-same (suc n) f g e = ap₂ _&&_ (e n (omega arith)) (all-same n f g (λ i h. e i (omega arith)))

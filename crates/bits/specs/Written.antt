@@ -7,7 +7,7 @@ use native.Mathlib.Nat.{eq-or-lt-of-le}
 use native.Mathlib.Omega.{arith}
 use lib.ListN.{length, getD, set, length-set}
 use lib.Seq.{getD-set-same, getD-set-other}
-use Rattle.bits.specs.Tab.{tab, length-tab, getD-tab, over, over-is}
+use Rattle.bits.specs.Tab.{tab, length-tab, getD-tab, tab-is, over, over-is}
 
 pub record Written (f : ℕ → ℕ) (p : ℕ) (old now : List ℕ) : Type 0 where
   pub size : length now ≡ length old
@@ -51,3 +51,7 @@ written-all f n old now fits w =
     over-is (tab n f) old now 0 (omega arith) (w .size)
     (λ i h. let below : i < n = omega arith in w .front i below ∙ sym (getD-tab n f i 0 below))
     (λ i h. w .back i (omega arith))
+
+-- a list of n elements, written whole
+pub written-whole : (f : ℕ → ℕ) (n : ℕ) (old now : List ℕ) → length old ≡ n → Written f n old now → now ≡ tab n f
+written-whole f n old now size w = tab-is n f 0 now (w .size ∙ size) (w .front)

@@ -17,15 +17,17 @@ use Rattle.refusal.specs.Chain.{refuse}
 use Rattle.expression.specs.Operators.{binaryCode, setCode}
 use Rattle.expression.specs.ReadNode.{readNode, readFields, withBinary, withSet}
 use Rattle.expression.specs.ReadFile.{acceptance, parse, header, readNodes, entryAt, entriesOf as nodeEntries}
+use Rattle.expression.specs.Admission.{asked, sliced}
+use Rattle.expression.specs.AdmissionLaws.{sliced-passes, asked-passes}
 use Rattle.expression.specs.declared.files.Acceptance.{Acceptance}
 use Rattle.expression.specs.declared.files.Acceptance.the-variants.{Accepted, Refused}
 use Rattle.algebra.specs.Expression.{Expression}
 use Rattle.formulas.specs.Truth.{left, right}
 use Rattle.formula.specs.Expressions.{expressionAt, earlier}
-use Rattle.formula.specs.Stored.{allowedBit, outputBit}
+use Rattle.formula.specs.Stored.{allowedBit, outputBit, admitted}
+use Rattle.formula.specs.StoredLaws.{admitted-passes}
 use Rattle.verdict.specs.Witness.{recordWord, recordByte as witnessByte}
 use Rattle.verdict.specs.Verdict.{judged, verdictAnswer, verdictSchema}
-use Rattle.verdict.specs.VerdictLaws.{Goes as VerdictGoes}
 use Rattle.verdict.specs.Cells.{subsetOf, blockedOf, witnessOf, verdict-answer, verdict-schema}
 use Rattle.type_record.specs.Lists.{readFrom, readList, listed}
 use Rattle.type_record.specs.Record.{readRecord, recordSize, recordAt, recordByte, recordBytes}
@@ -34,7 +36,7 @@ use Rattle.membership.specs.Entries.{enter}
 use Rattle.schema.specs.Schema.{Records, recordsRefused, recordsRead, readRecords, entriesOf, mapsOf}
 use Rattle.typing.specs.Output.{typedIn, outputMap, outputList}
 use Rattle.typing.specs.Typing.{typedAnswer, tableAnswer, typedOut, tableOut, typingAnswer, typingOut}
-use Rattle.typing.specs.TypingLaws.{Goes, typing-records}
+use Rattle.typing.specs.TypingLaws.{typing-records}
 use Rattle.typing.specs.declared.operation.Answer.the-variants.{Typed, Untyped}
 use Rattle.examples.specs.Cases.{Column, Typing, Case, table}
 
@@ -168,7 +170,8 @@ witness-is false w w′ schema t = ap (λ (l : List ℕ). over l schema) (same-i
 
 verdict-holds : (x : Case) → acceptance (x .file) ≡ Accepted (x .relations) (x .nodes) → blockedOf (x .relations) (lastOf x) ≡ x .blocked → T (witnessPasses (ltb (x .blocked) 16) (witnessOf (x .relations) (lastOf x)) (x .witness)) → 0 < x .nodes → (work schema : List ℕ) → x .nodes * 1024 ≤ length work → 4104 ≤ length schema → VerdictHolds x work schema
 verdict-holds x accepted blocked t some work schema space slice =
-    let goes : VerdictGoes (acceptance (x .file)) (x .nodes - 1) (length work) (length schema) (x .relations) (x .nodes) = record { accepted = accepted; node = omega arith; workSpace = space; slice = slice } in
+    let admits = admitted-passes (x .file) (x .nodes - 1) (length work) (record { accepted = accepted; node = omega arith; workSpace = space }) in
+    let goes = sliced-passes (admitted (x .file) (x .nodes - 1) (length work)) (length schema) 4104 admits slice in
     record {
       answer = verdict-answer (x .file) (x .nodes - 1) work schema (x .relations) (x .nodes) goes ∙ ap (λ (b : ℕ). judged (ltb b 16) b (x .relations)) blocked;
       slice =
@@ -186,7 +189,7 @@ output-is true false e special entries o out t = absurd t
 output-is false true e special entries o out t = absurd t
 output-is false false e special entries o out t = (refl, refl)
 
-typing-holds : (x : Case) (y : Typing) (out : List ℕ) → Goes (acceptance (x .file)) (x .nodes - 1) (length out) (x .relations) (x .nodes) → (rs : Records) → readRecords (x .relations) (y .schema) ≡ rs → T (recordsPass rs (lastOf x) y) → TypingHolds x y out
+typing-holds : (x : Case) (y : Typing) (out : List ℕ) → sliced (asked (x .file) (x .nodes - 1)) (length out) 513 ≡ Accepted (x .relations) (x .nodes) → (rs : Records) → readRecords (x .relations) (y .schema) ≡ rs → T (recordsPass rs (lastOf x) y) → TypingHolds x y out
 unfolding recordsPass tableAnswer tableOut
 typing-holds x y out goes (recordsRefused r) read t = absurd t
 typing-holds x y out goes (recordsRead ts) read t =
@@ -196,7 +199,7 @@ typing-holds x y out goes (recordsRead ts) read t =
     let is = output-is (typedIn (lastOf x) (mapsOf ts) (entriesOf ts)) (y .typed) (lastOf x) (mapsOf ts) (entriesOf ts) (y .output) out (right few outputs t) in
     record { answer = results .0 ∙ is .0; slice = results .1 ∙ is .1 }
 
-typings-hold : (x : Case) (ys : List Typing) (out : List ℕ) → Goes (acceptance (x .file)) (x .nodes - 1) (length out) (x .relations) (x .nodes) → T (typingsPass (x .relations) (lastOf x) ys) → TypingsHold x ys out
+typings-hold : (x : Case) (ys : List Typing) (out : List ℕ) → sliced (asked (x .file) (x .nodes - 1)) (length out) 513 ≡ Accepted (x .relations) (x .nodes) → T (typingsPass (x .relations) (lastOf x) ys) → TypingsHold x ys out
 unfolding typingsPass
 typings-hold x [] out goes t = tt
 typings-hold x (y ∷ ys) out goes t =
@@ -225,7 +228,7 @@ case-holds x t =
       verdict =
           verdict-holds x accepted (eqb→eq (blockedOf (x .relations) (lastOf x)) (x .blocked) (right (a && c) b upToB)) (right (a && c && b) w upToW)
           some;
-      typings = λ out slice. typings-hold x (x .typings) out (record { accepted = accepted; node = omega arith; slice = slice }) (right (a && c && b && w && n) y t);
+      typings = λ out slice. typings-hold x (x .typings) out (sliced-passes (asked (x .file) (x .nodes - 1)) (length out) 513 (asked-passes (x .file) (x .nodes - 1) accepted (omega arith)) slice) (right (a && c && b && w && n) y t);
     }
 
 abbrev pub none : Case

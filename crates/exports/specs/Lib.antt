@@ -1,4 +1,4 @@
 pub mod Numbers
-pub mod Formulas
+pub mod Verdicts
 pub mod Schemas
 pub mod Instantiations

@@ -13,7 +13,7 @@ use Rattle.expression.specs.declared.reader.Reading.the-variants.{Read, Refused
 use Rattle.expression.specs.declared.files.Acceptance.{Acceptance}
 use Rattle.expression.specs.declared.files.Acceptance.the-variants.{Accepted, Refused}
 
--- ---- acceptance: 0, or the refusal's number
+-- ---- acceptance, and Formula: 0, or the refusal's number
 
 unfoldable pub acceptanceNumber : Acceptance → ℕ
 acceptanceNumber (Accepted m n) = 0

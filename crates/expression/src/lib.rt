@@ -1,9 +1,11 @@
 // Expression files: nodes, reading, and the part of a file that holds a node.
+mod admission;
 mod files;
 mod nodes;
 mod reader;
 mod records;
 
+pub use admission::ask;
 pub use files::Acceptance;
 pub use files::accept;
 pub use nodes::BinaryOp;

@@ -1,8 +1,8 @@
 // Record: the part of the file that holds a node.
 ghost use mathlib.Core.Path.{_≡_};
 ghost use Rattle.expression.specs.Record.{placeOf, recordOf};
+use crate::admission::ask;
 use crate::files::Acceptance;
-use crate::files::accept;
 use crate::reader::Reading;
 use crate::reader::read_node;
 
@@ -16,12 +16,9 @@ pub struct Place {
 pub fn locate(file: &[u8], node: usize) -> Place
     ensures { λ r. ⌜ r ≡ placeOf (now (file .entry)) node ⌝ }
 {
-    let Acceptance::Accepted(m, n) = accept(file) else {
+    let Acceptance::Accepted(m, _) = ask(file, node) else {
         return Place { start: 0, len: 0 };
     };
-    if n as usize <= node {
-        return Place { start: 0, len: 0 };
-    }
     let mut at = 2;
     let mut k = 0;
     loop {

@@ -6,17 +6,14 @@ use lib.Dec.{ltb}
 use lib.ListN.{length, getD}
 use Rattle.bits.specs.Bit.{bit}
 use Rattle.bits.specs.Tab.{tab, over}
-use Rattle.refusal.specs.Chain.{refuse}
 use Rattle.refusal.specs.declared.Refusal.the-variants.{WorkSpace}
 use Rattle.expression.specs.declared.files.Acceptance.{Acceptance}
-use Rattle.expression.specs.declared.files.Acceptance.the-variants.{Accepted, Refused as FileRefused}
 use Rattle.expression.specs.ReadFile.{acceptance}
+use Rattle.expression.specs.Admission.{tested, after, asked}
 use Rattle.algebra.specs.Expression.{Expression}
 use Rattle.algebra.specs.Cell.{plain, out, ok}
 use Rattle.formula.specs.Expressions.{expressionAt}
 use Rattle.formula.specs.Column.{columnOf}
-use Rattle.formula.specs.declared.operation.Formulas.{Formulas}
-use Rattle.formula.specs.declared.operation.Formulas.the-variants.{Filled, Refused}
 
 -- ---- one expression, one column, one subset
 
@@ -42,18 +39,18 @@ formulasOf file m n = tab (n * 1024) (storedByte file m)
 
 -- ---- the operation
 
-abbrev pub afterFile : Acceptance → ℕ → Formulas
-afterFile (FileRefused r) size = Refused r
-afterFile (Accepted m n) size = refuse Refused (ltb size (n * 1024)) WorkSpace (Filled m n)
+-- 12: "work space under 1,024 n bytes"
+unfoldable pub spaced : Acceptance → ℕ → Acceptance
+spaced a space = tested a (λ n. ltb space (n * 1024)) WorkSpace
 
--- refusals 1 to 10 and 12, for a work space of so many bytes
-unfoldable pub formulaAnswer : List ℕ → ℕ → Formulas
-formulaAnswer file size = afterFile (acceptance file) size
+-- 1 to 12, for the operations that take a node
+unfoldable pub admitted : List ℕ → ℕ → ℕ → Acceptance
+admitted file k space = spaced (asked file k) space
 
-abbrev pub spaceAfter : Formulas → List ℕ → List ℕ → List ℕ
-spaceAfter (Refused r) file work = work
-spaceAfter (Filled m n) file work = over (formulasOf file m n) work
+-- "Formula takes no node number, so 11 isn't tested": 1 to 10 and 12, for a work space of so many bytes
+unfoldable pub formulaAnswer : List ℕ → ℕ → Acceptance
+formulaAnswer file space = spaced (acceptance file) space
 
 -- the work space afterwards: the formulas, and the rest as it was; after a refusal all as it was
 unfoldable pub formulaSpace : List ℕ → List ℕ → List ℕ
-formulaSpace file work = spaceAfter (formulaAnswer file (length work)) file work
+formulaSpace file work = after (formulaAnswer file (length work)) (λ r. work) (λ m n. over (formulasOf file m n) work)

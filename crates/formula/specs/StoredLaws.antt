@@ -1,50 +1,80 @@
--- Laws of Formula: its answer and the work space in each case, and what stands at a node's column afterwards.
+-- Laws of Formula and of test 12: the answer and the work space in each case, and what stands at a node's column afterwards.
 use Prim.Native.Nat.{ℕ, _*_, _≤_, _<_}
-use mathlib.Core.Path.{_≡_, ap, _∙_}
-use mathlib.Core.Bool.{Bool}
+use mathlib.Core.Path.{_≡_, _∙_}
 use mathlib.Core.List.{List}
 use native.Mathlib.Omega.{arith}
-use borrow.Author.Tests.{lt-ltb, le-ltb}
+use borrow.Author.Tests.{lt-ltb, le-ltb, ltb-false}
+use lib.Dec.{ltb}
 use lib.ListN.{length}
 use Rattle.bits.specs.Tab.{tab, length-tab, getD-tab, over, over-length, over-front, over-back}
-use Rattle.refusal.specs.Chain.{refuse}
 use Rattle.refusal.specs.declared.Refusal.{Refusal}
 use Rattle.refusal.specs.declared.Refusal.the-variants.{WorkSpace}
 use Rattle.expression.specs.declared.files.Acceptance.{Acceptance}
-use Rattle.expression.specs.declared.files.Acceptance.the-variants.{Accepted, Refused as FileRefused}
+use Rattle.expression.specs.declared.files.Acceptance.the-variants.{Accepted, Refused}
 use Rattle.expression.specs.ReadFile.{acceptance}
-use Rattle.formula.specs.declared.operation.Formulas.{Formulas}
-use Rattle.formula.specs.declared.operation.Formulas.the-variants.{Filled, Refused}
+use Rattle.expression.specs.Admission.{asked}
+use Rattle.expression.specs.AdmissionLaws.{tested-refused, tested-stops, tested-passes, passed, asked-passes, asked-passed}
 use Rattle.formula.specs.Expressions.{expressionAt}
 use Rattle.formula.specs.Storage.{columnAt}
-use Rattle.formula.specs.Stored.{cellColumn, storedByte, formulasOf, afterFile, formulaAnswer, spaceAfter, formulaSpace}
+use Rattle.formula.specs.Stored.{cellColumn, storedByte, formulasOf, spaced, admitted, formulaAnswer, formulaSpace}
 use Rattle.formula.specs.Filling.{filled-column}
 
--- ---- the answer
+-- ---- 12
 
-pub answer-refused : (file : List ℕ) (size : ℕ) (r : Refusal) → acceptance file ≡ FileRefused r → formulaAnswer file size ≡ Refused r
+module _ (a : Acceptance) (space : ℕ) where
+  pub spaced-refused : {r : Refusal} → a ≡ Refused r → spaced a space ≡ Refused r
+  unfolding spaced
+  spaced-refused e = tested-refused a (λ n. ltb space (n * 1024)) WorkSpace e
+
+  pub spaced-stops : {m n : ℕ} → a ≡ Accepted m n → space < n * 1024 → spaced a space ≡ Refused WorkSpace
+  unfolding spaced
+  spaced-stops {m} {n} e h = tested-stops a (λ n. ltb space (n * 1024)) WorkSpace e (lt-ltb space (n * 1024) h)
+
+  pub spaced-passes : {m n : ℕ} → a ≡ Accepted m n → n * 1024 ≤ space → spaced a space ≡ Accepted m n
+  unfolding spaced
+  spaced-passes {m} {n} e h = tested-passes a (λ n. ltb space (n * 1024)) WorkSpace e (le-ltb space (n * 1024) h)
+
+  pub spaced-passed : {m n : ℕ} → spaced a space ≡ Accepted m n → (a ≡ Accepted m n) × (n * 1024 ≤ space)
+  unfolding spaced
+  spaced-passed {m} {n} e = let p = passed a (λ n. ltb space (n * 1024)) WorkSpace e in (p .0, ltb-false space (n * 1024) (p .1))
+
+-- ---- 1 to 12
+
+-- none applies: node k of an accepted file, and a work space that is long enough
+pub record Admits (file : List ℕ) (k space m n : ℕ) : Type 0 where
+  pub accepted : acceptance file ≡ Accepted m n
+  pub node : k < n
+  pub workSpace : n * 1024 ≤ space
+
+module _ (file : List ℕ) (k space : ℕ) where
+  pub admitted-passed : {m n : ℕ} → admitted file k space ≡ Accepted m n → Admits file k space m n
+  unfolding admitted
+  admitted-passed e =
+      let enough = spaced-passed (asked file k) space e in
+      let found = asked-passed file k (enough .0) in
+      record { accepted = found .0; node = found .1; workSpace = enough .1 }
+
+  pub admitted-passes : {m n : ℕ} → Admits file k space m n → admitted file k space ≡ Accepted m n
+  unfolding admitted
+  admitted-passes a = spaced-passes (asked file k) space (asked-passes file k (a .accepted) (a .node)) (a .workSpace)
+
+-- ---- Formula
+
+pub answer-filled : (file : List ℕ) (space m n : ℕ) → acceptance file ≡ Accepted m n → n * 1024 ≤ space → formulaAnswer file space ≡ Accepted m n
 unfolding formulaAnswer
-answer-refused file size r e = ap (λ (a : Acceptance). afterFile a size) e
+answer-filled file space m n e h = spaced-passes (acceptance file) space e h
 
-pub answer-short : (file : List ℕ) (size m n : ℕ) → acceptance file ≡ Accepted m n → size < n * 1024 → formulaAnswer file size ≡ Refused WorkSpace
-unfolding formulaAnswer refuse
-answer-short file size m n e h =
-    ap (λ (a : Acceptance). afterFile a size) e ∙ ap (λ (t : Bool). refuse Refused t WorkSpace (Filled m n)) (lt-ltb size (n * 1024) h)
-
-pub answer-filled : (file : List ℕ) (size m n : ℕ) → acceptance file ≡ Accepted m n → n * 1024 ≤ size → formulaAnswer file size ≡ Filled m n
-unfolding formulaAnswer refuse
-answer-filled file size m n e h =
-    ap (λ (a : Acceptance). afterFile a size) e ∙ ap (λ (t : Bool). refuse Refused t WorkSpace (Filled m n)) (le-ltb size (n * 1024) h)
-
--- ---- the work space
+pub answer-file : (file : List ℕ) (space m n : ℕ) → formulaAnswer file space ≡ Accepted m n → (acceptance file ≡ Accepted m n) × (n * 1024 ≤ space)
+unfolding formulaAnswer
+answer-file file space m n e = spaced-passed (acceptance file) space e
 
 pub space-refused : (file work : List ℕ) (r : Refusal) → formulaAnswer file (length work) ≡ Refused r → formulaSpace file work ≡ work
 unfolding formulaSpace
-space-refused file work r e = ap (λ (a : Formulas). spaceAfter a file work) e
+space-refused file work r e = rw e
 
-pub space-filled : (file work : List ℕ) (m n : ℕ) → formulaAnswer file (length work) ≡ Filled m n → formulaSpace file work ≡ over (formulasOf file m n) work
+pub space-filled : (file work : List ℕ) (m n : ℕ) → formulaAnswer file (length work) ≡ Accepted m n → formulaSpace file work ≡ over (formulasOf file m n) work
 unfolding formulaSpace
-space-filled file work m n e = ap (λ (a : Formulas). spaceAfter a file work) e
+space-filled file work m n e = rw e
 
 -- ---- what stands there: column c of node k is the column of its expression's cells
 

@@ -5,7 +5,7 @@ mod steps;
 mod storage;
 mod tables;
 
-pub use operation::Formulas;
+pub use operation::admit;
 pub use operation::fill;
 pub use operation::formula;
 pub use steps::Bytes;

@@ -7,7 +7,7 @@ ghost use Rattle.expression.specs.ReadFile.{acceptance, sizeAt};
 ghost use Rattle.expression.specs.declared.files.Acceptance.the-variants.{Accepted};
 ghost use Rattle.formula.specs.Storage.{columnAt};
 ghost use Rattle.formula.specs.NodeColumn.{HasMap, OperandsFit, ownColumn, nodeColumn};
-ghost use Rattle.formula.specs.Stored.{formulasOf, formulaAnswer, formulaSpace};
+ghost use Rattle.formula.specs.Stored.{formulasOf, spaced, admitted, formulaAnswer, formulaSpace};
 ghost use Rattle.formula.specs.Filling.{Here, FilledTo};
 use crate::columns::combined_column;
 use crate::columns::relation_column;
@@ -22,14 +22,9 @@ use expression::Acceptance;
 use expression::Node;
 use expression::Reading;
 use expression::accept;
+use expression::ask;
 use expression::read_node;
 use refusal::Refusal;
-
-// The counts m and n of a file whose formulas stand in the work space, or the first refusal.
-pub enum Formulas {
-    Filled(u8, u8),
-    Refused(Refusal),
-}
 
 // What a node brings by itself: "A relation's membership map depends on its number alone".
 fn own_column(m: u8, node: Node) -> [u8; 64]
@@ -107,19 +102,38 @@ pub fn fill(file: &[u8], m: u8, n: u8, work: &mut [u8])
     }
 }
 
+// One more test, 12: whether the work space has so many bytes.
+fn with_space(a: Acceptance, space: usize) -> Acceptance
+    ensures { λ r. ⌜ r ≡ spaced a space ⌝ }
+{
+    match a {
+        Acceptance::Refused(r) => Acceptance::Refused(r),
+        Acceptance::Accepted(m, n) => {
+            if space < n as usize * 1024 {
+                return Acceptance::Refused(Refusal::WorkSpace);
+            }
+            Acceptance::Accepted(m, n)
+        }
+    }
+}
+
+// The file, the node asked and the work space: refusals 1 to 12.
+pub fn admit(file: &[u8], node: usize, space: usize) -> Acceptance
+    ensures { λ r. ⌜ r ≡ admitted (now (file .entry)) node space ⌝ }
+{
+    with_space(ask(file, node), space)
+}
+
 // Formula: refusals 1 to 10 and 12; fills the first 1,024 n bytes of the work space, whatever they held.
-pub fn formula(file: &[u8], work: &mut [u8]) -> Formulas
+pub fn formula(file: &[u8], work: &mut [u8]) -> Acceptance
     ensures { λ r. ⌜ r ≡ formulaAnswer (now (file .entry)) (length (now (work .entry))) ⌝ }
     ensures { λ _. ⌜ now (work .exit) ≡ formulaSpace (now (file .entry)) (now (work .entry)) ⌝ }
 {
-    match accept(file) {
-        Acceptance::Refused(r) => Formulas::Refused(r),
+    match with_space(accept(file), work.len()) {
+        Acceptance::Refused(r) => Acceptance::Refused(r),
         Acceptance::Accepted(m, n) => {
-            if work.len() < n as usize * 1024 {
-                return Formulas::Refused(Refusal::WorkSpace);
-            }
             fill(file, m, n, work);
-            Formulas::Filled(m, n)
+            Acceptance::Accepted(m, n)
         }
     }
 }

@@ -1,5 +1,5 @@
 -- Laws of the listing: what was written is the text, and the answer in each case.
-use Prim.Native.Nat.{ℕ, _-_, _*_, _≤_, _<_}
+use Prim.Native.Nat.{ℕ, _-_, _≤_, _<_}
 use mathlib.Core.Path.{_≡_, refl, sym, ap, _∙_}
 use mathlib.Core.Bool.{Bool, true, false}
 use mathlib.Core.List.{List, [], _∷_, _++_}
@@ -17,10 +17,9 @@ use Rattle.expression.specs.declared.files.Acceptance.{Acceptance}
 use Rattle.expression.specs.declared.files.Acceptance.the-variants.{Accepted, Refused as FileRefused}
 use Rattle.expression.specs.ReadFile.{acceptance, nodeAt}
 use Rattle.expression.specs.Accepted.{accepted-file}
-use Rattle.formula.specs.declared.operation.Formulas.the-variants.{Filled, Refused as FormulaRefused}
 use Rattle.formula.specs.Storage.{columnAt}
-use Rattle.formula.specs.Stored.{afterFile, formulasOf, formulaAnswer, formulaSpace}
-use Rattle.formula.specs.StoredLaws.{space-filled, stored-column}
+use Rattle.formula.specs.Stored.{formulasOf, formulaAnswer, formulaSpace}
+use Rattle.formula.specs.StoredLaws.{spaced-refused, spaced-passes, answer-file, space-filled, stored-column}
 use Rattle.listing.specs.declared.operation.Listed.{Listed}
 use Rattle.listing.specs.declared.operation.Listed.the-variants.{Text, Refused}
 use Rattle.text.specs.Characters.{decimal, newline}
@@ -33,29 +32,17 @@ use Rattle.listing.specs.LineLaws.{lines-are}
 
 -- ---- the file, from Formula's answer
 
-pub filled-file : (file : List ℕ) (size m n : ℕ) → formulaAnswer file size ≡ Filled m n → acceptance file ≡ Accepted m n
-unfolding formulaAnswer refuse
-filled-file file size m n = go (acceptance file)
-  where
-    go : (a : Acceptance) → afterFile a size ≡ Filled m n → a ≡ Accepted m n
-    go (FileRefused r) e = absurd (let z : _≡_ {A = ℕ} 0 1 = cc in omega arith)
-    go (Accepted m′ n′) e = fits (ltb size (n′ * 1024)) e
-      where
-        fits : (t : Bool) → refuse FormulaRefused t WorkSpace (Filled m′ n′) ≡ Filled m n → Accepted m′ n′ ≡ Accepted m n
-        fits true e = absurd (let z : _≡_ {A = ℕ} 0 1 = cc in omega arith)
-        fits false e = cc
-
 -- the work space is never too short
-pub refused-file : (file : List ℕ) (size : ℕ) (r : Refusal) → 65536 ≤ size → formulaAnswer file size ≡ FormulaRefused r → acceptance file ≡ FileRefused r
-unfolding formulaAnswer refuse
-refused-file file size r enough = go (acceptance file) refl
+pub refused-file : (file : List ℕ) (size : ℕ) (r : Refusal) → 65536 ≤ size → formulaAnswer file size ≡ FileRefused r → acceptance file ≡ FileRefused r
+unfolding formulaAnswer
+refused-file file size r enough e = go (acceptance file) refl
   where
-    go : (a : Acceptance) → acceptance file ≡ a → afterFile a size ≡ FormulaRefused r → a ≡ FileRefused r
-    go (FileRefused r′) is e = cc
-    go (Accepted m n) is e =
+    go : (a : Acceptance) → acceptance file ≡ a → a ≡ FileRefused r
+    go (FileRefused q) is = sym (spaced-refused (acceptance file) size is) ∙ e
+    go (Accepted m n) is =
         let few = accepted-file file m n is .counts .nodes .1 in
-        let fits = le-ltb size (n * 1024) (omega arith) in
-        absurd (let same = rw fits at e in let z : _≡_ {A = ℕ} 0 1 = cc in omega arith)
+        let filled = spaced-passes (acceptance file) size is (omega arith) in
+        absurd (let z : _≡_ {A = ℕ} 0 1 = cc in omega arith)
 
 -- ---- the text
 
@@ -92,14 +79,14 @@ number-most SpecialSubset = lit≤ tt
 
 -- ---- what was written is the text
 
-pub filled-counts : (file : List ℕ) (size m n : ℕ) → formulaAnswer file size ≡ Filled m n → (m ≤ 8) × (1 ≤ n) × (n ≤ 64)
+pub filled-counts : (file : List ℕ) (size m n : ℕ) → formulaAnswer file size ≡ Accepted m n → (m ≤ 8) × (1 ≤ n) × (n ≤ 64)
 filled-counts file size m n e =
-    let counts = accepted-file file m n (filled-file file size m n e) .counts in
+    let counts = accepted-file file m n (answer-file file size m n e .0) .counts in
     (counts .relations .1, counts .nodes .0, counts .nodes .1)
 
-pub wrote-listing : (file work work′ : List ℕ) (m n : ℕ) (named : AttrSet) (text text′ : List ℕ) (end : ℕ) → 65536 ≤ length work → formulaAnswer file (length work) ≡ Filled m n → work′ ≡ formulaSpace file work → Named (nodeAt file) n named → Wrote 0 (linesText work′ m (n - 1) named) text text′ end → Wrote 0 (textOf file) text text′ end
+pub wrote-listing : (file work work′ : List ℕ) (m n : ℕ) (named : AttrSet) (text text′ : List ℕ) (end : ℕ) → 65536 ≤ length work → formulaAnswer file (length work) ≡ Accepted m n → work′ ≡ formulaSpace file work → Named (nodeAt file) n named → Wrote 0 (linesText work′ m (n - 1) named) text text′ end → Wrote 0 (textOf file) text text′ end
 wrote-listing file work work′ m n named text text′ end enough e space named-in wrote =
-    let accepted = filled-file file (length work) m n e in
+    let accepted = answer-file file (length work) m n e .0 in
     let counts = filled-counts file (length work) m n e in
     let least = counts .1 in
     let most = counts .2 in
@@ -111,7 +98,7 @@ wrote-listing file work work′ m n named text text′ end enough e space named-
     ∙ sym (text-accepted file m n accepted))
     wrote
 
-pub wrote-refusal : (file : List ℕ) (size : ℕ) (r : Refusal) (text text′ : List ℕ) (end : ℕ) → 65536 ≤ size → formulaAnswer file size ≡ FormulaRefused r → Wrote 0 ((114 ∷ 101 ∷ 102 ∷ 117 ∷ 115 ∷ 101 ∷ 100 ∷ 32 ∷ []) ++ decimal (numberOf r) ++ newline) text text′ end → Wrote 0 (textOf file) text text′ end
+pub wrote-refusal : (file : List ℕ) (size : ℕ) (r : Refusal) (text text′ : List ℕ) (end : ℕ) → 65536 ≤ size → formulaAnswer file size ≡ FileRefused r → Wrote 0 ((114 ∷ 101 ∷ 102 ∷ 117 ∷ 115 ∷ 101 ∷ 100 ∷ 32 ∷ []) ++ decimal (numberOf r) ++ newline) text text′ end → Wrote 0 (textOf file) text text′ end
 wrote-refusal file size r text text′ end enough e wrote = wrote-as (sym (text-refused file r (refused-file file size r enough e))) wrote
 
 -- ---- the answer and the slices, in each case

@@ -9,7 +9,7 @@ ghost use Rattle.text.specs.Put.{Wrote};
 ghost use Rattle.listing.specs.Listing.{listedAnswer, listedText, listedSpace};
 use crate::lines::write_lines;
 use crate::naming::named_attributes;
-use formula::Formulas;
+use expression::Acceptance;
 use formula::formula;
 use refusal::Refusal;
 use text::write_byte;
@@ -45,10 +45,10 @@ pub fn write_listing(file: &[u8], work: &mut [u8], text: &mut [u8]) -> Listed
         return Listed::Refused(Refusal::ResultSlice);
     }
     match formula(file, work) {
-        Formulas::Filled(m, n) => {
+        Acceptance::Accepted(m, n) => {
             let named = named_attributes(file, m, n);
             Listed::Text(write_lines(text, work, m, n - 1, named))
         }
-        Formulas::Refused(refusal) => Listed::Text(write_refused(text, refusal)),
+        Acceptance::Refused(refusal) => Listed::Text(write_refused(text, refusal)),
     }
 }

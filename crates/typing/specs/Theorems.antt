@@ -19,6 +19,8 @@ use Rattle.algebra.specs.Rules.{Typed}
 use Rattle.expression.specs.declared.files.Acceptance.the-variants.{Accepted}
 use Rattle.expression.specs.ReadFile.{acceptance}
 use Rattle.expression.specs.Accepted.{accepted-file}
+use Rattle.expression.specs.Admission.{asked}
+use Rattle.expression.specs.AdmissionLaws.{sliced-passes, asked-passes}
 use Rattle.formula.specs.Expressions.{expressionAt, expression-legal}
 use Rattle.type_record.specs.Record.{TypeRecord, recordSize, recordBytes, typeOf}
 use Rattle.type_record.specs.RecordBytes.{IsRecord, record-length}
@@ -74,7 +76,7 @@ module _ (file : List ℕ) (k : ℕ) (schema out : List ℕ) (m n : ℕ) (ts : L
   read = records-read m schema ts (un .bytes) (un .read)
 
   results : (typingAnswer file k schema (length out) ≡ tableAnswer (expressionAt file k) (mapsOf ts) (entriesOf ts)) × (typingOut file k schema out ≡ tableOut (expressionAt file k) (mapsOf ts) (entriesOf ts) out)
-  results = typing-records file k schema out m n ts (record { accepted = un .accepted; node = un .node; slice = un .slice }) (un .read) (un .few)
+  results = typing-records file k schema out m n ts (sliced-passes (asked file k) (length out) 513 (asked-passes file k (un .accepted) (un .node)) (un .slice)) (un .read) (un .few)
 
   abbrev outputOf : TypeRecord
   outputOf = outputRecord (expressionAt file k) (mapsOf ts) (entriesOf ts)

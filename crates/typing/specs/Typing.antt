@@ -2,15 +2,10 @@
 use Prim.Native.Nat.{ℕ}
 use mathlib.Core.Bool.{Bool, true, false}
 use mathlib.Core.List.{List}
-use lib.Dec.{ltb, leb}
 use lib.ListN.{length, take}
 use Rattle.bits.specs.Tab.{over}
-use Rattle.refusal.specs.Chain.{refuse}
 use Rattle.refusal.specs.declared.Refusal.{Refusal}
-use Rattle.refusal.specs.declared.Refusal.the-variants.{NodeNumber, ResultSlice}
-use Rattle.expression.specs.declared.files.Acceptance.{Acceptance}
-use Rattle.expression.specs.declared.files.Acceptance.the-variants.{Accepted, Refused as FileRefused}
-use Rattle.expression.specs.ReadFile.{acceptance}
+use Rattle.expression.specs.Admission.{after, asked, sliced}
 use Rattle.algebra.specs.Expression.{Expression}
 use Rattle.formula.specs.Expressions.{expressionAt}
 use Rattle.type_record.specs.Record.{recordSize, recordBytes}
@@ -50,17 +45,12 @@ schemaAnswer e s = afterSchema (s .judgement) Refused (tableAnswer e (s .special
 unfoldable pub schemaOut : Expression → Schema → List ℕ → List ℕ
 schemaOut e s out = afterSchema (s .judgement) (λ r. out) (tableOut e (s .special) (take (s .entries .count) (s .entries .items)) out)
 
--- ---- the operation
-
--- "10, 11, 12, 13", without 12, since there is no work space: the refusal, or what comes with m relations
-abbrev pub afterFile : {A : Type 0} → Acceptance → ℕ → ℕ → (Refusal → A) → (ℕ → A) → A
-afterFile (FileRefused r) k size stop go = stop r
-afterFile (Accepted m n) k size stop go = refuse stop (leb n k) NodeNumber (refuse stop (ltb size 513) ResultSlice (go m))
+-- ---- the operation: "10, 11, 12, 13", without 12, since there is no work space; and then the schema
 
 -- the answer, for a result slice of so many bytes
 unfoldable pub typingAnswer : List ℕ → ℕ → List ℕ → ℕ → Answer
-typingAnswer file k schema size = afterFile (acceptance file) k size Refused (λ m. schemaAnswer (expressionAt file k) (schemaReading m schema))
+typingAnswer file k schema size = after (sliced (asked file k) size 513) Refused (λ m n. schemaAnswer (expressionAt file k) (schemaReading m schema))
 
 -- the result slice afterwards
 unfoldable pub typingOut : List ℕ → ℕ → List ℕ → List ℕ → List ℕ
-typingOut file k schema out = afterFile (acceptance file) k (length out) (λ r. out) (λ m. schemaOut (expressionAt file k) (schemaReading m schema) out)
+typingOut file k schema out = after (sliced (asked file k) (length out) 513) (λ r. out) (λ m n. schemaOut (expressionAt file k) (schemaReading m schema) out)

@@ -1,20 +1,16 @@
 -- Laws of Typing: what the code finds is what the definitions say, the results after each refusal, and after none.
-use Prim.Native.Nat.{ℕ, _+_, _*_, _%_, _≤_, _<_}
+use Prim.Native.Nat.{ℕ, _+_, _*_, _%_, _≤_}
 use mathlib.Core.Path.{_≡_, refl, sym, ap, ap₂, _∙_}
 use mathlib.Core.Bool.{Bool, true, false}
 use mathlib.Core.List.{List}
-use borrow.Author.Tests.{lt-ltb, le-ltb, le-leb, lt-leb}
 use lib.Dec.{eqb}
 use lib.ListN.{length, getD, take}
 use Rattle.bits.specs.AllBelow.{allBelow}
 use Rattle.bits.specs.Tab.{over}
 use Rattle.bits.specs.Word.{Bytes}
-use Rattle.refusal.specs.Chain.{refuse}
 use Rattle.refusal.specs.declared.Refusal.{Refusal}
-use Rattle.refusal.specs.declared.Refusal.the-variants.{NodeNumber, ResultSlice}
-use Rattle.expression.specs.declared.files.Acceptance.{Acceptance}
 use Rattle.expression.specs.declared.files.Acceptance.the-variants.{Accepted, Refused as FileRefused}
-use Rattle.expression.specs.ReadFile.{acceptance}
+use Rattle.expression.specs.Admission.{asked, sliced}
 use Rattle.algebra.specs.Expression.{Expression, Legal}
 use Rattle.formula.specs.Expressions.{expressionAt}
 use Rattle.type_record.specs.Record.{TypeRecord, recordSize, recordBytes}
@@ -26,7 +22,7 @@ use Rattle.typing.specs.Filling.{NodeLanes}
 use Rattle.typing.specs.Output.{typedIn}
 use Rattle.typing.specs.OutputLaws.{mapIn, listIn}
 use Rattle.typing.specs.Judged.{lanesOf, TableItems, typed-lanes, map-is, list-is, map-even}
-use Rattle.typing.specs.Typing.{tableAnswer, tableOut, schemaAnswer, schemaOut, afterFile, typingAnswer, typingOut}
+use Rattle.typing.specs.Typing.{tableAnswer, tableOut, schemaAnswer, schemaOut, typingAnswer, typingOut}
 use Rattle.typing.specs.declared.operation.Answer.{Answer}
 use Rattle.typing.specs.declared.operation.Answer.the-variants.{Typed, Untyped, Refused}
 
@@ -87,51 +83,22 @@ schema-table m bytes s most below is read = rw is (made (schema-read m bytes (rw
     made : (ts : List TypeRecord) × ReadSchema m bytes (schemaReading m bytes) ts → ReadTable (schemaReading m bytes .special) (schemaReading m bytes .entries .items) (schemaReading m bytes .entries .count)
     made r = record { writes = read-table m bytes (schemaReading m bytes) (r .0) most below (r .1); zeros = read-zeros m bytes (schemaReading m bytes) (r .0) (r .1) }
 
--- ---- the order of the refusals
-
--- refusal r is the first that applies before the schema is read
-pub data Stops (a : Acceptance) (k size : ℕ) : Refusal → Type 0 where
-  byFile : {r : Refusal} → a ≡ FileRefused r → Stops a k size r
-  byNode : {m n : ℕ} → a ≡ Accepted m n → n ≤ k → Stops a k size NodeNumber
-  bySlice : {m n : ℕ} → a ≡ Accepted m n → k < n → size < 513 → Stops a k size ResultSlice
-
--- none applies
-pub record Goes (a : Acceptance) (k size m n : ℕ) : Type 0 where
-  pub accepted : a ≡ Accepted m n
-  pub node : k < n
-  pub slice : 513 ≤ size
-
-module _ {A : Type 0} (stop : Refusal → A) (go : ℕ → A) (a : Acceptance) (k size : ℕ) where
-  stopped : (r : Refusal) → Stops a k size r → afterFile a k size stop go ≡ stop r
-  unfolding refuse
-  stopped r (byFile e) = rw e
-  stopped r (byNode {m} {n} e h) = rw (e, le-leb n k h)
-  stopped r (bySlice {m} {n} e h s) = rw (e, lt-leb n k h, lt-ltb size 513 s)
-
-  gone : (m n : ℕ) → Goes a k size m n → afterFile a k size stop go ≡ go m
-  unfolding refuse
-  gone m n g = rw (g .accepted, lt-leb n k (g .node), le-ltb size 513 (g .slice))
+-- ---- the answer and the result slice
 
 module _ (file : List ℕ) (k : ℕ) (schema out : List ℕ) where
-  pub typing-stops : (r : Refusal) → Stops (acceptance file) k (length out) r → (Refused r ≡ typingAnswer file k schema (length out)) × (out ≡ typingOut file k schema out)
+  pub typing-stops : (r : Refusal) → sliced (asked file k) (length out) 513 ≡ FileRefused r → (Refused r ≡ typingAnswer file k schema (length out)) × (out ≡ typingOut file k schema out)
   unfolding typingAnswer typingOut
-  typing-stops r s = (
-    sym (stopped Refused (λ m. schemaAnswer (expressionAt file k) (schemaReading m schema)) (acceptance file) k (length out) r s),
-    sym (stopped (λ r. out) (λ m. schemaOut (expressionAt file k) (schemaReading m schema) out) (acceptance file) k (length out) r s),
-  )
+  typing-stops r e = rw e (refl, refl)
 
-  pub typing-goes : (m n : ℕ) → Goes (acceptance file) k (length out) m n → (schemaAnswer (expressionAt file k) (schemaReading m schema) ≡ typingAnswer file k schema (length out)) × (schemaOut (expressionAt file k) (schemaReading m schema) out ≡ typingOut file k schema out)
+  pub typing-goes : (m n : ℕ) (t : Answer) (written : List ℕ) → sliced (asked file k) (length out) 513 ≡ Accepted m n → t ≡ schemaAnswer (expressionAt file k) (schemaReading m schema) → written ≡ schemaOut (expressionAt file k) (schemaReading m schema) out → (t ≡ typingAnswer file k schema (length out)) × (written ≡ typingOut file k schema out)
   unfolding typingAnswer typingOut
-  typing-goes m n g = (
-    sym (gone Refused (λ m. schemaAnswer (expressionAt file k) (schemaReading m schema)) (acceptance file) k (length out) m n g),
-    sym (gone (λ r. out) (λ m. schemaOut (expressionAt file k) (schemaReading m schema) out) (acceptance file) k (length out) m n g),
-  )
+  typing-goes m n t written e answered wrote = rw e (answered, wrote)
 
   -- in the table of the schema's records
-  pub typing-records : (m n : ℕ) (ts : List TypeRecord) → Goes (acceptance file) k (length out) m n → readRecords m schema ≡ recordsRead ts → length (entriesOf ts) ≤ 255 → (typingAnswer file k schema (length out) ≡ tableAnswer (expressionAt file k) (mapsOf ts) (entriesOf ts)) × (typingOut file k schema out ≡ tableOut (expressionAt file k) (mapsOf ts) (entriesOf ts) out)
-  typing-records m n ts g read few =
+  pub typing-records : (m n : ℕ) (ts : List TypeRecord) → sliced (asked file k) (length out) 513 ≡ Accepted m n → readRecords m schema ≡ recordsRead ts → length (entriesOf ts) ≤ 255 → (typingAnswer file k schema (length out) ≡ tableAnswer (expressionAt file k) (mapsOf ts) (entriesOf ts)) × (typingOut file k schema out ≡ tableOut (expressionAt file k) (mapsOf ts) (entriesOf ts) out)
+  typing-records m n ts e read few =
       let made = read-schema m schema ts read few in
-      let goes = typing-goes m n g in
+      let goes = typing-goes m n _ _ e refl refl in
       let table = schema-goes (expressionAt file k) (schemaReading m schema) out (ap (λ (s : Schema). s .judgement) (made .is)) _ _ refl refl in
       let special = ap (λ (s : Schema). s .special) (made .is) in
       let entries = read-entries m schema (schemaReading m schema) ts made in (

@@ -12,7 +12,7 @@ use crate::filling::fill_lanes;
 use crate::output::all_allowed;
 use crate::output::write_output;
 use expression::Acceptance;
-use expression::accept;
+use expression::ask;
 use refusal::Refusal;
 use schema::Judgement;
 use schema::read_schema;
@@ -86,12 +86,9 @@ pub fn typing(file: &[u8], node: usize, schema: &[u8], out: &mut [u8]) -> Answer
     ensures { λ r. ⌜ r ≡ typingAnswer (now (file .entry)) node (now (schema .entry)) (length (now (out .entry))) ⌝ }
     ensures { λ _. ⌜ now (out .exit) ≡ typingOut (now (file .entry)) node (now (schema .entry)) (now (out .entry)) ⌝ }
 {
-    match accept(file) {
+    match ask(file, node) {
         Acceptance::Refused(r) => Answer::Refused(r),
         Acceptance::Accepted(m, n) => {
-            if n as usize <= node {
-                return Answer::Refused(Refusal::NodeNumber);
-            }
             if out.len() < 513 {
                 return Answer::Refused(Refusal::ResultSlice);
             }

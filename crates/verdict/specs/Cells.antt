@@ -10,17 +10,19 @@ use Rattle.bits.specs.Pack.{pack-same}
 use Rattle.bits.specs.Lowest.{lowestFrom, lowest-same}
 use Rattle.bits.specs.Tab.{tab, length-tab, getD-tab, tab-is, over}
 use Rattle.algebra.specs.Expression.{Expression}
-use Rattle.expression.specs.ReadFile.{acceptance}
+use Rattle.expression.specs.declared.files.Acceptance.the-variants.{Accepted}
+use Rattle.expression.specs.Admission.{sliced}
+use Rattle.expression.specs.AdmissionLaws.{sliced-passed}
 use Rattle.formula.specs.Column.{allowedIn}
 use Rattle.formula.specs.Expressions.{expressionAt}
 use Rattle.formula.specs.Storage.{columnAt}
-use Rattle.formula.specs.Stored.{allowedBit, cellColumn, formulasOf}
-use Rattle.formula.specs.StoredLaws.{stored-column}
+use Rattle.formula.specs.Stored.{allowedBit, cellColumn, formulasOf, admitted}
+use Rattle.formula.specs.StoredLaws.{stored-column, admitted-passed}
 use Rattle.formula.specs.NodeColumn.{cell-allowed}
 use Rattle.verdict.specs.Lowest.{subsetsIn}
 use Rattle.verdict.specs.Witness.{recordWord, recordByte}
 use Rattle.verdict.specs.Verdict.{subsetIn, blockedIn, judged, judgement, witnessOver, judgedSchema, verdictAnswer, verdictSchema}
-use Rattle.verdict.specs.VerdictLaws.{Goes, verdict-goes}
+use Rattle.verdict.specs.VerdictLaws.{verdict-goes}
 
 -- the lowest subset that column i allows; 256 where it allows nothing
 unfoldable pub subsetOf : ℕ → Expression → ℕ → ℕ
@@ -62,12 +64,14 @@ written false blocked m work k schema = refl
 
 -- ---- Verdict, where it is not refused
 
-module _ (file : List ℕ) (k : ℕ) (work schema : List ℕ) (m n : ℕ) (goes : Goes (acceptance file) k (length work) (length schema) m n) where
+module _ (file : List ℕ) (k : ℕ) (work schema : List ℕ) (m n : ℕ) (goes : sliced (admitted file k (length work)) (length schema) 4104 ≡ Accepted m n) where
   abbrev filled : List ℕ
   filled = over (formulasOf file m n) work
 
   columns-are : (c : ℕ) → c < 16 → columnAt filled k c ≡ cellColumn m (expressionAt file k) c
-  columns-are c h = stored-column file work m n (goes .workSpace) k c (goes .node) h
+  columns-are c h =
+      let admits = admitted-passed file k (length work) (sliced-passed (admitted file k (length work)) (length schema) 4104 goes .0) in
+      stored-column file work m n (admits .workSpace) k c (admits .node) h
 
   pub verdict-answer : verdictAnswer file k (length work) (length schema) ≡ judged (ltb (blockedOf m (expressionAt file k)) 16) (blockedOf m (expressionAt file k)) m
   unfolding judgement

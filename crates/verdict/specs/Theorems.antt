@@ -4,6 +4,7 @@
 --   Instantiation, HasImage, HasOutput   instantiations, image and output   (crate formulas, Instantiation)
 --   expressionAt     the expression of a node                               (crate formula, Expressions)
 --   formulaIn        the formula that stands in a work space                (StoredFormula)
+--   admitted, sliced   refusals 1 to 12, and 13                             (crate formula, Stored; crate expression, Admission)
 --   formulaSpace, verdictAnswer, verdictSpace, verdictSchema   what the operations leave, by their contracts (crate formula, Stored; Verdict)
 use Prim.Native.Nat.{ℕ, _*_, _≤_, _<_}
 use mathlib.Core.Path.{_≡_, refl, sym, ap, subst, _∙_}
@@ -18,15 +19,17 @@ use Rattle.principal.specs.Principal.{Typing}
 use Rattle.expression.specs.declared.files.Acceptance.the-variants.{Accepted}
 use Rattle.expression.specs.ReadFile.{acceptance}
 use Rattle.expression.specs.Accepted.{accepted-file}
+use Rattle.expression.specs.Admission.{sliced}
+use Rattle.expression.specs.AdmissionLaws.{sliced-passed}
 use Rattle.formula.specs.Expressions.{expressionAt, expression-legal}
-use Rattle.formula.specs.Stored.{formulasOf, formulaSpace}
-use Rattle.formula.specs.StoredLaws.{answer-filled, space-filled}
+use Rattle.formula.specs.Stored.{formulasOf, admitted, formulaSpace}
+use Rattle.formula.specs.StoredLaws.{answer-filled, space-filled, admitted-passed}
 use Rattle.verdict.specs.StoredFormula as Stored
 use Rattle.verdict.specs.StoredFormula.{formulaIn}
 use Rattle.verdict.specs.Judged.{schemaHolds, untypable-none, none-untypable, witness-typed}
 use Rattle.verdict.specs.Witness.{recordByte}
 use Rattle.verdict.specs.Verdict.{subsetIn, judgement, judgedSchema, witnessOver, verdictAnswer, verdictSpace, verdictSchema}
-use Rattle.verdict.specs.VerdictLaws.{Goes, verdict-goes}
+use Rattle.verdict.specs.VerdictLaws.{verdict-goes}
 use Rattle.verdict.specs.declared.operation.Outcome.{Outcome}
 use Rattle.verdict.specs.declared.operation.Outcome.the-variants.{Typable, Untypable}
 
@@ -48,7 +51,10 @@ module _ (file : List ℕ) (m n : ℕ) (accepted : acceptance file ≡ Accepted 
 
   -- ---- Verdict, where it is not refused
 
-  module _ (work schema : List ℕ) (goes : Goes (acceptance file) k (length work) (length schema) m n) where
+  module _ (work schema : List ℕ) (goes : sliced (admitted file k (length work)) (length schema) 4104 ≡ Accepted m n) where
+    long : n * 1024 ≤ length work
+    long = admitted-passed file k (length work) (sliced-passed (admitted file k (length work)) (length schema) 4104 goes .0) .workSpace
+
     after : List ℕ
     after = over (formulasOf file m n) work
 
@@ -62,15 +68,15 @@ module _ (file : List ℕ) (m n : ℕ) (accepted : acceptance file ≡ Accepted 
     -- it leaves the work space as Formula does
     pub verdict-space : verdictSpace file k work (length schema) ≡ formulaSpace file work
     unfolding after
-    verdict-space = sym (results .1 .0) ∙ sym (space work (goes .workSpace))
+    verdict-space = sym (results .1 .0) ∙ sym (space work long)
 
     -- untypable is said exactly where no assignment types the node
     pub verdict-untypable : ((a : ℕ) × (verdictAnswer file k (length work) (length schema) ≡ Untypable a)) ↔ (Typing m (expressionAt file k) → ⊥)
     unfolding after
     verdict-untypable = (
-      (λ said. untypable-none (over (formulasOf file m n) work) m k few (expressionAt file k) (expression-legal file m n accepted k node) (Stored.is-formula file m n accepted work (goes .workSpace) k node) (Stored.stored-above file m n accepted work (goes .workSpace) k node) (said .0) (results .0 ∙ said .1)),
+      (λ said. untypable-none (over (formulasOf file m n) work) m k few (expressionAt file k) (expression-legal file m n accepted k node) (Stored.is-formula file m n accepted work long k node) (Stored.stored-above file m n accepted work long k node) (said .0) (results .0 ∙ said .1)),
       (λ none.
-          let found = none-untypable (over (formulasOf file m n) work) m k few (expressionAt file k) (expression-legal file m n accepted k node) (Stored.is-formula file m n accepted work (goes .workSpace) k node) (Stored.stored-above file m n accepted work (goes .workSpace) k node) none in
+          let found = none-untypable (over (formulasOf file m n) work) m k few (expressionAt file k) (expression-legal file m n accepted k node) (Stored.is-formula file m n accepted work long k node) (Stored.stored-above file m n accepted work long k node) none in
           (found .0, sym (results .0) ∙ found .1)),
     )
 
@@ -79,7 +85,7 @@ module _ (file : List ℕ) (m n : ℕ) (accepted : acceptance file ≡ Accepted 
     unfolding after judgedSchema
     verdict-witness size h =
         let judged = results .0 ∙ h in
-        let typed = witness-typed (over (formulasOf file m n) work) m k few (expressionAt file k) (expression-legal file m n accepted k node) (Stored.is-formula file m n accepted work (goes .workSpace) k node) (Stored.stored-above file m n accepted work (goes .workSpace) k node) size judged in
+        let typed = witness-typed (over (formulasOf file m n) work) m k few (expressionAt file k) (expression-legal file m n accepted k node) (Stored.is-formula file m n accepted work long k node) (Stored.stored-above file m n accepted work long k node) size judged in
         (typed .0, subst (λ (bytes : List ℕ). Typed (schemaHolds bytes) (expressionAt file k) (typed .0)) (sym (written judged)) (typed .1))
       where
         written : judgement (over (formulasOf file m n) work) m k ≡ Typable size → take size (verdictSchema file k (length work) schema) ≡ tab size (recordByte (subsetIn (over (formulasOf file m n) work) k))

@@ -2,17 +2,12 @@
 use Prim.Native.Nat.{ℕ, _*_}
 use mathlib.Core.Bool.{Bool, true, false}
 use mathlib.Core.List.{List}
-use lib.Dec.{eqb, ltb, leb}
+use lib.Dec.{eqb, ltb}
 use lib.ListN.{length, getD}
 use Rattle.bits.specs.Lowest.{lowestFrom}
 use Rattle.bits.specs.Tab.{tab, over}
-use Rattle.refusal.specs.Chain.{refuse}
-use Rattle.refusal.specs.declared.Refusal.the-variants.{NodeNumber, WorkSpace, ResultSlice}
-use Rattle.refusal.specs.declared.Refusal.{Refusal}
-use Rattle.expression.specs.declared.files.Acceptance.{Acceptance}
-use Rattle.expression.specs.declared.files.Acceptance.the-variants.{Accepted, Refused as FileRefused}
-use Rattle.expression.specs.ReadFile.{acceptance}
-use Rattle.formula.specs.Stored.{formulasOf}
+use Rattle.expression.specs.Admission.{after, sliced}
+use Rattle.formula.specs.Stored.{formulasOf, admitted}
 use Rattle.verdict.specs.Lowest.{subsetsIn}
 use Rattle.verdict.specs.Witness.{recordByte}
 use Rattle.verdict.specs.declared.operation.Outcome.{Outcome}
@@ -44,25 +39,16 @@ witnessOver (Refused r) work k schema = schema
 unfoldable pub judgedSchema : List ℕ → ℕ → ℕ → List ℕ → List ℕ
 judgedSchema work m k schema = witnessOver (judgement work m k) work k schema
 
--- ---- the operation, by what stands in the work space once it is filled
-
--- "10, 11, 12, 13": the refusal, or what comes
-abbrev pub afterFile : {A : Type 0} → Acceptance → ℕ → ℕ → ℕ → (Refusal → A) → (ℕ → ℕ → A) → A
-afterFile (FileRefused r) k space size stop go = stop r
-afterFile (Accepted m n) k space size stop go =
-    refuse stop (leb n k) NodeNumber
-    (refuse stop (ltb space (n * 1024)) WorkSpace
-    (refuse stop (ltb size 4104) ResultSlice
-    (go m n)))
+-- ---- the operation, by what stands in the work space once it is filled: "10, 11, 12, 13", and then the judgement
 
 -- the answer, for a work space and a schema slice of so many bytes
 unfoldable pub verdictAnswer : List ℕ → ℕ → ℕ → ℕ → Outcome
-verdictAnswer file k space size = afterFile (acceptance file) k space size Refused (λ m n. judgement (formulasOf file m n) m k)
+verdictAnswer file k space size = after (sliced (admitted file k space) size 4104) Refused (λ m n. judgement (formulasOf file m n) m k)
 
 -- the work space afterwards
 unfoldable pub verdictSpace : List ℕ → ℕ → List ℕ → ℕ → List ℕ
-verdictSpace file k work size = afterFile (acceptance file) k (length work) size (λ r. work) (λ m n. over (formulasOf file m n) work)
+verdictSpace file k work size = after (sliced (admitted file k (length work)) size 4104) (λ r. work) (λ m n. over (formulasOf file m n) work)
 
 -- the schema slice afterwards
 unfoldable pub verdictSchema : List ℕ → ℕ → ℕ → List ℕ → List ℕ
-verdictSchema file k space schema = afterFile (acceptance file) k space (length schema) (λ r. schema) (λ m n. judgedSchema (formulasOf file m n) m k schema)
+verdictSchema file k space schema = after (sliced (admitted file k space) (length schema) 4104) (λ r. schema) (λ m n. judgedSchema (formulasOf file m n) m k schema)

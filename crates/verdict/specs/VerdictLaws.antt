@@ -3,26 +3,24 @@ use Prim.Native.Nat.{ℕ, _*_, _≤_, _<_}
 use mathlib.Core.Path.{_≡_, refl, sym, ap, _∙_}
 use mathlib.Core.List.{List}
 use native.Mathlib.Omega.{arith}
-use borrow.Author.Tests.{lt-ltb, le-ltb, le-leb, lt-leb}
+use borrow.Author.Tests.{lt-ltb, le-ltb}
 use lib.Dec.{eqb}
 use lib.ListN.{length, getD}
 use Rattle.bits.specs.Lowest.{lowestFrom}
 use Rattle.bits.specs.Tab.{tab, length-tab, getD-tab, over}
-use Rattle.refusal.specs.Chain.{refuse}
 use Rattle.refusal.specs.declared.Refusal.{Refusal}
-use Rattle.refusal.specs.declared.Refusal.the-variants.{NodeNumber, WorkSpace, ResultSlice}
-use Rattle.expression.specs.declared.files.Acceptance.{Acceptance}
 use Rattle.expression.specs.declared.files.Acceptance.the-variants.{Accepted, Refused as FileRefused}
-use Rattle.expression.specs.ReadFile.{acceptance}
+use Rattle.expression.specs.Admission.{sliced}
+use Rattle.expression.specs.AdmissionLaws.{sliced-passed}
 use Rattle.formula.specs.Expressions.{expressionAt}
 use Rattle.formula.specs.Storage.{columnAt}
-use Rattle.formula.specs.Stored.{cellColumn, storedByte, formulasOf}
-use Rattle.formula.specs.StoredLaws.{stored-column}
+use Rattle.formula.specs.Stored.{cellColumn, storedByte, formulasOf, admitted}
+use Rattle.formula.specs.StoredLaws.{stored-column, admitted-passed}
 use Rattle.formula.specs.Filling.{filled-column}
 use Rattle.verdict.specs.Lowest.{subsetsIn}
 use Rattle.verdict.specs.LowestLaws.{subsets-same}
 use Rattle.verdict.specs.Witness.{recordByte}
-use Rattle.verdict.specs.Verdict.{subsetIn, blockedIn, judged, judgement, witnessOver, judgedSchema, afterFile, verdictAnswer, verdictSpace, verdictSchema}
+use Rattle.verdict.specs.Verdict.{subsetIn, blockedIn, judgement, witnessOver, judgedSchema, verdictAnswer, verdictSpace, verdictSchema}
 use Rattle.verdict.specs.declared.operation.Outcome.{Outcome}
 use Rattle.verdict.specs.declared.operation.Outcome.the-variants.{Typable, Untypable, Refused}
 
@@ -86,59 +84,27 @@ module _ (file work : List ℕ) (m n k : ℕ) (fits : n * 1024 ≤ length work) 
       ap (λ (o : Outcome). witnessOver o (over (formulasOf file m n) work) k schema) same-judgement
       ∙ witness-same (over (formulasOf file m n) work) (formulasOf file m n) k schema same-subsets (judgement (formulasOf file m n) m k)
 
--- ---- the order of the refusals
-
--- refusal r is the first that applies
-pub data Stops (a : Acceptance) (k space size : ℕ) : Refusal → Type 0 where
-  byFile : {r : Refusal} → a ≡ FileRefused r → Stops a k space size r
-  byNode : {m n : ℕ} → a ≡ Accepted m n → n ≤ k → Stops a k space size NodeNumber
-  bySpace : {m n : ℕ} → a ≡ Accepted m n → k < n → space < n * 1024 → Stops a k space size WorkSpace
-  bySlice : {m n : ℕ} → a ≡ Accepted m n → k < n → n * 1024 ≤ space → size < 4104 → Stops a k space size ResultSlice
-
--- none applies
-pub record Goes (a : Acceptance) (k space size m n : ℕ) : Type 0 where
-  pub accepted : a ≡ Accepted m n
-  pub node : k < n
-  pub workSpace : n * 1024 ≤ space
-  pub slice : 4104 ≤ size
-
-module _ {A : Type 0} (stop : Refusal → A) (go : ℕ → ℕ → A) (a : Acceptance) (k space size : ℕ) where
-  stopped : (r : Refusal) → Stops a k space size r → afterFile a k space size stop go ≡ stop r
-  unfolding refuse
-  stopped r (byFile e) = rw e
-  stopped r (byNode {m} {n} e h) = rw (e, le-leb n k h)
-  stopped r (bySpace {m} {n} e h s) = rw (e, lt-leb n k h, lt-ltb space (n * 1024) s)
-  stopped r (bySlice {m} {n} e h s t) = rw (e, lt-leb n k h, le-ltb space (n * 1024) s, lt-ltb size 4104 t)
-
-  gone : (m n : ℕ) → Goes a k space size m n → afterFile a k space size stop go ≡ go m n
-  unfolding refuse
-  gone m n g = rw (g .accepted, lt-leb n k (g .node), le-ltb space (n * 1024) (g .workSpace), le-ltb size 4104 (g .slice))
-
 -- ---- the answer, the work space and the schema slice
 
 module _ (file : List ℕ) (k : ℕ) (work schema : List ℕ) where
-  pub verdict-stops : (r : Refusal) → Stops (acceptance file) k (length work) (length schema) r → (Refused r ≡ verdictAnswer file k (length work) (length schema)) × ((work ≡ verdictSpace file k work (length schema)) × (schema ≡ verdictSchema file k (length work) schema))
-  unfolding verdictAnswer verdictSpace verdictSchema
-  verdict-stops r s = (
-    sym (stopped Refused (λ m n. judgement (formulasOf file m n) m k) (acceptance file) k (length work) (length schema) r s),
-    (
-      sym (stopped (λ r. work) (λ m n. over (formulasOf file m n) work) (acceptance file) k (length work) (length schema) r s),
-      sym (stopped (λ r. schema) (λ m n. judgedSchema (formulasOf file m n) m k schema) (acceptance file) k (length work) (length schema) r s),
-    ),
-  )
+  abbrev Results : Outcome → List ℕ → List ℕ → Type 0
+  Results o filled written =
+      (o ≡ verdictAnswer file k (length work) (length schema))
+      × ((filled ≡ verdictSpace file k work (length schema))
+      × (written ≡ verdictSchema file k (length work) schema))
 
-  pub verdict-goes : (m n : ℕ) (filled written : List ℕ) (o : Outcome) → Goes (acceptance file) k (length work) (length schema) m n → filled ≡ over (formulasOf file m n) work → o ≡ judgement filled m k → written ≡ judgedSchema filled m k schema → (o ≡ verdictAnswer file k (length work) (length schema)) × ((filled ≡ verdictSpace file k work (length schema)) × (written ≡ verdictSchema file k (length work) schema))
+  pub verdict-stops : (r : Refusal) → sliced (admitted file k (length work)) (length schema) 4104 ≡ FileRefused r → Results (Refused r) work schema
   unfolding verdictAnswer verdictSpace verdictSchema
-  verdict-goes m n filled written o g is answered wrote = (
-    answered
-        ∙ ap (λ (w : List ℕ). judgement w m k) is
-        ∙ same-judgement file work m n k (g .workSpace) (g .node)
-        ∙ sym (gone Refused (λ m n. judgement (formulasOf file m n) m k) (acceptance file) k (length work) (length schema) m n g),
-    (
-      is ∙ sym (gone (λ r. work) (λ m n. over (formulasOf file m n) work) (acceptance file) k (length work) (length schema) m n g),
-      wrote
-          ∙ ap (λ (w : List ℕ). judgedSchema w m k schema) is
-          ∙ same-schema file work m n k (g .workSpace) (g .node) schema
-          ∙ sym (gone (λ r. schema) (λ m n. judgedSchema (formulasOf file m n) m k schema) (acceptance file) k (length work) (length schema) m n g),
-    ),
-  )
+  verdict-stops r e = rw e (refl, (refl, refl))
+
+  pub verdict-goes : (m n : ℕ) (filled written : List ℕ) (o : Outcome) → sliced (admitted file k (length work)) (length schema) 4104 ≡ Accepted m n → filled ≡ over (formulasOf file m n) work → o ≡ judgement filled m k → written ≡ judgedSchema filled m k schema → Results o filled written
+  unfolding verdictAnswer verdictSpace verdictSchema
+  verdict-goes m n filled written o e is answered wrote =
+      let admits = admitted-passed file k (length work) (sliced-passed (admitted file k (length work)) (length schema) 4104 e .0) in
+      rw e (
+        answered ∙ ap (λ (w : List ℕ). judgement w m k) is ∙ same-judgement file work m n k (admits .workSpace) (admits .node),
+        (
+          is,
+          wrote ∙ ap (λ (w : List ℕ). judgedSchema w m k schema) is ∙ same-schema file work m n k (admits .workSpace) (admits .node) schema,
+        ),
+      )

@@ -7,7 +7,7 @@ use crate::lowest::first_blocked;
 use crate::lowest::lowest_subsets;
 use crate::witness::write_witness;
 use expression::Acceptance;
-use expression::accept;
+use formula::admit;
 use formula::fill;
 use refusal::Refusal;
 
@@ -40,15 +40,9 @@ pub fn verdict(file: &[u8], node: usize, work: &mut [u8], schema: &mut [u8]) -> 
     ensures { λ _. ⌜ now (work .exit) ≡ verdictSpace (now (file .entry)) node (now (work .entry)) (length (now (schema .entry))) ⌝ }
     ensures { λ _. ⌜ now (schema .exit) ≡ verdictSchema (now (file .entry)) node (length (now (work .entry))) (now (schema .entry)) ⌝ }
 {
-    match accept(file) {
+    match admit(file, node, work.len()) {
         Acceptance::Refused(r) => Outcome::Refused(r),
         Acceptance::Accepted(m, n) => {
-            if n as usize <= node {
-                return Outcome::Refused(Refusal::NodeNumber);
-            }
-            if work.len() < n as usize * 1024 {
-                return Outcome::Refused(Refusal::WorkSpace);
-            }
             if schema.len() < 4104 {
                 return Outcome::Refused(Refusal::ResultSlice);
             }

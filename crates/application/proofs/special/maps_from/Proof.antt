@@ -2,8 +2,8 @@ use Prim.Native.Nat.{ℕ, _-_, _≤_}
 use mathlib.Core.Path.{_≡_}
 use native.Mathlib.Omega.{arith}
 use lib.ListN.{replicate, length-replicate}
-use Rattle.bits.specs.Written.{Written, written-none, written-more}
-use Rattle.application.specs.Special.{mapOf, mapsFrom, written-whole}
+use Rattle.bits.specs.Written.{Written, written-none, written-more, written-whole}
+use Rattle.application.specs.Special.{mapOf, mapsFrom}
 use borrow.Author.Needs.{needs}
 use Rattle.application.proofs.special.maps_from.Statement.{statement}
 use Rattle.application.proofs.special.maps_from.Tie as tie

@@ -1,6 +1,6 @@
 use mathlib.Core.Path.{sym, ap, _∙_}
 use Rattle.verdict.specs.declared.operation.Outcome.{Outcome}
-use Rattle.exports.specs.Formulas.{outcomeNumber, outcomeValue}
+use Rattle.exports.specs.Verdicts.{outcomeNumber, outcomeValue}
 use borrow.Author.Needs.{needs}
 use Rattle.exports.proofs.formulas.type_formula_verdict.Statement.{statement}
 use Rattle.exports.proofs.formulas.type_formula_verdict.Tie as tie

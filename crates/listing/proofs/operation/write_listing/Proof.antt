@@ -1,7 +1,8 @@
 use mathlib.Core.Path.{sym, _∙_}
 use native.Mathlib.Omega.{arith}
 use lib.ListN.{length}
-use Rattle.listing.specs.ListingLaws.{filled-file, filled-counts, wrote-listing, wrote-refusal, listed-work, listed-text, listed-done}
+use Rattle.formula.specs.StoredLaws.{answer-file}
+use Rattle.listing.specs.ListingLaws.{filled-counts, wrote-listing, wrote-refusal, listed-work, listed-text, listed-done}
 use borrow.Author.Needs.{needs}
 use Rattle.listing.proofs.operation.write_listing.Statement.{statement}
 use Rattle.listing.proofs.operation.write_listing.Tie as tie
@@ -19,7 +20,7 @@ enum-known-m : tie.Need-enum-known-m
 enum-known-m c = search needs
 
 named-attributes-requires : tie.Need-named-attributes-requires
-named-attributes-requires c κs = filled-file (c .before .before .before .before .before .before .before .before .before .before .before .before .args .file .now) (length (c .before .before .before .before .before .before .before .before .before .before .before .before .args .work .now)) _ _ (sym (c .before .before .before .before .before .formula .ensures .0) ∙ c .before .m .given .1)
+named-attributes-requires c κs = answer-file (c .before .before .before .before .before .before .before .before .before .before .before .before .args .file .now) (length (c .before .before .before .before .before .before .before .before .before .before .before .before .args .work .now)) _ _ (sym (c .before .before .before .before .before .formula .ensures .0) ∙ c .before .m .given .1) .0
 
 sub-write-lines : tie.Need-sub-write-lines
 sub-write-lines c = let counts = filled-counts (c .before .before .before .before .before .before .before .before .before .before .before .before .before .before .before .args .file .now) (length (c .before .before .before .before .before .before .before .before .before .before .before .before .before .before .before .args .work .now)) _ _ (sym (c .before .before .before .before .before .before .before .before .formula .ensures .0) ∙ c .before .before .before .before .m .given .1) in let least = counts .1 in omega arith

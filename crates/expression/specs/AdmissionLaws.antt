@@ -1,0 +1,94 @@
+-- Laws of the tests after a file is accepted: which refusal comes, and what holds where none does.
+use Prim.Native.Nat.{ℕ, _≤_, _<_}
+use mathlib.Core.Path.{_≡_, refl, ap, _∙_}
+use mathlib.Core.Bool.{Bool, true, false}
+use mathlib.Core.List.{List}
+use native.Mathlib.Omega.{arith}
+use borrow.Author.Tests.{lt-ltb, le-ltb, le-leb, lt-leb, leb-true, leb-false, ltb-false}
+use lib.Dec.{ltb, leb, lit≤}
+use Rattle.refusal.specs.Chain.{refuse}
+use Rattle.refusal.specs.Number.{numberOf}
+use Rattle.refusal.specs.declared.Refusal.{Refusal}
+use Rattle.refusal.specs.declared.Refusal.the-variants.{NodeNumber, ResultSlice}
+use Rattle.expression.specs.declared.files.Acceptance.{Acceptance}
+use Rattle.expression.specs.declared.files.Acceptance.the-variants.{Accepted, Refused}
+use Rattle.expression.specs.ReadFile.{acceptance}
+use Rattle.expression.specs.Accepted.{file-refused}
+use Rattle.expression.specs.Admission.{tested, asked, sliced}
+
+-- ---- one test
+
+module _ (a : Acceptance) (test : ℕ → Bool) (q : Refusal) where
+  pub tested-refused : {r : Refusal} → a ≡ Refused r → tested a test q ≡ Refused r
+  unfolding tested
+  tested-refused e = rw e
+
+  pub tested-stops : {m n : ℕ} → a ≡ Accepted m n → test n ≡ true → tested a test q ≡ Refused q
+  unfolding tested refuse
+  tested-stops e t = rw (e, t)
+
+  pub tested-passes : {m n : ℕ} → a ≡ Accepted m n → test n ≡ false → tested a test q ≡ Accepted m n
+  unfolding tested refuse
+  tested-passes e t = rw (e, t)
+
+  pub passed : {m n : ℕ} → tested a test q ≡ Accepted m n → (a ≡ Accepted m n) × (test n ≡ false)
+  unfolding tested refuse
+  passed {m} {n} = go a
+    where
+      go : (b : Acceptance) → tested b test q ≡ Accepted m n → (b ≡ Accepted m n) × (test n ≡ false)
+      go (Refused r) e = absurd (let z : _≡_ {A = ℕ} 0 1 = cc in omega arith)
+      go (Accepted m′ n′) e = fits (test n′) refl e
+        where
+          fits : (t : Bool) → test n′ ≡ t → refuse Refused t q (Accepted m′ n′) ≡ Accepted m n → (Accepted m′ n′ ≡ Accepted m n) × (test n ≡ false)
+          fits true is e = absurd (let z : _≡_ {A = ℕ} 0 1 = cc in omega arith)
+          fits false is e = (e, (let same : n ≡ n′ = cc in ap test same ∙ is))
+
+-- ---- 13
+
+module _ (a : Acceptance) (size least : ℕ) where
+  pub sliced-refused : {r : Refusal} → a ≡ Refused r → sliced a size least ≡ Refused r
+  unfolding sliced
+  sliced-refused e = tested-refused a (λ n. ltb size least) ResultSlice e
+
+  pub sliced-stops : {m n : ℕ} → a ≡ Accepted m n → size < least → sliced a size least ≡ Refused ResultSlice
+  unfolding sliced
+  sliced-stops e h = tested-stops a (λ n. ltb size least) ResultSlice e (lt-ltb size least h)
+
+  pub sliced-passes : {m n : ℕ} → a ≡ Accepted m n → least ≤ size → sliced a size least ≡ Accepted m n
+  unfolding sliced
+  sliced-passes e h = tested-passes a (λ n. ltb size least) ResultSlice e (le-ltb size least h)
+
+  pub sliced-passed : {m n : ℕ} → sliced a size least ≡ Accepted m n → (a ≡ Accepted m n) × (least ≤ size)
+  unfolding sliced
+  sliced-passed e = let p = passed a (λ n. ltb size least) ResultSlice e in (p .0, ltb-false size least (p .1))
+
+-- ---- 1 to 11
+
+module _ (file : List ℕ) (k : ℕ) where
+  pub asked-refused : {r : Refusal} → acceptance file ≡ Refused r → asked file k ≡ Refused r
+  unfolding asked
+  asked-refused e = tested-refused (acceptance file) (λ n. leb n k) NodeNumber e
+
+  pub asked-stops : {m n : ℕ} → acceptance file ≡ Accepted m n → n ≤ k → asked file k ≡ Refused NodeNumber
+  unfolding asked
+  asked-stops {m} {n} e h = tested-stops (acceptance file) (λ n. leb n k) NodeNumber e (le-leb n k h)
+
+  pub asked-passes : {m n : ℕ} → acceptance file ≡ Accepted m n → k < n → asked file k ≡ Accepted m n
+  unfolding asked
+  asked-passes {m} {n} e h = tested-passes (acceptance file) (λ n. leb n k) NodeNumber e (lt-leb n k h)
+
+  pub asked-passed : {m n : ℕ} → asked file k ≡ Accepted m n → (acceptance file ≡ Accepted m n) × (k < n)
+  unfolding asked
+  asked-passed {m} {n} e = let p = passed (acceptance file) (λ n. leb n k) NodeNumber e in (p .0, leb-false n k (p .1))
+
+  -- no later refusal comes of it
+  pub asked-number : {r : Refusal} → asked file k ≡ Refused r → numberOf r ≤ 11
+  asked-number {r} e = go (acceptance file) refl
+    where
+      node : (m n : ℕ) → acceptance file ≡ Accepted m n → (t : Bool) → leb n k ≡ t → numberOf r ≤ 11
+      node m n is true h = let stops = asked-stops is (leb-true n k h) in let same : NodeNumber ≡ r = cc in rw (← same) (lit≤ tt)
+      node m n is false h = absurd (let found = asked-passes is (leb-false n k h) in let z : _≡_ {A = ℕ} 0 1 = cc in omega arith)
+
+      go : (a : Acceptance) → acceptance file ≡ a → numberOf r ≤ 11
+      go (Refused q) is = let stops = asked-refused is in let same : q ≡ r = cc in let h = file-refused file q is in rw (← same) (omega arith)
+      go (Accepted m n) is = node m n is (leb n k) refl
