@@ -112,6 +112,10 @@ listsBytes (l ∷ ls) = listBytes l ++ listsBytes ls
 unfoldable pub mapByte : List (List ℕ) → ℕ → ℕ
 mapByte ls j = pack 8 (λ i. not (eqb (length (getD ls (j * 8 + i) [])) 0))
 
+-- the same by the first entry of each subset, which is count where there is none
+unfoldable pub mapFrom : List ℕ → ℕ → ℕ → ℕ
+mapFrom first count j = pack 8 (λ i. ltb (getD first (j * 8 + i) 0) count)
+
 unfoldable pub instantiationBytes : List ℕ → List (List ℕ) → List ℕ
 instantiationBytes subsets ls = tab 15 (λ i. getD subsets (i + 1) 0) ++ (tab 32 (mapByte ls) ++ listsBytes ls)
 

@@ -1,5 +1,4 @@
 // Instantiations: reading them into the membership table, and writing them from it.
-mod chains;
 mod lists;
 mod reading;
 mod seen;

@@ -6,3 +6,5 @@ pub mod TableLaws
 pub mod Holders
 pub mod HolderLaws
 pub mod Holding
+pub mod Chains
+pub mod ChainLaws
