@@ -3,6 +3,7 @@
 mod chains;
 mod holders;
 mod merging;
+mod sorting;
 
 pub use chains::Chains;
 pub use chains::chain;
@@ -11,3 +12,4 @@ pub use holders::held_by;
 pub use merging::Entries;
 pub use merging::enter;
 pub use merging::no_entries;
+pub use sorting::sort_by_attribute;
