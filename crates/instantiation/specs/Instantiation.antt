@@ -2,7 +2,7 @@
 use Prim.Native.Nat.{ℕ, zero, suc, _+_, _-_, _*_, _/_, _%_, _≤_, _<_}
 use mathlib.Core.Path.{_≡_}
 use mathlib.Core.Bool.{Bool, true, false, cond, not}
-use mathlib.Core.List.{List, [], _∷_, _++_}
+use mathlib.Core.List.{List, [], _∷_, _++_, map}
 use lib.Dec.{eqb, ltb}
 use lib.ListN.{length, getD, drop}
 use Rattle.bits.specs.Bit.{bit}
@@ -13,7 +13,7 @@ use Rattle.refusal.specs.declared.Refusal.the-variants.{InputTruncated, InputFo
 use Rattle.type_record.specs.declared.lists.ListReading.{ListReading}
 use Rattle.type_record.specs.declared.lists.ListReading.the-variants.{Listed, Refused as ListRefused}
 use Rattle.type_record.specs.Lists.{readList, listed}
-use Rattle.membership.specs.Entries.{attributeOf, subsetOf, enter, tableOf}
+use Rattle.membership.specs.Entries.{entry, attributeOf, subsetOf, enter, tableOf}
 use Rattle.schema.specs.declared.reading.Judgement.the-variants.{Read, Refused}
 use Rattle.instantiation.specs.declared.reading.Instantiation.{Instantiation}
 use Rattle.instantiation.specs.Seen.{nothingSeen, repeatedIn}
@@ -57,6 +57,11 @@ entriesFrom s (l ∷ ls) es = entriesFrom (s + 1) ls (enter s l es)
 
 unfoldable pub entriesIn : List (List ℕ) → List ℕ
 entriesIn ls = entriesFrom 0 ls []
+
+-- the entries of these lists in the order of the bytes, under the subsets s, s + 1, ..
+abbrev pub listedFrom : ℕ → List (List ℕ) → List ℕ
+listedFrom s [] = []
+listedFrom s (l ∷ ls) = map (λ a. entry a s) l ++ listedFrom (s + 1) ls
 
 -- all attributes that are listed
 abbrev pub allListed : List (List ℕ) → List ℕ

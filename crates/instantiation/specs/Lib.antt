@@ -12,3 +12,4 @@ pub mod EntriesLaws
 pub mod ChainLaws
 pub mod MapLaws
 pub mod TableLaws
+pub mod SortedLists
