@@ -4,7 +4,7 @@ use mathlib.Core.Path.{_≡_}
 use mathlib.Core.Bool.{Bool, true, false, cond, not}
 use mathlib.Core.List.{List, [], _∷_, _++_, map}
 use lib.Dec.{eqb, ltb}
-use lib.ListN.{length, getD, drop}
+use lib.ListN.{length, getD, take, drop}
 use Rattle.bits.specs.Bit.{bit}
 use Rattle.bits.specs.Pack.{pack}
 use Rattle.bits.specs.Tab.{tab}
@@ -16,6 +16,7 @@ use Rattle.type_record.specs.Lists.{readList, listed}
 use Rattle.membership.specs.Entries.{entry, attributeOf, subsetOf, enter, tableOf}
 use Rattle.schema.specs.declared.reading.Judgement.the-variants.{Read, Refused}
 use Rattle.instantiation.specs.declared.reading.Instantiation.{Instantiation}
+use Rattle.instantiation.specs.declared.reading.ListsReading.{ListsReading}
 use Rattle.instantiation.specs.Seen.{nothingSeen, repeatedIn}
 
 -- ---- the lists
@@ -63,6 +64,10 @@ abbrev pub listedFrom : ℕ → List (List ℕ) → List ℕ
 listedFrom s [] = []
 listedFrom s (l ∷ ls) = map (λ a. entry a s) l ++ listedFrom (s + 1) ls
 
+-- the first k entries and more of them, at most 256 in all
+abbrev pub appended : ℕ → List ℕ → List ℕ → List ℕ
+appended k more es = take 256 (take k es ++ more)
+
 -- all attributes that are listed
 abbrev pub allListed : List (List ℕ) → List ℕ
 allListed [] = []
@@ -76,6 +81,14 @@ subsetsOf bytes = tab 16 (λ i. cond (eqb i 0) 0 (getD bytes (i - 1) 0))
 
 unfoldable pub refusedInstantiation : Refusal → Instantiation
 refusedInstantiation r = record { judgement = Refused r; subsets = tab 16 (λ i. 0); entries = tableOf [] }
+
+unfoldable pub refusedLists : Refusal → ListsReading
+refusedLists r = record { judgement = Refused r; repeated = false; entries = tableOf [] }
+
+-- the lists before they are judged together: whether an attribute is in two of them, and their entries in the order of the bytes
+abbrev pub gathered : Lists → ListsReading
+gathered (listsRefused r) = refusedLists r
+gathered (listsRead ls) = record { judgement = Read; repeated = repeatedIn nothingSeen (allListed ls); entries = tableOf (listedFrom 0 ls) }
 
 -- "17; 19; 18"
 abbrev pub tabled : Lists → List ℕ → Instantiation

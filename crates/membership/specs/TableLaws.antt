@@ -56,7 +56,7 @@ pub table-size : (es : List ℕ) → length (tableOf es .items) ≡ 256
 unfolding tableOf
 table-size es = length-tab 256 (λ i. getD es i 0)
 
-table-few : (es : List ℕ) → tableOf es .count ≤ 256
+pub table-few : (es : List ℕ) → tableOf es .count ≤ 256
 unfolding tableOf
 table-few es = let most = min-le-left 256 (length es) in let size = length-take 256 es in omega arith
 
