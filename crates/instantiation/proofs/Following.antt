@@ -5,17 +5,16 @@ use mathlib.Core.Bool.{true}
 use mathlib.Core.List.{List, [], _∷_}
 use native.Mathlib.Numerals.{add-one}
 use native.Mathlib.Omega.{arith}
-use borrow.Author.Tests.{eqb-true}
 use lib.ListN.{length, getD, set, take, drop, length-set, length-drop}
 use lib.Seq.{ext-getD, getD-set-same, getD-set-other, length-take-le}
 use Rattle.bits.specs.Part.{at-head}
 use Rattle.bits.specs.Tab.{over, over-is}
 use Rattle.bits.specs.Written.{Written, written-more}
-use Rattle.membership.specs.Entries.{subsetOf}
+use Rattle.membership.specs.Chains.{hasDigit, Chained}
+use Rattle.membership.specs.ChainLaws.{next-is, link-next}
 use Rattle.instantiation.specs.Instantiation.{withSubset, wordBytes, listBytes}
 use Rattle.instantiation.specs.ListBytes.{word-low, word-high, bytes-length}
-use Rattle.instantiation.specs.Chains.{hasSubset, entryFrom, Chained}
-use Rattle.instantiation.specs.ChainLaws.{subset-here, subset-next, subset-end, next-is}
+use Rattle.instantiation.specs.ChainLaws.{subset-here, subset-next, subset-end}
 use Rattle.instantiation.specs.SubsetLaws.{subset-few}
 
 -- ---- the bytes of a list
@@ -74,11 +73,11 @@ pub record Following (s : ℕ) (items : List ℕ) (count : ℕ) (old out : List 
   pub most : n ≤ 255
   pub reached : n ≤ length (withSubset s (take count items))
   pub upTo : i ≤ count
-  pub has : i < count → hasSubset items s i ≡ true
+  pub has : i < count → hasDigit 1 items s i ≡ true
   pub rest : drop n (withSubset s (take count items)) ≡ withSubset s (drop i (take count items))
   pub written : Written (listByte (getD old 0 0) (withSubset s (take count items))) (n * 2 + 1) old out
 
-module _ {items : List ℕ} {count : ℕ} {first next : List ℕ} (chained : Chained items count first next 0) where
+module _ {items : List ℕ} {count : ℕ} {first next : List ℕ} (chained : Chained 1 items count first next 0) where
   list-few : (s : ℕ) → length (withSubset s (take count items)) ≤ 255
   list-few s =
       let few = chained .few in
@@ -86,13 +85,9 @@ module _ {items : List ℕ} {count : ℕ} {first next : List ℕ} (chained : Cha
       let taken = length-take-le count items (chained .fit .enough) in
       omega arith
 
-  -- from an entry with this subset to the next
-  link-next : (s i : ℕ) → i < count → hasSubset items s i ≡ true → getD next i 0 ≡ entryFrom items count s (i + 1)
-  link-next s i inside has = chained .link i (omega arith) inside ∙ ap (λ (x : ℕ). entryFrom items count x (i + 1)) (eqb-true (subsetOf (getD items i 0)) s has)
-
   pub follow-first : {s : ℕ} {old : List ℕ} → s < 256 → Following s items count old old 0 (getD first s 0)
   follow-first {s} {old} small =
-      let is = next-is items count s 0 (omega arith) in
+      let is = next-is 1 items count s 0 (omega arith) in
       rw (chained .start s small)
       (record {
         most = omega arith;
@@ -108,8 +103,8 @@ module _ {items : List ℕ} {count : ℕ} {first next : List ℕ} (chained : Cha
       -- the next entry is a later one
       pub follow-later : i < getD next i 0
       follow-later =
-          let is = next-is items count s (i + 1) (omega arith) .from in
-          let link = link-next s i inside (h .has inside) in
+          let is = next-is 1 items count s (i + 1) (omega arith) .from in
+          let link = link-next chained s i inside (h .has inside) in
           omega arith
 
       -- an attribute is left
@@ -127,9 +122,9 @@ module _ {items : List ℕ} {count : ℕ} {first next : List ℕ} (chained : Cha
       pub follow-next : length (listBytes (withSubset s (take count items))) ≤ length old → Following s items count old (set (set out (n * 2 + 1) (getD items i 0 / 256 % 256)) (n * 2 + 2) (getD items i 0 / 256 / 256)) (n + 1) (getD next i 0)
       follow-next fits =
           let here = at-head (withSubset s (take count items)) n 0 _ _ (h .rest ∙ subset-here items count (chained .fit) s i inside (h .has inside)) in
-          let is = next-is items count s (i + 1) (omega arith) in
+          let is = next-is 1 items count s (i + 1) (omega arith) in
           let below = here .below in
-          rw (link-next s i inside (h .has inside))
+          rw (link-next chained s i inside (h .has inside))
           (record {
             most = let few = list-few s in omega arith;
             reached = omega arith;

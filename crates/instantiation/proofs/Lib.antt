@@ -1,3 +1,4 @@
+mod Append
 mod Finish
 mod Marking
 mod More

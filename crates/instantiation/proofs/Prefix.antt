@@ -10,8 +10,8 @@ use lib.ListN.{length, take, length-append}
 use lib.Seq.{length-take-le}
 use Rattle.bits.specs.Part.{over-more}
 use Rattle.bits.specs.Tab.{tab, tab-more, over, over-length}
+use Rattle.membership.specs.Chains.{Chained}
 use Rattle.instantiation.specs.Instantiation.{withSubset, listsOf, listBytes, listsBytes}
-use Rattle.instantiation.specs.Chains.{Chained}
 use Rattle.instantiation.specs.SubsetLaws.{lists-few}
 
 -- ---- one more
@@ -38,7 +38,7 @@ pub prefix-first : (es old : List ℕ) → Prefix es old old 0 0
 unfolding over tab
 prefix-first es old = record { upTo = omega arith; size = refl; written = refl }
 
-module _ {items : List ℕ} {count : ℕ} {first next old out : List ℕ} {at s : ℕ} (chained : Chained items count first next 0) (fits : 765 ≤ length old) (h : Prefix (take count items) old out at s) where
+module _ {items : List ℕ} {count : ℕ} {first next old out : List ℕ} {at s : ℕ} (chained : Chained 1 items count first next 0) (fits : 765 ≤ length old) (h : Prefix (take count items) old out at s) where
   few : (n : ℕ) → length (bytesTo n (take count items)) ≤ 765
   few n =
       let most = lists-few n (take count items) in

@@ -2,65 +2,61 @@
 use Prim.Native.Nat.{ℕ, suc, _+_, _-_, _*_, _≤_, _<_}
 use mathlib.Core.Path.{_≡_, refl, sym, ap, ap₂, _∙_}
 use mathlib.Core.Bool.{Bool, true, false, _||_}
-use mathlib.Core.List.{List, [], _∷_, _++_, append-nil}
+use mathlib.Core.List.{List, [], _∷_, _++_, map, append-nil}
 use native.Mathlib.Omega.{arith}
-use borrow.Author.Tests.{le-ltb}
-use lib.ListN.{length, getD, take, drop, replicate, length-replicate, length-append, length-drop}
+use lib.ListN.{length, take, drop, replicate, length-replicate, length-append, length-drop}
 use lib.Seq.{drop-drop, getD-drop}
 use Rattle.bits.specs.Part.{part-from}
 use Rattle.bits.specs.Rising.{member}
-use Rattle.bits.specs.Tab.{tab}
+use Rattle.bits.specs.Tab.{tab, over}
 use Rattle.bits.specs.Word.{word, Bytes}
 use Rattle.refusal.specs.declared.Refusal.{Refusal}
 use Rattle.type_record.specs.declared.lists.ListReading.{ListReading}
 use Rattle.type_record.specs.declared.lists.ListReading.the-variants.{Listed, Refused as ListRefused}
 use Rattle.type_record.specs.Lists.{readList, listed}
-use Rattle.type_record.specs.ListLaws.{HoldsList, list-holds, listed-below}
+use Rattle.type_record.specs.ListLaws.{HoldsList, list-holds}
 use Rattle.membership.specs.declared.merging.Entries.{Entries}
-use Rattle.membership.specs.Entries.{enter, tableOf, Table, ListFits}
-use Rattle.membership.specs.TableLaws.{Below, is-table, enter-table}
-use Rattle.instantiation.specs.Instantiation.{standing, follow, precede, readLists, entriesIn, allListed, refusedInstantiation, instantiationReading}
+use Rattle.membership.specs.Entries.{entry, tableOf, ListFits}
+use Rattle.membership.specs.TableLaws.{table-few, table-size, table-over}
+use Rattle.instantiation.specs.Instantiation.{standing, follow, precede, readLists, listedFrom, appended, allListed, refusedLists, gathered}
 use Rattle.instantiation.specs.ReadStep.{read-clear, read-stands}
 use Rattle.instantiation.specs.Seen.{nothingSeen, repeatedIn, seenIn, Marked}
 use Rattle.instantiation.specs.SeenLaws.{member-append, repeated-same, repeated-append, marks-none}
-use Rattle.instantiation.proofs.More.{precedeAll, precede-more, precede-refused, AllBelow, entries-below, all-more, entries-more, listed-more}
+use Rattle.instantiation.proofs.Append.{appended-table}
+use Rattle.instantiation.proofs.More.{precedeAll, precede-more, precede-refused, entries-more, listed-more}
 
-pub record Resumed (bytes seen : List ℕ) (repeated : Bool) (entries : Entries) (at s : ℕ) : Type 0 where
+pub record Resumed (bytes seen : List ℕ) (repeated : Bool) (items : List ℕ) (k at s : ℕ) : Type 0 where
   -- the lists of the subsets before s
   pub done : List (List ℕ)
   pub count : length done ≡ s
-  pub all : AllBelow done
   pub most : s ≤ 256
   pub inside : at ≤ length bytes
   pub size : length seen ≡ 8192
   pub marks : (a : ℕ) → seenIn seen a ≡ member a (allListed done)
   pub repeats : repeatedIn nothingSeen (allListed done) ≡ repeated
-  pub table : entries ≡ tableOf (entriesIn done)
+  pub table : record { count = k; items = items } ≡ tableOf (listedFrom 0 done)
   pub rest : readLists bytes 256 0 (drop 47 bytes) ≡ precedeAll done (readLists bytes (256 - s) s (drop at bytes))
 
-pub resumed-start : (bytes : List ℕ) (entries : Entries) → 47 ≤ length bytes → entries ≡ tableOf [] → Resumed bytes (replicate 8192 0) false entries 47 0
-unfolding entriesIn
-resumed-start bytes entries enough e =
+pub resumed-start : (bytes : List ℕ) → 47 ≤ length bytes → Resumed bytes (replicate 8192 0) false (replicate 256 0) 0 47 0
+unfolding over
+resumed-start bytes enough =
     record {
       done = [];
       count = refl;
-      all = tt;
       most = omega arith;
       inside = enough;
       size = length-replicate {A = ℕ} 8192 0;
       marks = λ a. marks-none 8192 a;
       repeats = refl;
-      table = e;
+      table = table-over [] (omega arith);
       rest = refl;
     }
 
-listed-all : (b : ℕ) (l : List ℕ) → ((i : ℕ) → getD l i 0 < b) → Below b l
-listed-all b [] below = tt
-listed-all b (x ∷ l) below = (below 0, listed-all b l (λ i. below (suc i)))
-
-module _ {bytes seen : List ℕ} {repeated : Bool} {entries : Entries} {at s : ℕ} (h : Resumed bytes seen repeated entries at s) where
-  pub is-entries : Table entries
-  is-entries = let c = h .count in let most = h .most in rw (h .table) (is-table (entriesIn (h .done)) (entries-below (h .done) (omega arith) (h .all)))
+module _ {bytes seen : List ℕ} {repeated : Bool} {items : List ℕ} {k at s : ℕ} (h : Resumed bytes seen repeated items k at s) where
+  -- the table has 256 places
+  pub table-room : (k ≤ 256) × (length items ≡ 256)
+  table-room =
+      (rw (ap (λ (t : Entries). t .count) (h .table)) (table-few (listedFrom 0 (h .done))), ap (λ (t : Entries). length (t .items)) (h .table) ∙ table-size (listedFrom 0 (h .done)))
 
   -- ---- a clear bit
 
@@ -69,8 +65,7 @@ module _ {bytes seen : List ℕ} {repeated : Bool} {entries : Entries} {at s : �
       let left : 256 - s ≡ suc (256 - (s + 1)) = omega arith in
       rw left (read-clear bytes (256 - (s + 1)) s (drop at bytes) clear)
 
-  pub resumed-clear : s < 256 → standing bytes s ≡ false → Resumed bytes seen repeated entries at (s + 1)
-  unfolding enter
+  pub resumed-clear : s < 256 → standing bytes s ≡ false → Resumed bytes seen repeated items k at (s + 1)
   resumed-clear more clear =
       let c = h .count in
       let whole = length-append (h .done) ([] ∷ []) in
@@ -78,13 +73,12 @@ module _ {bytes seen : List ℕ} {repeated : Bool} {entries : Entries} {at s : �
       record {
         done = h .done ++ ([] ∷ []);
         count = omega arith;
-        all = all-more [] (h .done) (h .all) tt;
         most = omega arith;
         inside = h .inside;
         size = h .size;
         marks = λ a. h .marks a ∙ ap (member a) (sym same);
         repeats = ap (repeatedIn nothingSeen) same ∙ h .repeats;
-        table = h .table ∙ ap tableOf (sym (entries-more [] (h .done)));
+        table = h .table ∙ ap tableOf (sym (entries-more [] (h .done) ∙ append-nil (listedFrom 0 (h .done))));
         rest = h .rest ∙ ap (precedeAll (h .done)) (none-more more clear) ∙ precede-more (h .done) [] (readLists bytes (256 - (s + 1)) (s + 1) (drop at bytes));
       }
 
@@ -100,10 +94,9 @@ module _ {bytes seen : List ℕ} {repeated : Bool} {entries : Entries} {at s : �
       let reading : readList (drop at bytes) ≡ x = rw part-from at e in
       rw (left, ← reading) (read-stands bytes (256 - (s + 1)) s (drop at bytes) stands)
 
-  pub resumed-refused : {x : Refusal} → 47 ≤ length bytes → s < 256 → standing bytes s ≡ true → Reads (ListRefused x) → refusedInstantiation x ≡ instantiationReading bytes
-  unfolding instantiationReading
-  resumed-refused {x} enough more stands e =
-      sym (rw (le-ltb (length bytes) 47 enough, h .rest ∙ ap (precedeAll (h .done)) (one-more (ListRefused x) more stands e) ∙ precede-refused (h .done) x))
+  pub resumed-refused : {x : Refusal} → s < 256 → standing bytes s ≡ true → Reads (ListRefused x) → refusedLists x ≡ gathered (readLists bytes 256 0 (drop 47 bytes))
+  resumed-refused {x} more stands e =
+      sym (ap gathered (h .rest ∙ ap (precedeAll (h .done)) (one-more (ListRefused x) more stands e) ∙ precede-refused (h .done) x))
 
   module _ {n : ℕ} (below : Bytes bytes) (e : Reads (Listed n)) where
     after : Bytes (drop at bytes)
@@ -149,26 +142,22 @@ module _ {bytes seen : List ℕ} {repeated : Bool} {entries : Entries} {at s : �
         ∙ sym again-is)
         ∙ sym next-is
 
-    entered-is : tableOf (enter s attributes (take (entries .count) (entries .items))) ≡ tableOf (entriesIn (h .done ++ (listed n (drop at bytes) ∷ [])))
-    entered-is =
-        rw (attributes-are, h .table, entries-more (listed n (drop at bytes)) (h .done), h .count)
-        (enter-table s (listed n (drop at bytes)) (entriesIn (h .done)))
-
-    pub resumed-next : {marks : List ℕ} {again twice : Bool} {next : Entries} → s < 256 → standing bytes s ≡ true → again ≡ repeatedIn (seenIn seen) attributes → Marked attributes seen marks → twice ≡ repeated || again → next ≡ tableOf (enter s attributes (take (entries .count) (entries .items))) → Resumed bytes marks twice next (at + (n * 2 + 1)) (s + 1)
-    resumed-next {marks} more stands again-is marked twice-is next-is =
+    pub resumed-next : {marks : List ℕ} {again twice : Bool} {out : List ℕ} {r : ℕ} → s < 256 → standing bytes s ≡ true → again ≡ repeatedIn (seenIn seen) attributes → Marked attributes seen marks → twice ≡ repeated || again → r ≡ length (appended k (map (λ a. entry a s) attributes) items) → out ≡ over (appended k (map (λ a. entry a s) attributes) items) items → Resumed bytes marks twice out r (at + (n * 2 + 1)) (s + 1)
+    resumed-next {marks} more stands again-is marked twice-is r-is out-is =
         let fits = list-inside .1 in
         let c = h .count in
         let whole = length-append (h .done) (listed n (drop at bytes) ∷ []) in
         record {
           done = h .done ++ (listed n (drop at bytes) ∷ []);
           count = omega arith;
-          all = all-more (listed n (drop at bytes)) (h .done) (h .all) (listed-all 65536 (listed n (drop at bytes)) (λ i. listed-below (drop at bytes) n i after));
           most = omega arith;
           inside = fits;
           size = marked .size ∙ h .size;
           marks = marks-more marks marked;
           repeats = repeats-more again-is twice-is;
-          table = next-is ∙ entered-is;
+          table =
+              appended-table (listedFrom 0 (h .done)) (map (λ a. entry a s) attributes) (h .table) r-is out-is
+              ∙ ap tableOf (ap₂ (λ (m : ℕ) (l : List ℕ). listedFrom 0 (h .done) ++ map (λ a. entry a m) l) (sym (h .count)) attributes-are ∙ sym (entries-more (listed n (drop at bytes)) (h .done)));
           rest =
               h .rest
               ∙ ap (precedeAll (h .done)) (one-more (Listed n) more stands e)

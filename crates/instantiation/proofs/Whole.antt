@@ -8,8 +8,8 @@ use lib.ListN.{length, getD, take, length-append}
 use lib.Seq.{length-take-le}
 use Rattle.bits.specs.Part.{over-more}
 use Rattle.bits.specs.Tab.{tab, length-tab, over}
-use Rattle.instantiation.specs.Instantiation.{listsOf, mapByte, listsBytes, instantiationBytes, WritesFrom}
-use Rattle.instantiation.specs.Chains.{Chained, mapFrom}
+use Rattle.membership.specs.Chains.{Chained}
+use Rattle.instantiation.specs.Instantiation.{listsOf, mapByte, mapFrom, listsBytes, instantiationBytes, WritesFrom}
 use Rattle.instantiation.specs.ChainLaws.{map-is}
 use Rattle.instantiation.specs.EntriesLaws.{lists-most}
 
@@ -20,7 +20,7 @@ part-over at a b old out part size before is = rw (is, ← size) (over-more a b 
 abbrev special : List ℕ → List ℕ
 special subsets = tab 15 (λ i. getD subsets (i + 1) 0)
 
-module _ (old subsets : List ℕ) {items : List ℕ} {count : ℕ} {first next out : List ℕ} (chained : Chained items count first next 0) (out-is : out ≡ over (special subsets) old) where
+module _ (old subsets : List ℕ) {items : List ℕ} {count : ℕ} {first next out : List ℕ} (chained : Chained 1 items count first next 0) (out-is : out ≡ over (special subsets) old) where
   module _ {map : List ℕ} (map-written : map ≡ over (tab 32 (mapFrom first count)) (midOf 15 (length out - 15) out)) where
     head-length : length (special subsets ++ tab 32 (mapFrom first count)) ≡ 47
     head-length =

@@ -19,7 +19,7 @@ Apart (l ∷ ls) = ((a : ℕ) → member a l ≡ true → member a (allListed ls
 
 -- ---- tests
 
-or-neither : (a b : Bool) → a || b ≡ false → (a ≡ false) × (b ≡ false)
+pub or-neither : (a b : Bool) → a || b ≡ false → (a ≡ false) × (b ≡ false)
 or-neither true b e = absurd (let z : _≡_ {A = ℕ} 0 1 = cc in omega arith)
 or-neither false b e = (refl, e)
 
@@ -71,7 +71,7 @@ repeated-append seen (x ∷ xs) ys =
     ∙ sym (or-assoc (seen x) (repeatedIn (λ a. seen a || eqb a x) xs) (repeatedIn (λ a. seen a || (eqb a x || member a xs)) ys))
 
 -- without repeats no attribute that was seen comes again
-seen-once : (seen : ℕ → Bool) (xs : List ℕ) → repeatedIn seen xs ≡ false → (a : ℕ) → seen a ≡ true → member a xs ≡ false
+pub seen-once : (seen : ℕ → Bool) (xs : List ℕ) → repeatedIn seen xs ≡ false → (a : ℕ) → seen a ≡ true → member a xs ≡ false
 seen-once seen [] e a h = refl
 seen-once seen (x ∷ xs) e a h =
     let both = or-neither (seen x) (repeatedIn (λ a. seen a || eqb a x) xs) e in

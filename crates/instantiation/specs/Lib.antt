@@ -9,7 +9,7 @@ pub mod Apart
 pub mod SubsetLaws
 pub mod Owners
 pub mod EntriesLaws
-pub mod Chains
 pub mod ChainLaws
 pub mod MapLaws
 pub mod TableLaws
+pub mod SortedLists

@@ -1,5 +1,5 @@
 // Instantiations: reading them into the membership table, and writing them from it.
-mod chains;
+mod appending;
 mod lists;
 mod reading;
 mod seen;

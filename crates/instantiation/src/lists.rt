@@ -5,8 +5,8 @@ ghost use Prim.Native.Nat.{_+_, _*_, _≤_, _<_};
 ghost use lib.Dec.{ltb};
 ghost use lib.ListN.{length, take};
 ghost use Rattle.bits.specs.Tab.{tab, over};
-ghost use Rattle.instantiation.specs.Instantiation.{withSubset, listsOf, listBytes, listsBytes};
-ghost use Rattle.instantiation.specs.Chains.{Chained, mapFrom};
+ghost use Rattle.membership.specs.Chains.{Chained};
+ghost use Rattle.instantiation.specs.Instantiation.{withSubset, listsOf, listBytes, listsBytes, mapFrom};
 
 // Writes the list of subset s to the front of the slice, nothing where it is empty, and gives its length.
 fn write_list(
@@ -18,7 +18,7 @@ fn write_list(
     count: usize,
 ) -> usize
     requires { ⌜ s < 256 ⌝ }
-    requires { ⌜ Chained (now items) count (now first) (now next) 0 ⌝ }
+    requires { ⌜ Chained 1 (now items) count (now first) (now next) 0 ⌝ }
     requires { ⌜ length (listBytes (withSubset s (take count (now items)))) ≤ length (now out) ⌝ }
     ensures { λ r. ⌜ r ≡ length (listBytes (withSubset s (take count (now (items .entry))))) ⌝ }
     ensures { λ _. ⌜ now (out .exit) ≡ over (listBytes (withSubset s (take count (now (items .entry))))) (now (out .entry)) ⌝ }
@@ -47,7 +47,7 @@ pub fn write_lists(
     items: &[u32],
     count: usize,
 ) -> usize
-    requires { ⌜ Chained (now items) count (now first) (now next) 0 ⌝ }
+    requires { ⌜ Chained 1 (now items) count (now first) (now next) 0 ⌝ }
     requires { ⌜ 765 ≤ length (now out) ⌝ }
     ensures { λ r. ⌜ r ≡ length (listsBytes (listsOf (take count (now (items .entry))))) ⌝ }
     ensures { λ _. ⌜ now (out .exit) ≡ over (listsBytes (listsOf (take count (now (items .entry))))) (now (out .entry)) ⌝ }

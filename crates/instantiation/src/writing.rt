@@ -4,9 +4,9 @@ ghost use lib.ListN.{length, take, getD};
 ghost use Rattle.bits.specs.Tab.{tab, over};
 ghost use Prim.Native.Nat.{_+_, _≤_};
 ghost use Rattle.instantiation.specs.Instantiation.{listsOf, instantiationBytes, WritesFrom};
-use crate::chains::chain;
 use crate::lists::write_lists;
 use crate::lists::write_map;
+use membership::chain;
 
 // Writes the subsets of the special attributes 1 to 15 to the front of the slice.
 fn write_special(out: &mut [u8], subsets: &[u8])
@@ -28,7 +28,7 @@ pub fn write_instantiation(out: &mut [u8], subsets: &[u8], items: &[u32], count:
     ensures { λ r. ⌜ r ≡ length (instantiationBytes (now (subsets .entry)) (listsOf (take count (now (items .entry))))) ⌝ }
     ensures { λ _. ⌜ now (out .exit) ≡ over (instantiationBytes (now (subsets .entry)) (listsOf (take count (now (items .entry))))) (now (out .entry)) ⌝ }
 {
-    let chains = chain(items, count);
+    let chains = chain(items, count, 1);
     let first = chains.first;
     let next = chains.next;
     write_special(out, subsets);

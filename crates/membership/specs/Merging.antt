@@ -208,7 +208,7 @@ tab-below n f bound some h x = go (decLt x n)
     go (yes inside) = rw (getD-tab n f x 0 inside) (h x)
     go (no past) = let size = length-tab n f in rw (List·getD-eq-default (tab n f) 0 {n = x} (omega arith)) some
 
-front-below : (n : ℕ) (xs : List ℕ) (bound : ℕ) → 0 < bound → ((x : ℕ) → getD xs x 0 < bound) → (x : ℕ) → getD (take n xs) x 0 < bound
+pub front-below : (n : ℕ) (xs : List ℕ) (bound : ℕ) → 0 < bound → ((x : ℕ) → getD xs x 0 < bound) → (x : ℕ) → getD (take n xs) x 0 < bound
 front-below n xs bound some h x = go (decLt x n)
   where
     go : Dec (x < n) → getD (take n xs) x 0 < bound

@@ -7,9 +7,9 @@ use native.Mathlib.Decide.{decLt}
 use native.Mathlib.Omega.{arith}
 use lib.Bits.{bitOr, or-lt}
 use lib.Dec.{lit<}
-use lib.ListN.{length, getD, take, length-take, List·getD-eq-default}
+use lib.ListN.{length, getD, take, replicate, length-take, length-replicate, getD-replicate, List·getD-eq-default}
 use lib.Seq.{take-nil, take-take, take-all, getD-take, ext-getD, length-take-le}
-use Rattle.bits.specs.Tab.{tab, length-tab, getD-tab, tab-is}
+use Rattle.bits.specs.Tab.{tab, length-tab, getD-tab, tab-is, over, over-length, over-front, over-back}
 use Rattle.membership.specs.Entries.{entry, attributeOf, enter, tableOf, Table}
 use Rattle.membership.specs.EnterLaws.{enter-lower, enter-higher, enter-equal, Order, lower, higher, equal, order}
 
@@ -56,7 +56,7 @@ pub table-size : (es : List ℕ) → length (tableOf es .items) ≡ 256
 unfolding tableOf
 table-size es = length-tab 256 (λ i. getD es i 0)
 
-table-few : (es : List ℕ) → tableOf es .count ≤ 256
+pub table-few : (es : List ℕ) → tableOf es .count ≤ 256
 unfolding tableOf
 table-few es = let most = min-le-left 256 (length es) in let size = length-take 256 es in omega arith
 
@@ -72,6 +72,23 @@ table-count es h = ap length (take-all 256 es (omega arith))
 pub table-full : (es : List ℕ) → 255 < length es → 255 < tableOf es .count
 unfolding tableOf
 table-full es h = rw (length-take-le 256 es h) (lit< tt)
+
+-- all entries, where there are at most 255
+pub table-all : (es : List ℕ) (n : ℕ) → length es ≡ n → n ≤ 255 → take n (tableOf es .items) ≡ es
+table-all es n size few =
+    ap (λ (k : ℕ). take k (tableOf es .items)) (sym (table-count es (omega arith) ∙ size)) ∙ table-entries es ∙ take-all 256 es (omega arith)
+
+-- a table of at most 256 entries, as it is written
+pub table-over : (es : List ℕ) → length es ≤ 256 → record { count = length es; items = over es (replicate 256 0) } ≡ tableOf es
+unfolding tableOf
+table-over es most =
+    let zeros = length-replicate {A = ℕ} 256 0 in
+    ap₂ (λ (c : ℕ) (l : List ℕ). record { count = c; items = l }) (ap length (sym (take-all 256 es most)))
+    (tab-is 256 (λ i. getD es i 0) 0 (over es (replicate 256 0)) (over-length es (replicate 256 0) (omega arith) ∙ zeros) (λ i h. each i h (decLt i (length es))))
+  where
+    each : (i : ℕ) → i < 256 → Dec (i < length es) → getD (over es (replicate 256 0)) i 0 ≡ getD es i 0
+    each i h (yes inside) = over-front es (replicate 256 0) i 0 inside
+    each i h (no past) = over-back es (replicate 256 0) i 0 (omega arith) ∙ getD-replicate {A = ℕ} 256 i 0 0 h ∙ sym (List·getD-eq-default es 0 {n = i} (omega arith))
 
 -- ---- entries below 2 ^ 24
 
