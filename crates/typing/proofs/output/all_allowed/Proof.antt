@@ -38,7 +38,7 @@ loop-less : tie.Need-loop-less Inv-loop μ-loop
 loop-less c = search needs
 
 loop-again : tie.Need-loop-again Inv-loop μ-loop
-loop-again c = (omega arith, all-next _ _ (c .before .before .before .loop .inv .1) (eq-eqb _ 255 (c .if1 .left)))
+loop-again c = (omega arith, all-next (c .before .before .before .loop .b) (λ x. eqb (getD (c .before .before .before .before .args .allowed .now) (c .before .before .before .before .args .node * 48 + x) 0) 255) (c .before .before .before .loop .inv .1) (eq-eqb _ 255 (c .if1 .left)))
 
 returns-2 : tie.Need-returns-2 Inv-loop μ-loop
 returns-2 c = let all : c .before .loop .b ≡ c .before .before .args .lanes = omega arith in sym (rw all at (c .before .loop .inv .1))
