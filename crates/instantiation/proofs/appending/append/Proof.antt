@@ -1,6 +1,7 @@
 use Prim.Native.Nat.{_+_, _-_, _*_}
 use mathlib.Core.List.{map}
 use mathlib.Core.Logic.{inl, inr}
+use native.Mathlib.Nat.{le-trans}
 use native.Mathlib.Omega.{arith}
 use borrow.Author.Tests.{ltb-true, ltb-false}
 use Rattle.bits.specs.Tab.{tab}
@@ -50,7 +51,7 @@ slice-write-items : tie.Need-slice-write-items Inv-loop μ-loop
 slice-write-items c =
     let args = c .before .before .before .before .before .before .args in
     let pre = c .before .before .before .before .before .before .pre in
-    adding-room (args .count) (args .subset) (λ x. word (args .list .now) (x * 2 + 1)) (pre .0 .0) (pre .0 .1) (c .before .before .before .loop .inv) (ltb-true _ _ (c .before .if1 .taken))
+    adding-room (args .count) (args .subset) (λ x. word (args .list .now) (x * 2 + 1)) (pre .0 .0) (pre .0 .1) (c .before .before .before .loop .inv) (le-trans (ltb-true _ _ (c .before .if1 .taken)) (omega arith))
 
 add-at : tie.Need-add-at Inv-loop μ-loop
 add-at c = search needs
@@ -65,7 +66,7 @@ loop-again : tie.Need-loop-again Inv-loop μ-loop
 loop-again c =
     let args = c .before .before .before .before .before .before .args in
     let pre = c .before .before .before .before .before .before .pre in
-    adding-more (args .count) (args .subset) (λ x. word (args .list .now) (x * 2 + 1)) (pre .0 .0) (pre .0 .1) (c .before .before .before .loop .inv) (c .before .before .loop-test .taken) (ltb-true _ _ (c .before .if1 .taken)) (c .word-at .ensures)
+    adding-more (args .count) (args .subset) (λ x. word (args .list .now) (x * 2 + 1)) (pre .0 .0) (pre .0 .1) (c .before .before .before .loop .inv) (c .before .before .loop-test .taken) (le-trans (ltb-true _ _ (c .before .if1 .taken)) (omega arith)) (c .word-at .ensures)
 
 same-length : tie.Need-same-length Inv-loop μ-loop
 same-length c = c .before .before .loop .inv .written .written .size
