@@ -1,15 +1,14 @@
-//! The reference alone: typing rules, Formula, Verdict and the listing. Needs no
-//! archive.
+//! The reference alone: typing rules, Formula, Verdict and the listing.
 
 use std::time::{Duration, Instant};
 
 use type_formula_tests::examples::{cases, e1, from_hexadecimal, join_of_eight};
-use type_formula_tests::formula_examples::{e1_columns, formula_examples, E2_SCHEMA};
+use type_formula_tests::formula_examples::{assert_e1_columns, formula_examples, E2_SCHEMA};
 use type_formula_tests::random::Random;
 use type_formula_tests::reference::{
     allowed_subsets, assignment_of, encode_file, formula, holders, infer, is_allowed, is_output,
     listing, read_schema, type_of, verdict, Formula, Inferred, Node, Type, Verdict, COLUMNS,
-    COLUMN_LENGTH, FORMULA_LENGTH, SCHEMA_LENGTH,
+    FORMULA_LENGTH, SCHEMA_LENGTH,
 };
 
 /// The ordinary attributes of the random assignments.
@@ -283,14 +282,7 @@ fn examples_have_their_formulas_verdicts_and_listings() {
 fn e1_has_these_bytes() {
     let mut work = vec![0xaa; 7 * FORMULA_LENGTH];
     assert_eq!(formula(&e1().bytes, &mut work), 0);
-    for (column, wanted) in e1_columns().iter().enumerate() {
-        let start = 6 * FORMULA_LENGTH + column * COLUMN_LENGTH;
-        assert_eq!(
-            work[start..start + COLUMN_LENGTH],
-            *wanted,
-            "column {column}"
-        );
-    }
+    assert_e1_columns(&work);
 }
 
 /// E2, E3 and E4: E1 under its witness, with 20 in r0 and r1, with 20 in r0 only.
