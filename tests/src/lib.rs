@@ -23,6 +23,8 @@ pub mod input;
 pub mod instantiation_examples;
 /// Slices to lend to the engine.
 pub mod lent;
+/// A mixture of inputs of all operations.
+pub mod mixture;
 /// Seeded generation of files, assignments, instantiations and bytes.
 pub mod random;
 /// The other implementation, written from document 01.
