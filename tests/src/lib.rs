@@ -29,5 +29,7 @@ pub mod mixture;
 pub mod random;
 /// The other implementation, written from document 01.
 pub mod reference;
+/// Calls of the reference alone.
+pub mod reference_calls;
 /// Calls of Typing with their answers.
 pub mod typing_examples;
