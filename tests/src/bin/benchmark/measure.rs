@@ -1,8 +1,9 @@
 //! Medians of calls that alternate.
 //!
-//! What is compared alternates in short batches in one run, so that the noise of the
-//! machine meets all alike; all use the same slices. The time of a call is the median over many batches of the mean
-//! in a batch; a ratio is that of two such medians.
+//! What is compared alternates in short batches in one run and uses the same slices, so
+//! that the noise of the machine and the place in memory meet all alike. The time of a call
+//! is the median over many batches of the mean in a batch; a ratio is that of two such
+//! medians.
 
 use std::time::{Duration, Instant};
 

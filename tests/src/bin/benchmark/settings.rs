@@ -1,5 +1,6 @@
 //! Files, schemas and instantiations that are measured.
 
+use std::collections::HashSet;
 use std::mem::discriminant;
 
 use type_formula_tests::examples::{e1, e10_nodes, join_of_eight};
@@ -62,14 +63,8 @@ pub fn e1_with_10_columns() -> Setting {
 
 /// Whether all nine cases of nodes occur.
 fn has_all_cases(nodes: &[Node]) -> bool {
-    let mut cases: Vec<_> = nodes.iter().map(discriminant).collect();
-    let mut different = Vec::new();
-    while let Some(case) = cases.pop() {
-        if !different.contains(&case) {
-            different.push(case);
-        }
-    }
-    different.len() == 9
+    let cases: HashSet<_> = nodes.iter().map(discriminant).collect();
+    cases.len() == 9
 }
 
 /// The first seeded file with m 8, n 64 and all cases of nodes whose last node is typable

@@ -69,10 +69,9 @@ fn print_comparisons() {
         "copy",
     ];
     print_head(title, &names.map(String::from));
-    let formulas = &[Operation::Formula, Operation::Verdict][..];
     for (setting, operations) in [
         (e1_with_10_columns(), &OPERATIONS[..]),
-        (random_of_64_nodes(), formulas),
+        (random_of_64_nodes(), &OPERATIONS[..2]),
         (of_attributes(64, 255, Lists::Three), &OPERATIONS[2..]),
         (of_attributes(64, 255, Lists::OneInEach), &OPERATIONS[2..]),
     ] {
@@ -83,13 +82,11 @@ fn print_comparisons() {
     }
 }
 
-/// The engine's times for these settings, each with its ratio to the one before.
-fn doubling(operation: Operation, settings: &[Setting]) -> Vec<String> {
-    settings.iter().for_each(|each| check(operation, each));
-    let calls = settings
-        .iter()
-        .map(|each| call(operation, By::Engine, each).expect("has every operation"));
-    let times = medians(&calls.collect::<Vec<Call>>());
+/// A column of a table: its name, and the operation for each setting.
+type Column<'a> = (String, Operation, &'a [Setting]);
+
+/// The times of a column, each with its ratio to the one before.
+fn with_ratios(times: &[f64]) -> Vec<String> {
     let ratio = |place: usize| match place {
         0 => String::new(),
         _ => format!(" ({:.2})", times[place] / times[place - 1]),
@@ -98,12 +95,24 @@ fn doubling(operation: Operation, settings: &[Setting]) -> Vec<String> {
     times.iter().enumerate().map(cell).collect()
 }
 
-/// Prints columns of cells, each with its name, as a table.
-fn print_columns(title: &str, columns: &[(String, Vec<String>)]) {
-    let names: Vec<String> = columns.iter().map(|(name, _)| name.clone()).collect();
+/// The engine's times as a table; the batches of all its calls alternate. Each row is for
+/// one of the counts and for the setting at its place.
+fn print_doubling(title: &str, (name, counts): (&str, &[u32]), columns: &[Column]) {
+    let mut calls: Vec<Call> = Vec::new();
+    for (_, operation, settings) in columns {
+        for setting in *settings {
+            check(*operation, setting);
+            calls.extend(call(*operation, By::Engine, setting));
+        }
+    }
+    let times = medians(&calls);
+    let cells: Vec<Vec<String>> = times.chunks(counts.len()).map(with_ratios).collect();
+    let names = columns.iter().map(|(name, _, _)| name.clone());
+    let names: Vec<String> = [name.to_string()].into_iter().chain(names).collect();
     print_head(title, &names);
-    for place in 0..columns[0].1.len() {
-        let row: Vec<String> = columns.iter().map(|(_, all)| all[place].clone()).collect();
+    for (place, count) in counts.iter().enumerate() {
+        let row = cells.iter().map(|column| column[place].clone());
+        let row: Vec<String> = [count.to_string()].into_iter().chain(row).collect();
         print_row(&row);
     }
 }
@@ -111,14 +120,11 @@ fn print_columns(title: &str, columns: &[(String, Vec<String>)]) {
 /// The engine as nodes double.
 fn print_nodes() {
     let counts = [8, 16, 32, 64];
-    let settings = counts.map(of_nodes);
-    let mut columns = vec![("n".into(), counts.map(|count| count.to_string()).into())];
-    for operation in OPERATIONS {
-        columns.push((format!("{operation:?}"), doubling(operation, &settings)));
-    }
+    let settings = counts.map(|count| of_nodes(count as u8));
+    let column = |operation| (format!("{operation:?}"), operation, &settings[..]);
     let title = "As nodes double, m 8 and 15 ordinary attributes: nanoseconds, and in brackets \
                  the ratio to the row before.";
-    print_columns(title, &columns);
+    print_doubling(title, ("n", &counts), &OPERATIONS.map(column));
 }
 
 /// The engine as attributes double, for so many nodes.
@@ -126,21 +132,18 @@ fn print_attributes(nodes: usize) {
     let counts = [15, 31, 63, 127, 255];
     let settings = |lists| counts.map(|count| of_attributes(nodes, count, lists));
     let (three, one_in_each) = (settings(Lists::Three), settings(Lists::OneInEach));
-    let mut columns = vec![(
-        "Ordinary attributes".into(),
-        counts.map(|count| count.to_string()).into(),
-    )];
-    for operation in [Operation::Typing, Operation::Apply, Operation::Recover] {
-        let name = format!("{operation:?}, three lists");
-        columns.push((name, doubling(operation, &three)));
-        let name = format!("{operation:?}, one attribute in each list");
-        columns.push((name, doubling(operation, &one_in_each)));
+    let mut columns: Vec<Column> = Vec::new();
+    for operation in &OPERATIONS[2..] {
+        let name = |lists| format!("{operation:?}, {lists}");
+        columns.push((name("three lists"), *operation, &three));
+        let each = name("one attribute in each list");
+        columns.push((each, *operation, &one_in_each));
     }
     let title = format!(
         "As ordinary attributes double, n {nodes} and m 8: nanoseconds, and in brackets the \
          ratio to the row before."
     );
-    print_columns(&title, &columns);
+    print_doubling(&title, ("Ordinary attributes", &counts), &columns);
 }
 
 pub fn print_all() {
