@@ -172,6 +172,13 @@ pub fn smallest_files() -> Vec<Vec<u8>> {
     files
 }
 
+/// Every choice of three subsets of m relations.
+pub fn three_subsets(relations: u8) -> impl Iterator<Item = [usize; 3]> {
+    let all = (1 << relations) - 1;
+    let choices = 0..1_usize << (3 * relations);
+    choices.map(move |subsets| [0, 1, 2].map(|place| subsets >> (place * relations) & all))
+}
+
 /// Node numbers to ask: each node of an accepted file, or a few of a refused one;
 /// n; and numbers that would be below n if cut to fewer bits.
 pub fn node_numbers(bytes: &[u8], accepted: Option<&File>) -> Vec<usize> {

@@ -1,8 +1,12 @@
 //! Calls of the reference alone, of which it is asserted what they leave in each slice.
 
+use std::fmt::Debug;
+
+use crate::random::Random;
 use crate::reference::{
-    apply, infer, recover, typing, Apply, Inferred, Recover, Typing, FORMULA_LENGTH,
-    INSTANTIATION_LENGTH, OUTPUT_LENGTH, SCHEMA_LENGTH, STANDING_BIT_NO_TYPE_VARIABLE,
+    apply, infer, recover, typing, Apply, Inferred, Recover, Typing, BYTES_END_EARLY,
+    BYTES_LEFT_OVER, FORMULA_LENGTH, INSTANTIATION_LENGTH, OUTPUT_LENGTH, SCHEMA_LENGTH,
+    STANDING_BIT_NO_TYPE_VARIABLE,
 };
 use crate::typing_examples::Answer;
 
@@ -124,4 +128,20 @@ pub fn typing_with(file: &[u8], node: usize, schema: &[u8], out_length: usize) -
 /// Typing with a result slice that is long enough: the output record, none if untyped.
 pub fn typing_of(file: &[u8], node: usize, schema: &[u8]) -> Option<Vec<u8>> {
     typing_with(file, node, schema, OUTPUT_LENGTH).expect("not refused")
+}
+
+/// Asserts that every proper prefix of the bytes ends early, and that with bytes after them
+/// some are left over.
+pub fn assert_length_counts<Read: Debug + PartialEq>(
+    random: &mut Random,
+    bytes: &[u8],
+    read: impl Fn(&[u8]) -> Result<Read, u8>,
+) {
+    for length in 0..bytes.len() {
+        assert_eq!(read(&bytes[..length]), Err(BYTES_END_EARLY));
+    }
+    for length in [1, 2, 3, 513, 812, 70_000] {
+        let longer = [bytes, &random.bytes(length)].concat();
+        assert_eq!(read(&longer), Err(BYTES_LEFT_OVER));
+    }
 }

@@ -4,7 +4,7 @@
 use type_formula_tests::alone;
 use type_formula_tests::answer::Operation;
 use type_formula_tests::comparisons::Comparisons;
-use type_formula_tests::examples::smallest_files;
+use type_formula_tests::examples::{smallest_files, three_subsets};
 use type_formula_tests::generators::{join_input, MOST_IN_DISTURBED};
 use type_formula_tests::input::Input;
 use type_formula_tests::random::Random;
@@ -191,10 +191,7 @@ fn all_smallest_files_with_all_small_instantiations_and_schemas() {
     for bytes in smallest_files() {
         let relations = bytes[0];
         let input = Input::new(bytes);
-        let all = (1 << relations) - 1;
-        for subsets in 0..1_usize << (3 * relations) {
-            let [first, second, third] =
-                [0, 1, 2].map(|place| subsets >> (place * relations) & all);
+        for [first, second, third] in three_subsets(relations) {
             let mut instantiation = Instantiation::default();
             instantiation.subsets[..2].copy_from_slice(&[first as u8, second as u8]);
             if third > 0 {

@@ -2,7 +2,7 @@
 
 use std::time::{Duration, Instant};
 
-use type_formula_tests::examples::{cases, e1, from_hexadecimal, join_of_eight};
+use type_formula_tests::examples::{cases, e1, from_hexadecimal, join_of_eight, three_subsets};
 use type_formula_tests::formula_examples::{assert_e1_columns, formula_examples, E2_SCHEMA};
 use type_formula_tests::random::Random;
 use type_formula_tests::reference::{
@@ -146,16 +146,8 @@ fn every_small_assignment_is_typed_as_the_formula_says() {
         let nodes: Vec<Node> = nodes.iter().map(with_attributes_1_and_2).collect();
         let inferred = infer(&encode_file(relations, &nodes)).expect("accepted");
         let node = nodes.len() - 1;
-        for subsets in 0..1_usize << (3 * relations) {
-            let assignment = assignment_by(relations, |attribute| {
-                let place = match attribute {
-                    1 => 0,
-                    2 => relations,
-                    16 => 2 * relations,
-                    _ => return 0,
-                };
-                subsets >> place & ((1 << relations) - 1)
-            });
+        for [first, second, third] in three_subsets(relations) {
+            let assignment = assignment_of(relations, [(1, first), (2, second), (16, third)]);
             let by_rules = type_of(&inferred.file, node, &assignment);
             let by_formula = type_by_formula(&inferred.formulas[node], &assignment);
             assert_eq!(by_rules, by_formula, "{nodes:?}, {assignment:?}");

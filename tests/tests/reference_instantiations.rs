@@ -4,7 +4,8 @@ use std::time::{Duration, Instant};
 
 use type_formula_tests::answer::Answer;
 use type_formula_tests::examples::{
-    cases, e1, from_hexadecimal, join_of_eight, pairs_of_the_node_before, to_hexadecimal,
+    cases, e1, from_hexadecimal, join_of_eight, pairs_of_the_node_before, three_subsets,
+    to_hexadecimal,
 };
 use type_formula_tests::formula_examples::E2_SCHEMA;
 use type_formula_tests::instantiation_examples::{
@@ -15,12 +16,12 @@ use type_formula_tests::random::Random;
 use type_formula_tests::reference::{
     assignment_of, encode_file, encode_instantiation, encode_record, encode_schema, infer,
     is_allowed, read_instantiation, read_schema, type_of, type_variables, untypable_attribute,
-    Formula, Inferred, Instantiation, Type, ATTRIBUTE_IN_TWO_LISTS, BYTES_END_EARLY,
-    BYTES_LEFT_OVER, FORMULA_LENGTH, INSTANTIATION_LENGTH, LISTS_START, OUTPUT_LENGTH,
-    SCHEMA_LENGTH, STANDING_BIT_NO_TYPE_VARIABLE, SUBSET_NOT_ALLOWED, TOO_MANY_ORDINARY_ATTRIBUTES,
+    Formula, Inferred, Instantiation, Type, ATTRIBUTE_IN_TWO_LISTS, FORMULA_LENGTH,
+    INSTANTIATION_LENGTH, LISTS_START, OUTPUT_LENGTH, SCHEMA_LENGTH, STANDING_BIT_NO_TYPE_VARIABLE,
+    SUBSET_NOT_ALLOWED, TOO_MANY_ORDINARY_ATTRIBUTES,
 };
 use type_formula_tests::reference_calls::{
-    apply_to, apply_with, recover_from, recover_with, typing_of,
+    apply_to, apply_with, assert_length_counts, recover_from, recover_with, typing_of,
 };
 use type_formula_tests::typing_examples::{in_each_of_eight, E3_SCHEMA, E4_SCHEMA};
 
@@ -199,13 +200,7 @@ fn what_was_read_is_written_as_the_same_bytes() {
 fn every_proper_prefix_of_an_instantiation_is_14_and_a_longer_one_17() {
     let mut random = Random::new(81);
     for bytes in instantiations(&mut random) {
-        for length in 0..bytes.len() {
-            assert_eq!(read_instantiation(&bytes[..length]), Err(BYTES_END_EARLY));
-        }
-        for length in [1, 2, 3, 812, 70_000] {
-            let longer = [&bytes[..], &random.bytes(length)].concat();
-            assert_eq!(read_instantiation(&longer), Err(BYTES_LEFT_OVER));
-        }
+        assert_length_counts(&mut random, &bytes, read_instantiation);
     }
 }
 
@@ -386,7 +381,7 @@ fn recovered_then_applied_is_the_same_and_untyped_is_typings() {
 #[test]
 fn every_small_instantiation_of_e1() {
     let (file, mut applied) = (e1().bytes, 0);
-    for (first, second, third) in all_subsets_of_three() {
+    for [first, second, third] in three_subsets(3) {
         let mut instantiation = Instantiation::default();
         instantiation.subsets[..3].copy_from_slice(&[first as u8, second as u8, 3]);
         if third > 0 {
@@ -406,11 +401,6 @@ fn every_small_instantiation_of_e1() {
         }
     }
     assert_eq!(applied, 2 * 2 * 4);
-}
-
-/// Three subsets of three relations each.
-fn all_subsets_of_three() -> impl Iterator<Item = (usize, usize, usize)> {
-    (0..512).map(|all| (all & 7, all >> 3 & 7, all >> 6))
 }
 
 /// Each node's formula is inferred once, so shared operands do not multiply the steps.

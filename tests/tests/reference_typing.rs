@@ -11,7 +11,7 @@ use type_formula_tests::reference::{
     assignment_of, encode_file, encode_record, encode_schema, infer, read_file, read_schema,
     type_of, verdict, Type, Verdict, FORMULA_LENGTH, OUTPUT_LENGTH, SCHEMA_LENGTH,
 };
-use type_formula_tests::reference_calls::{typing_of, typing_with};
+use type_formula_tests::reference_calls::{assert_length_counts, typing_of, typing_with};
 use type_formula_tests::typing_examples::{
     e2_to_e4, in_each_of_eight, spread_over_eight, typing_cases, Answer, TypingCase, E3_SCHEMA,
     E4_SCHEMA,
@@ -132,13 +132,7 @@ fn what_was_read_is_written_as_the_same_bytes() {
 fn every_proper_prefix_of_a_schema_is_14_and_a_longer_one_17() {
     let mut random = Random::new(61);
     for (relations, bytes) in schemas(&mut random) {
-        for length in 0..bytes.len() {
-            assert_eq!(read_schema(relations, &bytes[..length]), Err(14));
-        }
-        for length in [1, 2, 3, 513, 70_000] {
-            let longer = [&bytes[..], &random.bytes(length)].concat();
-            assert_eq!(read_schema(relations, &longer), Err(17));
-        }
+        assert_length_counts(&mut random, &bytes, |bytes| read_schema(relations, bytes));
     }
 }
 

@@ -9,7 +9,7 @@ use type_formula_tests::comparisons::Comparisons;
 use type_formula_tests::engine::{self, UNTYPED};
 use type_formula_tests::examples::{
     cases, e1, from_hexadecimal, join_of_eight, pairs_of_the_node_before, smallest_files,
-    to_hexadecimal,
+    three_subsets, to_hexadecimal,
 };
 use type_formula_tests::formula_examples::E2_SCHEMA;
 use type_formula_tests::generators::{
@@ -191,16 +191,8 @@ fn all_smallest_files_with_all_small_schemas() {
     let mut comparisons = comparisons();
     for bytes in smallest_files() {
         let relations = bytes[0];
-        let all = (1 << relations) - 1;
-        for subsets in 0..1_usize << (3 * relations) {
-            let sets = assignment_of(
-                relations,
-                [
-                    (1, subsets & all),
-                    (2, subsets >> relations & all),
-                    (16, subsets >> (2 * relations) & all),
-                ],
-            );
+        for [first, second, third] in three_subsets(relations) {
+            let sets = assignment_of(relations, [(1, first), (2, second), (16, third)]);
             let schema = encode_schema(&sets);
             for node in 0..usize::from(bytes[1]) {
                 comparisons.typing_by_schema(&bytes, node, &schema);
