@@ -172,13 +172,20 @@ pub fn smallest_files() -> Vec<Vec<u8>> {
     files
 }
 
+/// Every choice of three subsets of m relations.
+pub fn three_subsets(relations: u8) -> impl Iterator<Item = [usize; 3]> {
+    let all = (1 << relations) - 1;
+    let choices = 0..1_usize << (3 * relations);
+    choices.map(move |subsets| [0, 1, 2].map(|place| subsets >> (place * relations) & all))
+}
+
 /// Node numbers to ask: each node of an accepted file, or a few of a refused one;
 /// n; and numbers that would be below n if cut to fewer bits.
-pub fn node_numbers(bytes: &[u8], expected: &Result<File, u8>) -> Vec<usize> {
+pub fn node_numbers(bytes: &[u8], accepted: Option<&File>) -> Vec<usize> {
     let stated = usize::from(bytes.get(1).copied().unwrap_or(0));
-    let mut numbers: Vec<usize> = match expected {
-        Ok(file) => (0..file.nodes.len()).collect(),
-        Err(_) => vec![0, 1, stated.saturating_sub(1)],
+    let mut numbers: Vec<usize> = match accepted {
+        Some(file) => (0..file.nodes.len()).collect(),
+        None => vec![0, 1, stated.saturating_sub(1)],
     };
     numbers.extend([stated, stated + 1, 63, 64, 255, 256, 257]);
     numbers.extend([1 << 16, 1 << 32, (1 << 32) + 1, 1 << 63, usize::MAX]);

@@ -83,7 +83,7 @@ pub const E2_SCHEMA: &str = "0a 00 0c 00 00 00";
 
 /// The columns of E1's last node: the first byte of the allowed and of the output
 /// subsets; all other bytes are zero.
-pub fn e1_columns() -> [[u8; COLUMN_LENGTH]; COLUMNS] {
+fn e1_columns() -> [[u8; COLUMN_LENGTH]; COLUMNS] {
     let mut columns = [[0; COLUMN_LENGTH]; COLUMNS];
     for (number, column) in columns.iter_mut().enumerate() {
         (column[0], column[OUTPUT_START]) = match number {
@@ -94,6 +94,15 @@ pub fn e1_columns() -> [[u8; COLUMN_LENGTH]; COLUMNS] {
         };
     }
     columns
+}
+
+/// Asserts that the work space holds these columns at the place of E1's last node.
+pub fn assert_e1_columns(work: &[u8]) {
+    for (column, wanted) in e1_columns().iter().enumerate() {
+        let start = 6 * FORMULA_LENGTH + column * COLUMN_LENGTH;
+        let given = &work[start..start + COLUMN_LENGTH];
+        assert_eq!(given, wanted, "column {column}");
+    }
 }
 
 /// E1 with the witness of E2.

@@ -29,6 +29,12 @@ impl Random {
         Random { state: seed }
     }
 
+    /// A generator of its own for the input of this number in a run with this seed.
+    pub fn of_input(seed: u64, number: u64) -> Self {
+        let first = Random::new(seed).word();
+        Random::new(Random::new(first.wrapping_add(number)).word())
+    }
+
     pub fn word(&mut self) -> u64 {
         self.state = self.state.wrapping_add(0x9e37_79b9_7f4a_7c15);
         let mut word = self.state;
@@ -91,7 +97,7 @@ impl Random {
     }
 
     /// A node that is accepted at this number; node 0 is a relation.
-    fn node(&mut self, relations: u8, number: u8) -> Node {
+    pub fn node(&mut self, relations: u8, number: u8) -> Node {
         let relation = self.between(0, relations - 1);
         if number == 0 {
             return Node::Relation { relation };

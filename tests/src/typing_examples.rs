@@ -268,66 +268,58 @@ fn join_case(name: &'static str, schema: Vec<u8>, answer: Result<Range<u32>, u8>
     }
 }
 
-/// Schemas of eight relations with the attributes in the join or the refusal. There
-/// are 255 ordinary attributes from 16 to 270.
-fn schemas_for_join_of_eight() -> impl Iterator<Item = TypingCase> {
+/// The sets of eight relations, with the attributes in their join or the refusal.
+type Joined = (&'static str, Vec<Type>, Result<Range<u32>, u8>);
+
+/// Ordinary attributes in a few relations. There are 255 from 16 to 270.
+fn in_some_relations() -> [Joined; 7] {
+    let some = in_first_and_last;
+    let spread = spread_over_eight;
     [
-        ("255 in r0", in_first_and_last(16..271, 0..0), Ok(16..271)),
-        (
-            "255 in r0 and r7",
-            in_first_and_last(16..270, 270..271),
-            Ok(16..271),
-        ),
-        (
-            "256 in r0 and r7",
-            in_first_and_last(16..271, 271..272),
-            Err(18),
-        ),
-        (
-            "510 in r0 and r7",
-            in_first_and_last(16..271, 271..526),
-            Err(18),
-        ),
-        (
-            "255 spread over eight",
-            spread_over_eight(16..271),
-            Ok(16..271),
-        ),
-        ("256 spread over eight", spread_over_eight(16..272), Err(18)),
-        (
-            "2,040 spread over eight",
-            spread_over_eight(16..2_056),
-            Err(18),
-        ),
-        (
-            "the same 255 in each of eight",
-            in_each_of_eight(16..271),
-            Ok(16..271),
-        ),
+        ("255 in r0", some(16..271, 0..0), Ok(16..271)),
+        ("255 in r0 and r7", some(16..270, 270..271), Ok(16..271)),
+        ("256 in r0 and r7", some(16..271, 271..272), Err(18)),
+        ("510 in r0 and r7", some(16..271, 271..526), Err(18)),
+        ("255 spread over eight", spread(16..271), Ok(16..271)),
+        ("256 spread over eight", spread(16..272), Err(18)),
+        ("2,040 spread over eight", spread(16..2_056), Err(18)),
+    ]
+}
+
+/// Ordinary attributes in each relation, and special ones too.
+fn in_each_relation_or_with_special() -> [Joined; 6] {
+    let (each, spread) = (in_each_of_eight, spread_over_eight);
+    let greatest = 65_281..65_536;
+    [
+        ("255 in each of eight", each(16..271), Ok(16..271)),
         (
             "the greatest 255 in each of eight",
-            in_each_of_eight(65_281..65_536),
-            Ok(65_281..65_536),
+            each(greatest.clone()),
+            Ok(greatest),
         ),
         (
             "all special and 255 in each of eight",
-            in_each_of_eight(1..271),
+            each(1..271),
             Ok(1..271),
         ),
         (
             "all special and 255 spread over eight",
-            spread_over_eight(1..271),
+            spread(1..271),
             Ok(1..271),
         ),
         (
             "all special and 256 spread over eight",
-            spread_over_eight(1..272),
+            spread(1..272),
             Err(18),
         ),
-        ("eight empty records", in_each_of_eight(0..0), Ok(0..0)),
+        ("eight empty records", each(0..0), Ok(0..0)),
     ]
-    .into_iter()
-    .map(|(name, schema, answer)| join_case(name, encode_schema(&schema), answer))
+}
+
+fn schemas_for_join_of_eight() -> impl Iterator<Item = TypingCase> {
+    let all = in_some_relations().into_iter();
+    all.chain(in_each_relation_or_with_special())
+        .map(|(name, sets, answer)| join_case(name, encode_schema(&sets), answer))
 }
 
 /// The same with bytes cut off, changed or added at the end: 18 comes last.

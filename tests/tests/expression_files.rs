@@ -1,13 +1,14 @@
 //! The engine against the reference: accepting expression files, Record, and
 //! reading one node.
 
+use type_formula_tests::answer::Operation;
+use type_formula_tests::comparisons::Comparisons;
 use type_formula_tests::engine;
 use type_formula_tests::examples::{
-    all_nodes_with_set, cases, e1, e10, longest_accepted, node_numbers, to_hexadecimal, Example,
-    LONGEST_ACCEPTED,
+    all_nodes_with_set, cases, e1, e10, longest_accepted, to_hexadecimal, Example, LONGEST_ACCEPTED,
 };
 use type_formula_tests::random::Random;
-use type_formula_tests::reference::{self, encode_node, File, LEGAL_MAPS};
+use type_formula_tests::reference::LEGAL_MAPS;
 
 /// The least number of comparisons of each test.
 const IN_CASES: u64 = 70_000;
@@ -37,122 +38,9 @@ const _: () = assert!(
 );
 const _: () = assert!(IN_RANDOM_NODES + IN_LEGAL_MAPS + IN_EVERY_MAP + IN_EVERY_FIELD >= 1_000_000);
 
-/// Compares answers of the engine with those of the reference and counts.
-struct Comparisons {
-    noise: Random,
-    made: u64,
-    /// How often each answer of accept or of reading a node came up.
-    answers: [u64; 11],
-}
-
-impl Comparisons {
-    fn new() -> Self {
-        Comparisons {
-            noise: Random::new(9),
-            made: 0,
-            answers: [0; 11],
-        }
-    }
-
-    fn count(&mut self, answer: u8) {
-        self.made += 1;
-        self.answers[usize::from(answer)] += 1;
-    }
-
-    /// Compares accept: the answer; m and n written, or both left as they were.
-    fn accept(&mut self, bytes: &[u8]) -> Result<File, u8> {
-        let (relations, nodes) = (self.noise.byte(), self.noise.byte());
-        let expected = reference::read_file(bytes);
-        let wanted = match &expected {
-            Ok(file) => (0, file.relations, file.nodes.len() as u8),
-            Err(refusal) => (*refusal, relations, nodes),
-        };
-        let (mut written_relations, mut written_nodes) = (relations, nodes);
-        let answer = engine::accept(bytes, &mut written_relations, &mut written_nodes);
-        let given = (answer, written_relations, written_nodes);
-        assert!(
-            given == wanted,
-            "accept (answer, m, n): engine {given:?}, reference {wanted:?}, \
-             m and n before {relations} {nodes}\n{}",
-            to_hexadecimal(bytes)
-        );
-        self.count(wanted.0);
-        expected
-    }
-
-    /// Compares Record: start and length, and the part against the node's encoding;
-    /// the empty part starts at 0.
-    fn record(&mut self, bytes: &[u8], expected: &Result<File, u8>, node: usize) {
-        let wanted = reference::record(bytes, node).map_or((0, 0), |part| (part.start, part.len()));
-        let nodes = expected.as_ref().map_or(&[][..], |file| &file.nodes);
-        let encoded = nodes.get(node).map_or(Vec::new(), encode_node);
-        let before = self.noise.word() as usize;
-        let mut start = before;
-        let length = engine::record(bytes, node, &mut start);
-        let given = (start, length);
-        assert!(
-            given == wanted,
-            "Record of node {node} (start, length): engine {given:?}, reference {wanted:?}, \
-             start before {before}\n{}",
-            to_hexadecimal(bytes)
-        );
-        let part = &bytes[start..start + length];
-        assert!(
-            part == encoded,
-            "Record of node {node}: engine {}, reference {}\n{}",
-            to_hexadecimal(part),
-            to_hexadecimal(&encoded),
-            to_hexadecimal(bytes)
-        );
-        self.made += 1;
-    }
-
-    /// Compares accept, and Record for the node numbers of interest.
-    fn file(&mut self, bytes: &[u8]) -> u8 {
-        let expected = self.accept(bytes);
-        for node in node_numbers(bytes, &expected) {
-            self.record(bytes, &expected, node);
-        }
-        expected.err().unwrap_or(0)
-    }
-
-    /// Compares reading one node.
-    fn read_node(&mut self, relations: u8, number: u8, bytes: &[u8]) {
-        let mut wanted = [0; 8];
-        match reference::read_node(relations, number, bytes) {
-            Ok((node, length)) => {
-                wanted[1] = length as u8;
-                wanted[2..2 + length].copy_from_slice(&encode_node(&node));
-            }
-            Err(refusal) => wanted[0] = refusal,
-        }
-        let given = engine::read_node(relations, number, bytes);
-        assert!(
-            given == wanted,
-            "read node {number} with {relations} relations: engine {}, reference {}\n{}",
-            to_hexadecimal(&given),
-            to_hexadecimal(&wanted),
-            to_hexadecimal(bytes)
-        );
-        self.count(wanted[0]);
-    }
-
-    /// Asserts that each of these answers came up at least so often.
-    fn assert_answers(&self, answers: impl IntoIterator<Item = usize>, least: u64) {
-        for answer in answers {
-            let count = self.answers[answer];
-            assert!(count >= least, "answer {answer} came up {count} times");
-        }
-    }
-
-    /// Prints the number of comparisons and asserts that it is what is intended.
-    fn finish(&self, test: &str, least: u64) {
-        println!(
-            "{test}: {} comparisons, answers {:?}",
-            self.made, self.answers
-        );
-        assert!(self.made >= least, "{} comparisons", self.made);
-    }
+/// Comparisons with random numbers before each call.
+fn comparisons() -> Comparisons {
+    Comparisons::new(9)
 }
 
 /// Asserts an example's facts of the engine, without the reference.
@@ -188,30 +76,30 @@ fn e10_is_accepted_with_4_relations_9_nodes_and_its_records() {
 
 #[test]
 fn examples_and_edges_have_their_answers() {
-    let mut comparisons = Comparisons::new();
+    let mut comparisons = comparisons();
     for case in cases() {
         let answer = engine::accept(&case.bytes, &mut 0, &mut 0);
         let bytes = to_hexadecimal(&case.bytes);
         assert_eq!(answer, case.answer, "{}: {bytes}", case.name);
         for length in 0..=case.bytes.len().min(400) {
-            comparisons.file(&case.bytes[..length]);
+            comparisons.accept_and_record(&case.bytes[..length]);
         }
-        comparisons.file(&case.bytes);
+        comparisons.accept_and_record(&case.bytes);
     }
-    comparisons.assert_answers(0..=10, 5);
+    comparisons.assert_given(Operation::Accept, 0..=10, 5);
     comparisons.finish("examples and edges", IN_CASES);
 }
 
 #[test]
 fn random_accepted_files_of_every_m_and_n() {
     let mut random = Random::new(10);
-    let mut comparisons = Comparisons::new();
+    let mut comparisons = comparisons();
     for relations in 1..=8 {
         for count in (1..=64).flat_map(|count| [count; 10]) {
             let bytes = random.accepted_file(relations, count);
             let file = comparisons.accept(&bytes).expect("accepted");
             assert_eq!(file.nodes.len(), usize::from(count));
-            comparisons.file(&bytes);
+            comparisons.accept_and_record(&bytes);
             for (number, part) in file.parts.iter().enumerate() {
                 comparisons.read_node(relations, number as u8, &bytes[part.start..]);
             }
@@ -223,12 +111,12 @@ fn random_accepted_files_of_every_m_and_n() {
 #[test]
 fn random_bytes_of_lengths_0_to_400() {
     let mut random = Random::new(11);
-    let mut comparisons = Comparisons::new();
+    let mut comparisons = comparisons();
     for length in (0..=400).flat_map(|length| [length; 15]) {
-        comparisons.file(&random.bytes(length));
-        comparisons.file(&random.likely_bytes(length));
+        comparisons.accept_and_record(&random.bytes(length));
+        comparisons.accept_and_record(&random.likely_bytes(length));
     }
-    comparisons.assert_answers([1, 2, 3, 5], 30);
+    comparisons.assert_given(Operation::Accept, [1, 2, 3, 5], 30);
     comparisons.finish("random bytes", IN_RANDOM_BYTES);
 }
 
@@ -236,17 +124,17 @@ fn random_bytes_of_lengths_0_to_400() {
 #[test]
 fn random_bytes_after_a_valid_header_or_after_valid_nodes() {
     let mut random = Random::new(12);
-    let mut comparisons = Comparisons::new();
+    let mut comparisons = comparisons();
     for length in (0..=400).flat_map(|length| [length; 15]) {
         let header = vec![random.between(1, 8), random.between(1, 64)];
-        comparisons.file(&[header.clone(), random.bytes(length)].concat());
-        comparisons.file(&[header, random.likely_bytes(length)].concat());
+        comparisons.accept_and_record(&[header.clone(), random.bytes(length)].concat());
+        comparisons.accept_and_record(&[header, random.likely_bytes(length)].concat());
         let mut bytes = random.accepted_file(8, 8);
         bytes[1] = random.between(8, 64);
         bytes.extend(random.likely_bytes(length));
-        comparisons.file(&bytes);
+        comparisons.accept_and_record(&bytes);
     }
-    comparisons.assert_answers(4..=10, 10);
+    comparisons.assert_given(Operation::Accept, 4..=10, 10);
     comparisons.finish("bytes after a valid header", IN_BYTES_AFTER_HEADER);
 }
 
@@ -257,37 +145,37 @@ fn every_prefix_of_accepted_files() {
     let mut random = Random::new(13);
     let mut files = vec![e1().bytes, e10().bytes, longest_accepted()];
     files.extend((0..60).map(|_| random.any_accepted_file()));
-    let mut comparisons = Comparisons::new();
+    let mut comparisons = comparisons();
     for bytes in files {
         for length in 0..bytes.len() {
-            let answer = comparisons.file(&bytes[..length]);
+            let answer = comparisons.accept_and_record(&bytes[..length]);
             assert_eq!(answer, if length < 2 { 1 } else { 4 });
         }
-        assert_eq!(comparisons.file(&bytes), 0);
+        assert_eq!(comparisons.accept_and_record(&bytes), 0);
     }
     comparisons.finish("prefixes", IN_PREFIXES);
 }
 
 #[test]
 fn every_change_of_one_byte_of_e1_and_e10() {
-    let mut comparisons = Comparisons::new();
+    let mut comparisons = comparisons();
     for bytes in [e1().bytes, e10().bytes] {
         for place in 0..bytes.len() {
             for value in (0..=255).filter(|&value| value != bytes[place]) {
                 let mut changed = bytes.clone();
                 changed[place] = value;
-                comparisons.file(&changed);
+                comparisons.accept_and_record(&changed);
             }
         }
     }
-    comparisons.assert_answers([0, 2, 3, 4, 5, 6, 7, 8, 9, 10], 5);
+    comparisons.assert_given(Operation::Accept, [0, 2, 3, 4, 5, 6, 7, 8, 9, 10], 5);
     comparisons.finish("changes of one byte", IN_CHANGES);
 }
 
 #[test]
 fn disturbed_accepted_files() {
     let mut random = Random::new(14);
-    let mut comparisons = Comparisons::new();
+    let mut comparisons = comparisons();
     for round in 0..40_000 {
         let (relations, count) = match round % 2 {
             0 => (random.between(1, 8), random.between(1, 64)),
@@ -297,9 +185,9 @@ fn disturbed_accepted_files() {
         for _ in 0..random.between(1, 3) {
             random.disturb(&mut bytes);
         }
-        comparisons.file(&bytes);
+        comparisons.accept_and_record(&bytes);
     }
-    comparisons.assert_answers(0..=10, 100);
+    comparisons.assert_given(Operation::Accept, 0..=10, 100);
     comparisons.finish("disturbed files", IN_DISTURBED_FILES);
 }
 
@@ -307,45 +195,51 @@ fn disturbed_accepted_files() {
 #[test]
 fn files_at_and_above_the_greatest_accepted_length() {
     let mut random = Random::new(15);
-    let mut comparisons = Comparisons::new();
+    let mut comparisons = comparisons();
     let longest = longest_accepted();
     assert_eq!(longest.len(), LONGEST_ACCEPTED);
-    assert_eq!(comparisons.file(&longest), 0);
+    assert_eq!(comparisons.accept_and_record(&longest), 0);
     for length in LONGEST_ACCEPTED + 1..=323 {
         for _ in 0..500 {
             let after = random.likely_bytes(length - LONGEST_ACCEPTED);
-            assert_eq!(comparisons.file(&[&longest[..], &after].concat()), 10);
+            assert_eq!(
+                comparisons.accept_and_record(&[&longest[..], &after].concat()),
+                10
+            );
             let mut disturbed = longest.clone();
             random.disturb(&mut disturbed);
             disturbed.resize(length, 0);
-            comparisons.file(&disturbed);
+            comparisons.accept_and_record(&disturbed);
         }
     }
     let full = all_nodes_with_set();
-    assert_eq!((full.len(), comparisons.file(&full)), (322, 8));
+    assert_eq!((full.len(), comparisons.accept_and_record(&full)), (322, 8));
     let longer = [&full[..], &[0]].concat();
-    assert_eq!((longer.len(), comparisons.file(&longer)), (323, 8));
+    assert_eq!(
+        (longer.len(), comparisons.accept_and_record(&longer)),
+        (323, 8)
+    );
     comparisons.finish("long files", IN_LONG_FILES);
 }
 
 #[test]
 fn one_node_of_random_bytes() {
     let mut random = Random::new(16);
-    let mut comparisons = Comparisons::new();
+    let mut comparisons = comparisons();
     for _ in 0..300_000 {
         let (relations, number) = (random.byte(), random.byte());
         let length = random.below(12);
         comparisons.read_node(relations, number, &random.bytes(length));
         comparisons.read_node(relations, number, &random.likely_bytes(length));
     }
-    comparisons.assert_answers([0, 4, 5, 6, 7, 8, 9], 100);
+    comparisons.assert_given(Operation::ReadNode, [0, 4, 5, 6, 7, 8, 9], 100);
     comparisons.finish("one node of random bytes", IN_RANDOM_NODES);
 }
 
 #[test]
 fn one_node_of_each_legal_map_with_random_fields() {
     let mut random = Random::new(17);
-    let mut comparisons = Comparisons::new();
+    let mut comparisons = comparisons();
     for round in 0..100_000 {
         let (relations, number) = match round % 2 {
             0 => (random.byte(), random.byte()),
@@ -361,14 +255,14 @@ fn one_node_of_each_legal_map_with_random_fields() {
             comparisons.read_node(relations, number, &bytes);
         }
     }
-    comparisons.assert_answers([0, 4, 6, 7, 8, 9], 1_000);
+    comparisons.assert_given(Operation::ReadNode, [0, 4, 6, 7, 8, 9], 1_000);
     comparisons.finish("one node of each legal map", IN_LEGAL_MAPS);
 }
 
 #[test]
 fn one_node_of_every_map_and_length() {
     let mut random = Random::new(18);
-    let mut comparisons = Comparisons::new();
+    let mut comparisons = comparisons();
     comparisons.read_node(8, 63, &[]);
     for map in 0..=255 {
         for length in 0..=8 {
@@ -385,7 +279,7 @@ fn one_node_of_every_map_and_length() {
 /// field, the other fields being legal.
 #[test]
 fn one_node_with_every_value_of_each_field() {
-    let mut comparisons = Comparisons::new();
+    let mut comparisons = comparisons();
     for first in 0..=255 {
         for second in 0..=255 {
             comparisons.read_node(second, 1, &[1, first]);
@@ -402,6 +296,6 @@ fn one_node_with_every_value_of_each_field() {
             comparisons.read_node(1, 2, &[34, second, first]);
         }
     }
-    comparisons.assert_answers([0, 6, 7, 8, 9], 1_000);
+    comparisons.assert_given(Operation::ReadNode, [0, 6, 7, 8, 9], 1_000);
     comparisons.finish("every value of each field", IN_EVERY_FIELD);
 }

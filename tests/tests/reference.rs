@@ -1,4 +1,4 @@
-//! The reference alone, against facts stated in document 01. Needs no archive.
+//! The reference alone, against facts stated in document 01.
 
 use type_formula_tests::examples::{
     all_nodes_with_set, cases, e1, e10, e10_nodes, e1_nodes, from_hexadecimal, longest_accepted,

@@ -1,15 +1,14 @@
-//! The reference alone: typing rules, Formula, Verdict and the listing. Needs no
-//! archive.
+//! The reference alone: typing rules, Formula, Verdict and the listing.
 
 use std::time::{Duration, Instant};
 
-use type_formula_tests::examples::{cases, e1, from_hexadecimal, join_of_eight};
-use type_formula_tests::formula_examples::{e1_columns, formula_examples, E2_SCHEMA};
+use type_formula_tests::examples::{cases, e1, from_hexadecimal, join_of_eight, three_subsets};
+use type_formula_tests::formula_examples::{assert_e1_columns, formula_examples, E2_SCHEMA};
 use type_formula_tests::random::Random;
 use type_formula_tests::reference::{
     allowed_subsets, assignment_of, encode_file, formula, holders, infer, is_allowed, is_output,
     listing, read_schema, type_of, verdict, Formula, Inferred, Node, Type, Verdict, COLUMNS,
-    COLUMN_LENGTH, FORMULA_LENGTH, SCHEMA_LENGTH,
+    FORMULA_LENGTH, SCHEMA_LENGTH,
 };
 
 /// The ordinary attributes of the random assignments.
@@ -147,16 +146,8 @@ fn every_small_assignment_is_typed_as_the_formula_says() {
         let nodes: Vec<Node> = nodes.iter().map(with_attributes_1_and_2).collect();
         let inferred = infer(&encode_file(relations, &nodes)).expect("accepted");
         let node = nodes.len() - 1;
-        for subsets in 0..1_usize << (3 * relations) {
-            let assignment = assignment_by(relations, |attribute| {
-                let place = match attribute {
-                    1 => 0,
-                    2 => relations,
-                    16 => 2 * relations,
-                    _ => return 0,
-                };
-                subsets >> place & ((1 << relations) - 1)
-            });
+        for [first, second, third] in three_subsets(relations) {
+            let assignment = assignment_of(relations, [(1, first), (2, second), (16, third)]);
             let by_rules = type_of(&inferred.file, node, &assignment);
             let by_formula = type_by_formula(&inferred.formulas[node], &assignment);
             assert_eq!(by_rules, by_formula, "{nodes:?}, {assignment:?}");
@@ -283,14 +274,7 @@ fn examples_have_their_formulas_verdicts_and_listings() {
 fn e1_has_these_bytes() {
     let mut work = vec![0xaa; 7 * FORMULA_LENGTH];
     assert_eq!(formula(&e1().bytes, &mut work), 0);
-    for (column, wanted) in e1_columns().iter().enumerate() {
-        let start = 6 * FORMULA_LENGTH + column * COLUMN_LENGTH;
-        assert_eq!(
-            work[start..start + COLUMN_LENGTH],
-            *wanted,
-            "column {column}"
-        );
-    }
+    assert_e1_columns(&work);
 }
 
 /// E2, E3 and E4: E1 under its witness, with 20 in r0 and r1, with 20 in r0 only.

@@ -1,9 +1,11 @@
-//! The reference alone: instantiations, Apply and Recover. Needs no archive.
+//! The reference alone: instantiations, Apply and Recover.
 
 use std::time::{Duration, Instant};
 
+use type_formula_tests::answer::Answer;
 use type_formula_tests::examples::{
-    cases, e1, from_hexadecimal, join_of_eight, pairs_of_the_node_before, to_hexadecimal,
+    cases, e1, from_hexadecimal, join_of_eight, pairs_of_the_node_before, three_subsets,
+    to_hexadecimal,
 };
 use type_formula_tests::formula_examples::E2_SCHEMA;
 use type_formula_tests::instantiation_examples::{
@@ -12,121 +14,16 @@ use type_formula_tests::instantiation_examples::{
 };
 use type_formula_tests::random::Random;
 use type_formula_tests::reference::{
-    apply, assignment_of, encode_file, encode_instantiation, encode_record, encode_schema, infer,
-    is_allowed, read_instantiation, read_schema, recover, type_of, type_variables, typing,
-    untypable_attribute, Apply, Formula, Inferred, Instantiation, Recover, Type, Typing,
-    ATTRIBUTE_IN_TWO_LISTS, BYTES_END_EARLY, BYTES_LEFT_OVER, FORMULA_LENGTH, INSTANTIATION_LENGTH,
-    LISTS_START, OUTPUT_LENGTH, SCHEMA_LENGTH, STANDING_BIT_NO_TYPE_VARIABLE, SUBSET_NOT_ALLOWED,
-    TOO_MANY_ORDINARY_ATTRIBUTES,
+    assignment_of, encode_file, encode_instantiation, encode_record, encode_schema, infer,
+    is_allowed, read_instantiation, read_schema, type_of, type_variables, untypable_attribute,
+    Formula, Inferred, Instantiation, Type, ATTRIBUTE_IN_TWO_LISTS, FORMULA_LENGTH,
+    INSTANTIATION_LENGTH, LISTS_START, OUTPUT_LENGTH, SCHEMA_LENGTH, STANDING_BIT_NO_TYPE_VARIABLE,
+    SUBSET_NOT_ALLOWED, TOO_MANY_ORDINARY_ATTRIBUTES,
+};
+use type_formula_tests::reference_calls::{
+    apply_to, apply_with, assert_length_counts, recover_from, recover_with, typing_of,
 };
 use type_formula_tests::typing_examples::{in_each_of_eight, E3_SCHEMA, E4_SCHEMA};
-
-/// The byte that fills slices before a call.
-const FILL: u8 = 0xaa;
-
-/// Whether the slice is as it was before the call.
-fn is_untouched(slice: &[u8]) -> bool {
-    slice.iter().all(|&byte| byte == FILL)
-}
-
-/// Asserts that the work space has the formulas of the file at its front, and the rest
-/// is untouched.
-fn assert_filled(inferred: &Inferred, work: &[u8]) {
-    let formulas = inferred.formulas.concat();
-    assert!(work.starts_with(&formulas));
-    assert!(is_untouched(&work[formulas.len()..]));
-}
-
-/// Cuts the bytes beyond the length off, which are untouched.
-fn written(mut slice: Vec<u8>, length: usize) -> Vec<u8> {
-    assert!(is_untouched(&slice[length..]));
-    slice.truncate(length);
-    slice
-}
-
-/// Apply with slices of these lengths: schema and output record, or the refusal. Asserts
-/// what the work space holds and that all other bytes stay.
-fn apply_with(
-    file: &[u8],
-    node: usize,
-    instantiation: &[u8],
-    [work_length, schema_length, out_length]: [usize; 3],
-) -> Result<(Vec<u8>, Vec<u8>), u8> {
-    let mut work = vec![FILL; work_length];
-    let (mut schema, mut out) = (vec![FILL; schema_length], vec![FILL; out_length]);
-    let answer = apply(file, node, instantiation, &mut work, &mut schema, &mut out);
-    match answer {
-        Apply::Refused { number } if number < STANDING_BIT_NO_TYPE_VARIABLE => {
-            assert!(is_untouched(&work));
-        }
-        _ => assert_filled(&infer(file).expect("accepted"), &work),
-    }
-    match answer {
-        Apply::Applied {
-            schema: schema_length,
-            output,
-        } => Ok((written(schema, schema_length), written(out, output))),
-        Apply::Refused { number } => {
-            assert!(is_untouched(&schema) && is_untouched(&out));
-            Err(number)
-        }
-    }
-}
-
-/// Recover with slices of these lengths: the instantiation, none if untyped, or the
-/// refusal. Asserts what the work space holds and that all other bytes stay.
-fn recover_with(
-    file: &[u8],
-    node: usize,
-    schema: &[u8],
-    [work_length, instantiation_length]: [usize; 2],
-) -> Result<Option<Vec<u8>>, u8> {
-    let mut work = vec![FILL; work_length];
-    let mut instantiation = vec![FILL; instantiation_length];
-    let answer = recover(file, node, schema, &mut work, &mut instantiation);
-    match answer {
-        Recover::Refused { .. } => assert!(is_untouched(&work)),
-        _ => assert_filled(&infer(file).expect("accepted"), &work),
-    }
-    match answer {
-        Recover::Recovered { length } => Ok(Some(written(instantiation, length))),
-        Recover::Untyped => {
-            assert!(is_untouched(&instantiation));
-            Ok(None)
-        }
-        Recover::Refused { number } => {
-            assert!(is_untouched(&instantiation));
-            Err(number)
-        }
-    }
-}
-
-/// The length of the work space for the file, and one byte more.
-fn work_length(file: &[u8]) -> usize {
-    FORMULA_LENGTH * usize::from(file[1]) + 1
-}
-
-/// Apply with slices that are long enough.
-fn apply_to(file: &[u8], node: usize, instantiation: &[u8]) -> Result<(Vec<u8>, Vec<u8>), u8> {
-    let lengths = [work_length(file), SCHEMA_LENGTH, OUTPUT_LENGTH];
-    apply_with(file, node, instantiation, lengths)
-}
-
-/// Recover with slices that are long enough.
-fn recover_from(file: &[u8], node: usize, schema: &[u8]) -> Result<Option<Vec<u8>>, u8> {
-    let lengths = [work_length(file), INSTANTIATION_LENGTH];
-    recover_with(file, node, schema, lengths)
-}
-
-/// Typing: the output record, none if untyped.
-fn typing_of(file: &[u8], node: usize, schema: &[u8]) -> Option<Vec<u8>> {
-    let mut out = vec![FILL; OUTPUT_LENGTH];
-    match typing(file, node, schema, &mut out) {
-        Typing::Typed { length } => Some(written(out, length)),
-        Typing::Untyped => None,
-        Typing::Refused { number } => panic!("refused {number}"),
-    }
-}
 
 /// Asserts a case's answer.
 fn assert_apply(case: &ApplyCase) {
@@ -303,13 +200,7 @@ fn what_was_read_is_written_as_the_same_bytes() {
 fn every_proper_prefix_of_an_instantiation_is_14_and_a_longer_one_17() {
     let mut random = Random::new(81);
     for bytes in instantiations(&mut random) {
-        for length in 0..bytes.len() {
-            assert_eq!(read_instantiation(&bytes[..length]), Err(BYTES_END_EARLY));
-        }
-        for length in [1, 2, 3, 812, 70_000] {
-            let longer = [&bytes[..], &random.bytes(length)].concat();
-            assert_eq!(read_instantiation(&longer), Err(BYTES_LEFT_OVER));
-        }
+        assert_length_counts(&mut random, &bytes, read_instantiation);
     }
 }
 
@@ -358,28 +249,24 @@ fn a_refused_file_is_refused_first_of_all() {
     }
 }
 
+/// Apply with slices that are long enough: 0 or the refusal.
+fn answer_of(inferred: &Inferred, node: usize, instantiation: &Instantiation) -> u8 {
+    let work = &mut vec![0; FORMULA_LENGTH * inferred.formulas.len()];
+    let (schema, out) = (&mut [0; SCHEMA_LENGTH], &mut [0; OUTPUT_LENGTH]);
+    let bytes = encode_instantiation(instantiation);
+    inferred.apply(node, &bytes, work, schema, out).number()
+}
+
 /// Each subset that is not allowed for each special attribute, and each bit that is no
 /// type variable, alone and both together.
 #[test]
 fn exactly_allowed_subsets_and_type_variables_pass() {
     let mut random = Random::new(83);
     for _ in 0..12 {
-        let (bytes, inferred, node) = typable_node(&mut random);
+        let (_, inferred, node) = typable_node(&mut random);
         let formula = &inferred.formulas[node];
         let instantiation = random.instantiation(formula, 0);
-        let answer = |changed: &Instantiation| {
-            let answer = inferred.apply(
-                node,
-                &encode_instantiation(changed),
-                &mut vec![0; work_length(&bytes)],
-                &mut [0; SCHEMA_LENGTH],
-                &mut [0; OUTPUT_LENGTH],
-            );
-            match answer {
-                Apply::Applied { .. } => 0,
-                Apply::Refused { number } => number,
-            }
-        };
+        let answer = |changed: &Instantiation| answer_of(&inferred, node, changed);
         let variables = type_variables(formula);
         for s in 0..256 {
             let mut with_list = instantiation.clone();
@@ -468,15 +355,8 @@ fn recovered_then_applied_is_the_same_and_untyped_is_typings() {
     let mut random = Random::new(86);
     let (mut typed, mut untyped) = (0, 0);
     for round in 0..6_000 {
-        let (relations, count) = (random.between(1, 8), random.between(1, 20));
-        let bytes = random.mild_file(relations, count);
-        let Inferred { file, formulas } = infer(&bytes).expect("accepted");
-        let node = formulas.len() - 1;
-        let ordinary = random.below(20);
-        let mut sets = random.image(&formulas[node], relations, ordinary);
-        for _ in 0..round % 6 {
-            random.disturb_assignment(&mut sets);
-        }
+        let (bytes, file, sets) = random.file_with_sets_near_an_image(round % 6);
+        let node = file.nodes.len() - 1;
         let schema = encode_schema(&sets);
         let recovered = recover_from(&bytes, node, &schema).expect("not refused");
         let by_typing = typing_of(&bytes, node, &schema);
@@ -501,7 +381,7 @@ fn recovered_then_applied_is_the_same_and_untyped_is_typings() {
 #[test]
 fn every_small_instantiation_of_e1() {
     let (file, mut applied) = (e1().bytes, 0);
-    for (first, second, third) in all_subsets_of_three() {
+    for [first, second, third] in three_subsets(3) {
         let mut instantiation = Instantiation::default();
         instantiation.subsets[..3].copy_from_slice(&[first as u8, second as u8, 3]);
         if third > 0 {
@@ -521,11 +401,6 @@ fn every_small_instantiation_of_e1() {
         }
     }
     assert_eq!(applied, 2 * 2 * 4);
-}
-
-/// Three subsets of three relations each.
-fn all_subsets_of_three() -> impl Iterator<Item = (usize, usize, usize)> {
-    (0..512).map(|all| (all & 7, all >> 3 & 7, all >> 6))
 }
 
 /// Each node's formula is inferred once, so shared operands do not multiply the steps.

@@ -1,4 +1,4 @@
-//! The reference alone: schemas and Typing. Needs no archive.
+//! The reference alone: schemas and Typing.
 
 use std::time::{Duration, Instant};
 
@@ -9,31 +9,13 @@ use type_formula_tests::formula_examples::E2_SCHEMA;
 use type_formula_tests::random::Random;
 use type_formula_tests::reference::{
     assignment_of, encode_file, encode_record, encode_schema, infer, read_file, read_schema,
-    type_of, typing, verdict, Inferred, Type, Typing, Verdict, FORMULA_LENGTH, OUTPUT_LENGTH,
-    SCHEMA_LENGTH,
+    type_of, verdict, Type, Verdict, FORMULA_LENGTH, OUTPUT_LENGTH, SCHEMA_LENGTH,
 };
+use type_formula_tests::reference_calls::{assert_length_counts, typing_of, typing_with};
 use type_formula_tests::typing_examples::{
     e2_to_e4, in_each_of_eight, spread_over_eight, typing_cases, Answer, TypingCase, E3_SCHEMA,
     E4_SCHEMA,
 };
-
-/// Typing with a result slice of this length: the output record, none if untyped, or
-/// the refusal. Asserts that all other bytes stay.
-fn typing_with(file: &[u8], node: usize, schema: &[u8], out_length: usize) -> Answer<Vec<u8>> {
-    let mut out = vec![0xaa; out_length];
-    let answer = typing(file, node, schema, &mut out);
-    let written = match answer {
-        Typing::Typed { length } => length,
-        _ => 0,
-    };
-    assert!(out[written..].iter().all(|&byte| byte == 0xaa));
-    out.truncate(written);
-    match answer {
-        Typing::Typed { .. } => Ok(Some(out)),
-        Typing::Untyped => Ok(None),
-        Typing::Refused { number } => Err(number),
-    }
-}
 
 /// Asserts a case's answer.
 fn assert_case(case: &TypingCase) {
@@ -150,13 +132,7 @@ fn what_was_read_is_written_as_the_same_bytes() {
 fn every_proper_prefix_of_a_schema_is_14_and_a_longer_one_17() {
     let mut random = Random::new(61);
     for (relations, bytes) in schemas(&mut random) {
-        for length in 0..bytes.len() {
-            assert_eq!(read_schema(relations, &bytes[..length]), Err(14));
-        }
-        for length in [1, 2, 3, 513, 70_000] {
-            let longer = [&bytes[..], &random.bytes(length)].concat();
-            assert_eq!(read_schema(relations, &longer), Err(17));
-        }
+        assert_length_counts(&mut random, &bytes, |bytes| read_schema(relations, bytes));
     }
 }
 
@@ -194,18 +170,11 @@ fn the_output_record_is_the_type_by_the_rules() {
     let mut random = Random::new(63);
     let (mut typed, mut untyped) = (0, 0);
     for round in 0..6_000 {
-        let (relations, count) = (random.between(1, 8), random.between(1, 20));
-        let bytes = random.mild_file(relations, count);
-        let Inferred { file, formulas } = infer(&bytes).expect("accepted");
-        let node = formulas.len() - 1;
-        let ordinary = random.below(20);
-        let mut sets = random.image(&formulas[node], relations, ordinary);
-        for _ in 0..round % 6 {
-            random.disturb_assignment(&mut sets);
-        }
+        let (bytes, file, sets) = random.file_with_sets_near_an_image(round % 6);
+        let node = file.nodes.len() - 1;
         let by_rules = type_of(&file, node, &sets);
-        let given = typing_with(&bytes, node, &encode_schema(&sets), OUTPUT_LENGTH);
-        assert_eq!(given, Ok(by_rules.as_ref().map(encode_record)));
+        let given = typing_of(&bytes, node, &encode_schema(&sets));
+        assert_eq!(given, by_rules.as_ref().map(encode_record));
         match by_rules {
             Some(_) => typed += 1,
             None => untyped += 1,

@@ -2,17 +2,21 @@
 
 use std::time::{Duration, Instant};
 
+use type_formula_tests::answer::{Operation, NO_TYPE, RESULT};
+use type_formula_tests::comparisons::Comparisons;
 use type_formula_tests::engine::{self, UNTYPED};
 use type_formula_tests::examples::{
-    cases, e1, from_hexadecimal, join_of_eight, node_numbers, pairs_of_the_node_before,
-    smallest_files, to_hexadecimal,
+    cases, e1, from_hexadecimal, join_of_eight, pairs_of_the_node_before, smallest_files,
+    three_subsets, to_hexadecimal,
 };
 use type_formula_tests::formula_examples::E2_SCHEMA;
-use type_formula_tests::lent::Lent;
+use type_formula_tests::generators::{
+    extreme_assignments, join_input, join_of_64_nodes, MOST_IN_DISTURBED,
+};
 use type_formula_tests::random::Random;
 use type_formula_tests::reference::{
-    self, assignment_of, encode_file, encode_schema, infer, read_file, read_schema,
-    untypable_attribute, witness, Node, Type, Typing, OUTPUT_LENGTH, SCHEMA_LENGTH,
+    assignment_of, encode_file, encode_schema, infer, read_schema, untypable_attribute, witness,
+    Type, Typing, OUTPUT_LENGTH, SCHEMA_LENGTH,
 };
 use type_formula_tests::typing_examples::{
     e2_to_e4, in_each_of_eight, spread_over_eight, typing_cases, TypingCase, E3_SCHEMA,
@@ -47,165 +51,17 @@ const _: () = assert!(
         >= 900_000
 );
 
-/// The lengths of result slices.
-const OUT_LENGTHS: [usize; 5] = [OUTPUT_LENGTH, OUTPUT_LENGTH + 1, 600, OUTPUT_LENGTH - 1, 0];
-
-/// Those that are long enough.
-const LONG_ENOUGH: [usize; 3] = [OUTPUT_LENGTH, OUTPUT_LENGTH + 1, 600];
-
-/// The most ordinary attributes of an image that is disturbed, so that none of its
-/// records gets more than 255.
-const MOST_IN_IMAGE: usize = 250;
-
-/// Compares answers of the engine with those of the reference and counts.
-struct Comparisons {
-    random: Random,
-    noise: Vec<u8>,
-    out: Lent,
-    made: u64,
-    /// How often each refusal came up; at 0, how often there was none.
-    answers: [u64; 19],
-    typed: u64,
-    untyped: u64,
-}
-
-impl Comparisons {
-    fn new() -> Self {
-        let mut random = Random::new(70);
-        let noise = random.bytes(10_000);
-        Comparisons {
-            random,
-            noise,
-            out: Lent::default(),
-            made: 0,
-            answers: [0; 19],
-            typed: 0,
-            untyped: 0,
-        }
-    }
-
-    /// Counts an answer and gives the C answer and the length written, if there is one.
-    fn count(&mut self, typing: Typing) -> (u8, Option<usize>) {
-        self.made += 1;
-        let (answer, length) = match typing {
-            Typing::Typed { length } => {
-                self.typed += 1;
-                (0, Some(length))
-            }
-            Typing::Untyped => {
-                self.untyped += 1;
-                (UNTYPED, None)
-            }
-            Typing::Refused { number } => (number, None),
-        };
-        self.answers[usize::from(if answer == UNTYPED { 0 } else { answer })] += 1;
-        (answer, length)
-    }
-
-    /// Compares Typing: the answer, the value or that it stays, every byte of the
-    /// result slice and around it, and that file and schema stay. Gives the answer.
-    fn typing(&mut self, file: &[u8], node: usize, schema: &[u8], out_length: usize) -> Typing {
-        self.out.prepare(&mut self.random, &self.noise, out_length);
-        let (file_before, schema_before) = (file.to_vec(), schema.to_vec());
-        let typing = reference::typing(file, node, schema, self.out.for_reference());
-        let value_before = self.random.word() as usize;
-        let (answer, length) = self.count(typing);
-        let wanted = (answer, length.unwrap_or(value_before));
-        let mut value = value_before;
-        let answer = engine::typing(file, node, schema, self.out.for_engine(), &mut value);
-        let given = (answer, value);
-        let call = || {
-            format!(
-                "Typing of node {node} with {out_length} bytes\nfile {}\nschema {}",
-                to_hexadecimal(&file_before),
-                to_hexadecimal(&schema_before)
-            )
-        };
-        assert!(
-            given == wanted,
-            "(answer, value): engine {given:?}, reference {wanted:?}, \
-             value before {value_before}\n{}",
-            call()
-        );
-        if let Some(difference) = self.out.difference() {
-            panic!("result slice, {difference}\n{}", call());
-        }
-        assert!(file == file_before, "the file changed\n{}", call());
-        assert!(schema == schema_before, "the schema changed\n{}", call());
-        typing
-    }
-
-    /// Compares Typing with a result slice that is long enough.
-    fn schema(&mut self, file: &[u8], node: usize, schema: &[u8]) -> Typing {
-        let out_length = LONG_ENOUGH[self.random.below(LONG_ENOUGH.len())];
-        self.typing(file, node, schema, out_length)
-    }
-
-    /// Compares Typing of the node under these sets.
-    fn sets(&mut self, file: &[u8], node: usize, sets: &[Type]) -> Typing {
-        self.schema(file, node, &encode_schema(sets))
-    }
-
-    /// Compares Typing for the node numbers of interest: with a result slice that is
-    /// exactly long enough, and with any.
-    fn file(&mut self, file: &[u8], schema: &[u8]) {
-        for node in node_numbers(file, &read_file(file)) {
-            self.typing(file, node, schema, OUTPUT_LENGTH);
-            let out_length = OUT_LENGTHS[self.random.below(OUT_LENGTHS.len())];
-            self.typing(file, node, schema, out_length);
-        }
-    }
-
-    /// Compares Typing for the node numbers of interest with each length of the result
-    /// slice.
-    fn file_with_every_length(&mut self, file: &[u8], schema: &[u8]) {
-        for node in node_numbers(file, &read_file(file)) {
-            for out_length in OUT_LENGTHS {
-                self.typing(file, node, schema, out_length);
-            }
-        }
-    }
-
-    /// Asserts that each of these answers came up at least so often.
-    fn assert_answers(&self, answers: impl IntoIterator<Item = usize>, least: u64) {
-        for answer in answers {
-            let count = self.answers[answer];
-            assert!(count >= least, "answer {answer} came up {count} times");
-        }
-    }
-
-    /// Asserts that typed and untyped are each at least a tenth of the comparisons.
-    fn assert_both(&self) {
-        let least = self.made / 10;
-        assert!(self.typed >= least, "{} typed", self.typed);
-        assert!(self.untyped >= least, "{} untyped", self.untyped);
-    }
-
-    /// Prints the number of comparisons and asserts that it is what is intended.
-    fn finish(&self, test: &str, least: u64) {
-        println!(
-            "{test}: {} comparisons, answers {:?}, {} typed, {} untyped",
-            self.made, self.answers, self.typed, self.untyped
-        );
-        assert!(self.made >= least, "{} comparisons", self.made);
-    }
+/// Comparisons with random slices and values before each call.
+fn comparisons() -> Comparisons {
+    Comparisons::new(70)
 }
 
 /// A file with an instantiation's image for one of its nodes, most often for the
 /// strictest typable one.
 fn file_with_image(random: &mut Random, relations: u8, count: u8) -> (Vec<u8>, usize, Vec<Type>) {
-    let bytes = match random.below(3) {
-        0 => random.accepted_file(relations, count),
-        _ => random.mild_file(relations, count),
-    };
-    let formulas = infer(&bytes).expect("accepted").formulas;
-    let node = random.likely_node(&formulas);
-    let ordinary = match random.below(8) {
-        0 => random.below(MOST_IN_IMAGE + 1),
-        _ => random.below(12),
-    };
-    let image = random.image(&formulas[node], relations, ordinary);
-    (bytes, node, image)
+    let (input, node, instantiation) =
+        random.file_with_instantiation(relations, count, MOST_IN_DISTURBED);
+    (input.bytes, node, instantiation.image(relations))
 }
 
 /// Asserts a case's answer of the engine, without the reference.
@@ -241,10 +97,10 @@ fn e1_is_typed_as_e2_to_e4_say() {
 
 #[test]
 fn examples_and_edges_have_their_answers() {
-    let mut comparisons = Comparisons::new();
+    let mut comparisons = comparisons();
     for case in typing_cases() {
         assert_case(&case);
-        comparisons.file_with_every_length(&case.file, &case.schema);
+        comparisons.typing_with_every_length(&case.file, &case.schema);
     }
     comparisons.assert_answers([0, 10, 11, 13, 14, 15, 16, 17, 18], 5);
     comparisons.finish("examples and edges", IN_CASES);
@@ -265,12 +121,12 @@ fn empty_slices_are_refused() {
 #[test]
 fn random_schemas_near_typed_ones() {
     let mut random = Random::new(71);
-    let mut comparisons = Comparisons::new();
+    let mut comparisons = comparisons();
     for round in 0..15_000 {
         let relations = random.between(1, 8);
         let count = random.between(1, if round % 16 == 0 { 64 } else { 16 });
         let (bytes, node, image) = file_with_image(&mut random, relations, count);
-        if comparisons.sets(&bytes, node, &image) == Typing::Untyped {
+        if comparisons.typing_by_sets(&bytes, node, &image) == Typing::Untyped {
             continue;
         }
         for steps in [1, 1, 1, 2, 4] {
@@ -278,10 +134,10 @@ fn random_schemas_near_typed_ones() {
             for _ in 0..steps {
                 random.disturb_assignment(&mut sets);
             }
-            comparisons.sets(&bytes, node, &sets);
+            comparisons.typing_by_sets(&bytes, node, &sets);
         }
     }
-    comparisons.assert_both();
+    comparisons.assert_both(Operation::Typing);
     comparisons.finish("near schemas", IN_NEAR_SCHEMAS);
 }
 
@@ -289,15 +145,15 @@ fn random_schemas_near_typed_ones() {
 #[test]
 fn every_node_under_one_schema() {
     let mut random = Random::new(78);
-    let mut comparisons = Comparisons::new();
+    let mut comparisons = comparisons();
     for _ in 0..4_000 {
         let (relations, count) = (random.between(1, 8), random.between(1, 16));
         let (bytes, _, image) = file_with_image(&mut random, relations, count);
         for node in 0..usize::from(count) {
-            comparisons.sets(&bytes, node, &image);
+            comparisons.typing_by_sets(&bytes, node, &image);
         }
     }
-    comparisons.assert_both();
+    comparisons.assert_both(Operation::Typing);
     comparisons.finish("every node", IN_EVERY_NODE);
 }
 
@@ -305,7 +161,7 @@ fn every_node_under_one_schema() {
 #[test]
 fn random_schemas_near_witnesses() {
     let mut random = Random::new(72);
-    let mut comparisons = Comparisons::new();
+    let mut comparisons = comparisons();
     for _ in 0..8_000 {
         let (relations, count) = (random.between(1, 8), random.between(4, 20));
         let bytes = random.mild_file(relations, count);
@@ -315,41 +171,33 @@ fn random_schemas_near_witnesses() {
             continue;
         }
         let witness = witness(&formulas[node], relations);
-        let typing = comparisons.schema(&bytes, node, &witness);
+        let typing = comparisons.typing_by_schema(&bytes, node, &witness);
         assert!(matches!(typing, Typing::Typed { .. }));
         let mut sets = read_schema(relations, &witness).expect("a schema");
         for _ in 0..4 {
             random.disturb_assignment(&mut sets);
-            comparisons.sets(&bytes, node, &sets);
+            comparisons.typing_by_sets(&bytes, node, &sets);
         }
     }
-    comparisons.assert_both();
+    comparisons.assert_both(Operation::Typing);
     comparisons.finish("near witnesses", IN_NEAR_WITNESSES);
 }
 
 /// Every assignment of attributes 1, 2 and 16 to the relations, for every node.
 #[test]
 fn all_smallest_files_with_all_small_schemas() {
-    let mut comparisons = Comparisons::new();
+    let mut comparisons = comparisons();
     for bytes in smallest_files() {
         let relations = bytes[0];
-        let all = (1 << relations) - 1;
-        for subsets in 0..1_usize << (3 * relations) {
-            let sets = assignment_of(
-                relations,
-                [
-                    (1, subsets & all),
-                    (2, subsets >> relations & all),
-                    (16, subsets >> (2 * relations) & all),
-                ],
-            );
+        for [first, second, third] in three_subsets(relations) {
+            let sets = assignment_of(relations, [(1, first), (2, second), (16, third)]);
             let schema = encode_schema(&sets);
             for node in 0..usize::from(bytes[1]) {
-                comparisons.schema(&bytes, node, &schema);
+                comparisons.typing_by_schema(&bytes, node, &schema);
             }
         }
     }
-    comparisons.assert_both();
+    comparisons.assert_both(Operation::Typing);
     comparisons.finish("all smallest files", IN_ALL_SMALLEST_FILES);
 }
 
@@ -368,19 +216,19 @@ fn every_prefix_of_schemas_and_longer_ones() {
         let (relations, count) = (random.between(1, 8), random.between(1, 8));
         file_with_image(&mut random, relations, count)
     }));
-    let mut comparisons = Comparisons::new();
+    let mut comparisons = comparisons();
     for (bytes, node, sets) in inputs {
         let schema = encode_schema(&sets);
         for length in 0..schema.len() {
-            let typing = comparisons.schema(&bytes, node, &schema[..length]);
+            let typing = comparisons.typing_by_schema(&bytes, node, &schema[..length]);
             assert_eq!(typing, Typing::Refused { number: 14 });
         }
         for length in [1, 2, 3, 4, 513, SCHEMA_LENGTH, 70_000] {
             let longer = [&schema[..], &random.likely_bytes(length)].concat();
-            let typing = comparisons.schema(&bytes, node, &longer);
+            let typing = comparisons.typing_by_schema(&bytes, node, &longer);
             assert_eq!(typing, Typing::Refused { number: 17 });
         }
-        comparisons.schema(&bytes, node, &schema);
+        comparisons.typing_by_schema(&bytes, node, &schema);
     }
     comparisons.assert_answers([14, 17], 1_000);
     comparisons.finish("prefixes of schemas", IN_PREFIXES);
@@ -389,7 +237,7 @@ fn every_prefix_of_schemas_and_longer_ones() {
 /// Every value of every byte of a few schemas.
 #[test]
 fn every_change_of_one_byte_of_schemas() {
-    let mut comparisons = Comparisons::new();
+    let mut comparisons = comparisons();
     for schema in [
         E2_SCHEMA,
         E3_SCHEMA,
@@ -400,7 +248,7 @@ fn every_change_of_one_byte_of_schemas() {
             for value in 0..=255 {
                 let mut changed = schema.clone();
                 changed[place] = value;
-                comparisons.schema(&e1().bytes, 6, &changed);
+                comparisons.typing_by_schema(&e1().bytes, 6, &changed);
             }
         }
     }
@@ -414,29 +262,27 @@ fn every_change_of_one_byte_of_schemas() {
 #[test]
 fn disturbed_schemas() {
     let mut random = Random::new(74);
-    let joined = encode_file(8, &join_of_eight());
-    let inferred = infer(&joined).expect("accepted");
-    let mut comparisons = Comparisons::new();
+    let joined = join_input();
+    let mut comparisons = comparisons();
     for round in 0..30_000 {
         let (bytes, node, sets) = if round % 16 == 0 {
-            let ordinary = 248 + random.below(16);
-            let image = random.image(&inferred.formulas[14], 8, ordinary);
-            (joined.clone(), 14, image)
+            let image = random
+                .instantiation_near_255(&joined.formulas()[14])
+                .image(8);
+            (joined.bytes.clone(), 14, image)
         } else {
             let (relations, count) = (random.between(1, 8), random.between(1, 6));
             file_with_image(&mut random, relations, count)
         };
         let mut schema = encode_schema(&sets);
-        comparisons.schema(&bytes, node, &schema);
-        for _ in 0..random.between(1, 3) {
-            random.disturb(&mut schema);
-        }
-        comparisons.schema(&bytes, node, &schema);
+        comparisons.typing_by_schema(&bytes, node, &schema);
+        random.disturb_often(&mut schema);
+        comparisons.typing_by_schema(&bytes, node, &schema);
         if !schema.is_empty() {
             let place = random.below(schema.len());
             schema[place] ^= 1 << random.below(8);
         }
-        comparisons.schema(&bytes, node, &schema);
+        comparisons.typing_by_schema(&bytes, node, &schema);
     }
     comparisons.assert_answers([0, 14, 15, 16, 17, 18], 100);
     comparisons.finish("disturbed schemas", IN_DISTURBED_SCHEMAS);
@@ -447,34 +293,14 @@ fn disturbed_schemas() {
 #[test]
 fn extremes() {
     let mut random = Random::new(75);
-    let schemas = [
-        in_each_of_eight(0..0),
-        in_each_of_eight(1..16),
-        in_each_of_eight(16..271),
-        in_each_of_eight(1..271),
-        in_each_of_eight(65_281..65_536),
-        in_each_of_eight(65_535..65_536),
-        spread_over_eight(1..271),
-        spread_over_eight(16..271),
-        spread_over_eight(16..272),
-        spread_over_eight(65_280..65_536),
-        spread_over_eight(16..2_056),
-        assignment_of(8, (1..256).map(|s| (15 + s as u32, s))),
-        assignment_of(8, (1..256).map(|s| (65_535 - s as u32, s))),
-    ];
-    let mut comparisons = Comparisons::new();
-    for sets in &schemas {
-        let schema = encode_schema(sets);
+    let mut comparisons = comparisons();
+    for sets in extreme_assignments() {
+        let schema = encode_schema(&sets);
         let mut files = pairs_of_the_node_before();
         files.extend((0..4).map(|_| random.mild_file(8, 64)));
-        let mut joined = join_of_eight();
-        joined.extend((15..64).map(|right| Node::NaturalJoin {
-            left: 14,
-            right: right - 1,
-        }));
-        files.push(encode_file(8, &joined));
+        files.push(join_of_64_nodes());
         for file in files {
-            comparisons.file_with_every_length(&file, &schema);
+            comparisons.typing_with_every_length(&file, &schema);
         }
     }
     comparisons.assert_answers([0, 11, 13, 18], 1_000);
@@ -485,7 +311,7 @@ fn extremes() {
 #[test]
 fn disturbed_files_with_good_schemas() {
     let mut random = Random::new(76);
-    let mut comparisons = Comparisons::new();
+    let mut comparisons = comparisons();
     for round in 0..6_000 {
         let (relations, count) = (random.between(1, 8), random.between(1, 10));
         let (mut bytes, _, image) = file_with_image(&mut random, relations, count);
@@ -493,15 +319,13 @@ fn disturbed_files_with_good_schemas() {
         if round % 4 == 0 {
             bytes[0] = random.between(1, 8);
         } else {
-            for _ in 0..random.between(1, 3) {
-                random.disturb(&mut bytes);
-            }
+            random.disturb_often(&mut bytes);
         }
-        comparisons.file(&bytes, &schema);
+        comparisons.typing_for_numbers(&bytes, &schema);
     }
     for case in cases() {
-        comparisons.file(&case.bytes, &[0; 16]);
-        comparisons.file(&case.bytes, &[]);
+        comparisons.typing_for_numbers(&case.bytes, &[0; 16]);
+        comparisons.typing_for_numbers(&case.bytes, &[]);
     }
     comparisons.assert_answers((0..=11).chain([13, 14, 17]), 100);
     comparisons.finish("disturbed files", IN_DISTURBED_FILES);
@@ -511,19 +335,17 @@ fn disturbed_files_with_good_schemas() {
 #[test]
 fn random_bytes_as_schema() {
     let mut random = Random::new(77);
-    let mut comparisons = Comparisons::new();
+    let mut comparisons = comparisons();
     for _ in 0..40_000 {
         let (relations, count) = (random.between(1, 8), random.between(1, 12));
         let bytes = random.mild_file(relations, count);
         let node = random.below(usize::from(count));
         let length = random.below(64);
-        comparisons.schema(&bytes, node, &random.bytes(length));
-        comparisons.schema(&bytes, node, &random.likely_bytes(length));
-        let mut maps = random.bytes(2 * usize::from(relations));
-        maps.iter_mut().step_by(2).for_each(|low| *low &= 0xfe);
-        comparisons.schema(&bytes, node, &maps);
+        comparisons.typing_by_schema(&bytes, node, &random.bytes(length));
+        comparisons.typing_by_schema(&bytes, node, &random.likely_bytes(length));
+        comparisons.typing_by_schema(&bytes, node, &random.records_of_maps(relations));
     }
-    assert!(comparisons.typed >= 1_000 && comparisons.untyped >= 1_000);
+    comparisons.assert_answers([RESULT, NO_TYPE], 1_000);
     comparisons.assert_answers(14..=17, 100);
     comparisons.finish("random bytes", IN_RANDOM_BYTES);
 }

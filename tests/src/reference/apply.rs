@@ -14,40 +14,35 @@ pub enum Apply {
 }
 
 impl Inferred {
-    /// The lengths written, or the first refusal, one of 11 to 21.
-    fn applied(
+    /// Apply of this file.
+    pub fn apply(
         &self,
         node: usize,
         bytes: &[u8],
         work: &mut [u8],
         schema: &mut [u8],
         out: &mut [u8],
-    ) -> Result<(usize, usize), u8> {
+    ) -> Apply {
         let results = [(&*schema, SCHEMA_LENGTH), (&*out, OUTPUT_LENGTH)];
-        self.check(node, work, &results)?;
-        let instantiation = read_instantiation(bytes)?;
+        let read = self
+            .check(node, work, &results)
+            .and_then(|()| read_instantiation(bytes));
+        let instantiation = match read {
+            Ok(instantiation) => instantiation,
+            Err(number) => return Apply::Refused { number },
+        };
         self.fill(work);
         let formula = &self.formulas[node];
-        instantiation.check(formula)?;
+        if let Err(number) = instantiation.check(formula) {
+            return Apply::Refused { number };
+        }
         let image = encode_schema(&instantiation.image(self.file.relations));
         let output = encode_record(&instantiation.output(formula));
         schema[..image.len()].copy_from_slice(&image);
         out[..output.len()].copy_from_slice(&output);
-        Ok((image.len(), output.len()))
-    }
-
-    /// Apply of this file.
-    pub fn apply(
-        &self,
-        node: usize,
-        instantiation: &[u8],
-        work: &mut [u8],
-        schema: &mut [u8],
-        out: &mut [u8],
-    ) -> Apply {
-        match self.applied(node, instantiation, work, schema, out) {
-            Ok((schema, output)) => Apply::Applied { schema, output },
-            Err(number) => Apply::Refused { number },
+        Apply::Applied {
+            schema: image.len(),
+            output: output.len(),
         }
     }
 }

@@ -1,0 +1,34 @@
+#!/bin/sh
+# Prints the instructions of one call of each operation and its alternatives as a markdown
+# table. Each is counted by callgrind for two numbers of calls; the difference divided by
+# that of the calls leaves out what comes before them. A copy by one repeated instruction
+# counts as an instruction for each byte.
+set -eu
+cd "$(dirname "$0")"
+few=5 many=25
+cargo build --release --offline --quiet --bin benchmark
+program=${CARGO_TARGET_DIR:-target}/release/benchmark
+
+# The instructions of a run, given operation, size, number of calls and implementation.
+instructions() {
+    valgrind --tool=callgrind --callgrind-out-file=/dev/null "$program" once "$1" "$2" "$3" "$4" 2>&1 |
+        awk '/Collected/ { print $NF }'
+}
+
+# The instructions of one call, or - where there is no such call.
+per_call() {
+    "$program" once "$1" "$2" 1 "$3" 2>/dev/null || { echo -; return; }
+    echo $((($(instructions "$1" "$2" $many "$3") - $(instructions "$1" "$2" $few "$3")) / (many - few)))
+}
+
+echo "| Operation | n | engine | other implementation | 64-bit loop | copy |"
+echo "|---|---|---|---|---|---|"
+for operation in formula verdict typing apply recover; do
+    for size in 7 64; do
+        row="| $operation | $size |"
+        for by in engine reference words copy; do
+            row="$row $(per_call $operation $size $by) |"
+        done
+        echo "$row"
+    done
+done

@@ -1,0 +1,199 @@
+//! One call of an operation by each implementation.
+
+use std::hint::black_box;
+
+use type_formula_tests::answer::Answer;
+use type_formula_tests::engine::{self, Lengths};
+use type_formula_tests::reference::{self, Apply, Recover, Typing, Verdict};
+
+use crate::settings::Setting;
+use crate::slices::{Parts, Slices};
+use crate::words;
+
+#[derive(Clone, Copy, Debug, PartialEq, Eq)]
+pub enum Operation {
+    Formula,
+    Verdict,
+    Typing,
+    Apply,
+    Recover,
+}
+
+pub const OPERATIONS: [Operation; 5] = [
+    Operation::Formula,
+    Operation::Verdict,
+    Operation::Typing,
+    Operation::Apply,
+    Operation::Recover,
+];
+
+/// What makes a call: an implementation, or a copy of the bytes that it writes.
+#[derive(Clone, Copy, Debug, PartialEq, Eq)]
+pub enum By {
+    Engine,
+    Reference,
+    Words,
+    Copy,
+}
+
+pub const ALL: [By; 4] = [By::Engine, By::Reference, By::Words, By::Copy];
+
+/// A call with these slices.
+pub type Call<'a> = Box<dyn Fn(&mut Slices) + 'a>;
+
+/// A call for the setting: the answer as a number, and the numbers written.
+type OneCall = fn(&Setting, Parts) -> [usize; 3];
+
+fn formula(by: impl Fn(&[u8], &mut [u8]) -> u8, of: &Setting, slices: Parts) -> [usize; 3] {
+    let answer = by(black_box(&of.file), slices.work);
+    [answer.into(), 0, 0]
+}
+
+fn verdict_by_engine(of: &Setting, slices: Parts) -> [usize; 3] {
+    let (file, mut value) = (black_box(&of.file), 0);
+    let answer = engine::verdict(file, of.last, slices.work, slices.schema, &mut value);
+    [answer.into(), value, 0]
+}
+
+fn verdict(
+    by: impl Fn(&[u8], usize, &mut [u8], &mut [u8]) -> Verdict,
+    of: &Setting,
+    slices: Parts,
+) -> [usize; 3] {
+    let verdict = by(black_box(&of.file), of.last, slices.work, slices.schema);
+    let value = match verdict {
+        Verdict::Typable { length } => length,
+        Verdict::Untypable { attribute } => attribute.into(),
+        Verdict::Refused { .. } => 0,
+    };
+    [verdict.number().into(), value, 0]
+}
+
+fn typing_by_engine(of: &Setting, slices: Parts) -> [usize; 3] {
+    let (file, schema, mut value) = (black_box(&of.file), black_box(&of.schema), 0);
+    let answer = engine::typing(file, of.last, schema, slices.out, &mut value);
+    [answer.into(), value, 0]
+}
+
+fn typing(of: &Setting, slices: Parts) -> [usize; 3] {
+    let (file, schema) = (black_box(&of.file), black_box(&of.schema));
+    let typing = reference::typing(file, of.last, schema, slices.out);
+    let length = match typing {
+        Typing::Typed { length } => length,
+        _ => 0,
+    };
+    [typing.number().into(), length, 0]
+}
+
+fn apply_by_engine(of: &Setting, slices: Parts) -> [usize; 3] {
+    let (file, instantiation) = (black_box(&of.file), black_box(&of.instantiation));
+    let Parts {
+        work, schema, out, ..
+    } = slices;
+    let mut lengths = Lengths::default();
+    let answer = engine::apply(
+        file,
+        of.last,
+        instantiation,
+        work,
+        schema,
+        out,
+        &mut lengths,
+    );
+    [answer.into(), lengths.schema, lengths.output]
+}
+
+fn apply(of: &Setting, slices: Parts) -> [usize; 3] {
+    let (file, instantiation) = (black_box(&of.file), black_box(&of.instantiation));
+    let Parts {
+        work, schema, out, ..
+    } = slices;
+    let apply = reference::apply(file, of.last, instantiation, work, schema, out);
+    let (schema, output) = match apply {
+        Apply::Applied { schema, output } => (schema, output),
+        Apply::Refused { .. } => (0, 0),
+    };
+    [apply.number().into(), schema, output]
+}
+
+fn recover_by_engine(of: &Setting, slices: Parts) -> [usize; 3] {
+    let (file, schema, mut value) = (black_box(&of.file), black_box(&of.schema), 0);
+    let (work, result) = (slices.work, slices.instantiation);
+    let answer = engine::recover(file, of.last, schema, work, result, &mut value);
+    [answer.into(), value, 0]
+}
+
+fn recover(of: &Setting, slices: Parts) -> [usize; 3] {
+    let (file, schema) = (black_box(&of.file), black_box(&of.schema));
+    let (work, result) = (slices.work, slices.instantiation);
+    let recover = reference::recover(file, of.last, schema, work, result);
+    let length = match recover {
+        Recover::Recovered { length } => length,
+        _ => 0,
+    };
+    [recover.number().into(), length, 0]
+}
+
+/// The call by an implementation, if it has the operation.
+fn one_call(operation: Operation, by: By) -> Option<OneCall> {
+    let call: OneCall = match (operation, by) {
+        (Operation::Formula, By::Engine) => |of, slices| formula(engine::formula, of, slices),
+        (Operation::Formula, By::Reference) => |of, slices| formula(reference::formula, of, slices),
+        (Operation::Formula, By::Words) => |of, slices| formula(words::formula, of, slices),
+        (Operation::Verdict, By::Engine) => verdict_by_engine,
+        (Operation::Verdict, By::Reference) => |of, slices| verdict(reference::verdict, of, slices),
+        (Operation::Verdict, By::Words) => |of, slices| verdict(words::verdict, of, slices),
+        (Operation::Typing, By::Engine) => typing_by_engine,
+        (Operation::Typing, By::Reference) => typing,
+        (Operation::Apply, By::Engine) => apply_by_engine,
+        (Operation::Apply, By::Reference) => apply,
+        (Operation::Recover, By::Engine) => recover_by_engine,
+        (Operation::Recover, By::Reference) => recover,
+        _ => return None,
+    };
+    Some(call)
+}
+
+/// The length of the copy beside an operation: the bytes that it writes, the formulas among
+/// them; for Typing those of the schema, which it reads, too.
+fn copied_length(operation: Operation, setting: &Setting) -> usize {
+    let (work, schema) = (setting.work_length(), setting.schema.len());
+    match operation {
+        Operation::Formula | Operation::Verdict => work,
+        Operation::Typing => schema + setting.output_length,
+        Operation::Apply => work + schema + setting.output_length,
+        Operation::Recover => work + setting.instantiation.len(),
+    }
+}
+
+/// The call, if there is such a one.
+pub fn call(operation: Operation, by: By, setting: &Setting) -> Option<Call<'_>> {
+    if by == By::Copy {
+        let source = vec![0x55; copied_length(operation, setting)];
+        return Some(Box::new(move |slices| {
+            let target = &mut slices.bytes()[..source.len()];
+            black_box(target).copy_from_slice(black_box(&source));
+        }));
+    }
+    let one_call = one_call(operation, by)?;
+    Some(Box::new(move |slices| {
+        let parts = black_box(slices.parts(setting.work_length()));
+        slices.answer = black_box(one_call(setting, parts));
+    }))
+}
+
+/// Asserts that all implementations of the operation give the same answers and bytes, and
+/// no refusal.
+pub fn check(operation: Operation, setting: &Setting) {
+    let after = |by| {
+        let mut slices = Slices::new();
+        call(operation, by, setting)?(&mut slices);
+        Some((slices.answer, slices.bytes().to_vec()))
+    };
+    let wanted = after(By::Reference).expect("has every operation");
+    assert_eq!(wanted.0[0], 0, "{operation:?}, {}", setting.name);
+    for by in [By::Engine, By::Words] {
+        let is_same = after(by).is_none_or(|given| given == wanted);
+        assert!(is_same, "{operation:?} by {by:?}, {}", setting.name);
+    }
+}

@@ -1,0 +1,39 @@
+//! Times of Formula, Verdict, Typing, Apply and Recover, as markdown tables: beside the
+//! same operation by the reference, Formula and Verdict by a loop over 64-bit words, and a
+//! copy of the bytes that are written; and as nodes and as attributes double.
+//!
+//!     benchmark
+//!     benchmark once OPERATION SIZE COUNT [BY]
+//!
+//! The second calls one operation so many times and prints nothing, for a count of
+//! instructions. SIZE is a number of nodes: 7, 8, 16, 32 or 64. BY is engine, reference,
+//! words or copy.
+
+mod calls;
+mod measure;
+mod once;
+mod settings;
+mod slices;
+mod tables;
+mod words;
+
+use std::process::ExitCode;
+
+fn main() -> ExitCode {
+    let arguments: Vec<String> = std::env::args().skip(1).collect();
+    let arguments: Vec<&str> = arguments.iter().map(String::as_str).collect();
+    let is_understood = match arguments[..] {
+        [] => {
+            tables::print_all();
+            true
+        }
+        ["once", operation, size, count] => once::run(operation, size, count, "engine").is_some(),
+        ["once", operation, size, count, by] => once::run(operation, size, count, by).is_some(),
+        _ => false,
+    };
+    if is_understood {
+        return ExitCode::SUCCESS;
+    }
+    eprintln!("benchmark [once OPERATION SIZE COUNT [BY]]");
+    ExitCode::from(2)
+}

@@ -1,0 +1,27 @@
+//! One operation, called a number of times.
+
+use crate::calls::{call, By, Operation, ALL, OPERATIONS};
+use crate::settings::{e1_with_10_columns, of_nodes, Setting};
+use crate::slices::Slices;
+
+/// The setting with so many nodes.
+fn setting(size: &str) -> Option<Setting> {
+    match size.parse().ok()? {
+        7 => Some(e1_with_10_columns()),
+        count @ (8 | 16 | 32 | 64) => Some(of_nodes(count)),
+        _ => None,
+    }
+}
+
+/// Calls the operation `count` times; nothing if an argument is not understood or there is
+/// no such call.
+pub fn run(operation: &str, size: &str, count: &str, by: &str) -> Option<()> {
+    let is_operation = |each: &Operation| format!("{each:?}").eq_ignore_ascii_case(operation);
+    let is_by = |each: &By| format!("{each:?}").eq_ignore_ascii_case(by);
+    let operation = OPERATIONS.into_iter().find(is_operation)?;
+    let by = ALL.into_iter().find(is_by)?;
+    let (setting, count): (_, u64) = (setting(size)?, count.parse().ok()?);
+    let (call, mut slices) = (call(operation, by, &setting)?, Slices::new());
+    (0..count).for_each(|_| call(&mut slices));
+    Some(())
+}

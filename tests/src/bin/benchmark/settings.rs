@@ -1,0 +1,201 @@
+//! Files, schemas and instantiations that are measured.
+
+use std::collections::HashSet;
+use std::mem::discriminant;
+
+use type_formula_tests::examples::{e1, e10_nodes, join_of_eight};
+use type_formula_tests::random::Random;
+use type_formula_tests::reference::{
+    assignment_of, encode_file, encode_schema, infer, recover, typing, untypable_attribute,
+    witness, Node, Recover, Typing, FORMULA_LENGTH, INSTANTIATION_LENGTH, OUTPUT_LENGTH,
+};
+
+/// A file with a schema that types its last node, and the instantiation whose image the
+/// schema is.
+pub struct Setting {
+    pub name: String,
+    pub file: Vec<u8>,
+    pub last: usize,
+    pub schema: Vec<u8>,
+    pub instantiation: Vec<u8>,
+    /// The length of the output record.
+    pub output_length: usize,
+}
+
+impl Setting {
+    fn new(name: impl Into<String>, file: Vec<u8>, schema: Vec<u8>) -> Self {
+        let mut setting = Setting {
+            name: name.into(),
+            last: usize::from(file[1]) - 1,
+            file,
+            schema,
+            instantiation: Vec::new(),
+            output_length: 0,
+        };
+        let (file, last, schema) = (&setting.file, setting.last, &setting.schema);
+        let mut work = vec![0; setting.work_length()];
+        let (mut out, mut result) = (vec![0; OUTPUT_LENGTH], vec![0; INSTANTIATION_LENGTH]);
+        let typing = typing(file, last, schema, &mut out);
+        let recover = recover(file, last, schema, &mut work, &mut result);
+        match (typing, recover) {
+            (Typing::Typed { length: output }, Recover::Recovered { length }) => {
+                setting.output_length = output;
+                setting.instantiation = result[..length].to_vec();
+            }
+            _ => panic!("{}: not typed", setting.name),
+        }
+        setting
+    }
+
+    pub fn work_length(&self) -> usize {
+        FORMULA_LENGTH * (self.last + 1)
+    }
+}
+
+/// E1 with three ordinary attributes, one for each of its type variables. The relations
+/// have 10 columns in all: r0 has 1, 3, 20 and 21, r1 has 2, 3, 20 and 21, r2 has 20 and
+/// 22.
+pub fn e1_with_10_columns() -> Setting {
+    let subsets = [(1, 1), (2, 2), (3, 3), (20, 7), (21, 3), (22, 4)];
+    let schema = encode_schema(&assignment_of(3, subsets));
+    Setting::new("n 7, m 3 (E1), 10 columns", e1().bytes, schema)
+}
+
+/// Whether all nine cases of nodes occur.
+fn has_all_cases(nodes: &[Node]) -> bool {
+    let cases: HashSet<_> = nodes.iter().map(discriminant).collect();
+    cases.len() == 9
+}
+
+/// The first seeded file with m 8, n 64 and all cases of nodes whose last node is typable
+/// and not a relation, with its witness.
+pub fn random_of_64_nodes() -> Setting {
+    let mut random = Random::new(50);
+    loop {
+        let nodes = random.mild_nodes(8, 64);
+        let file = encode_file(8, &nodes);
+        let formula = infer(&file).expect("accepted").formulas[63];
+        let last_is_relation = matches!(nodes[63], Node::Relation { .. });
+        if has_all_cases(&nodes) && untypable_attribute(&formula).is_none() && !last_is_relation {
+            let schema = witness(&formula, 8);
+            return Setting::new("n 64, m 8, random nodes", file, schema);
+        }
+    }
+}
+
+/// Seven nodes, from the given number on, over the node `before`, which has attribute 1 and
+/// not 2; the last of them has the same type. The node `relation` has attribute 1 and no
+/// attribute that `before` lacks.
+fn seven_nodes(number: u8, before: u8, relation: u8, round: u8) -> [Node; 7] {
+    let (operand, next) = (before, number + 1);
+    let (left, right) = (number + 3, before);
+    let pair = match round % 2 {
+        0 => Node::Union { left, right },
+        _ => Node::Difference { left, right },
+    };
+    let (old, set) = (2, 0b10);
+    let (left, right) = (number + 4, number + 5);
+    [
+        Node::Selection { operand, set },
+        Node::Renaming {
+            operand: number,
+            old: 1,
+            new: 2,
+        },
+        Node::ProjectingOut { operand: next, old },
+        Node::NaturalJoin {
+            left: number + 2,
+            right: relation,
+        },
+        pair,
+        Node::Projection {
+            operand: left,
+            set: 0,
+        },
+        Node::Product { left, right },
+    ]
+}
+
+/// The join of eight relations, then seven times seven nodes. All cases of nodes occur,
+/// every node is in the last one's expression, and every subset is a type variable.
+fn nodes_over_a_join() -> Vec<Node> {
+    let mut nodes = join_of_eight();
+    for round in 0..7 {
+        let number = 15 + 7 * round;
+        nodes.extend(seven_nodes(number, number - 1, round, round));
+    }
+    assert!(nodes.len() == 64 && has_all_cases(&nodes));
+    nodes
+}
+
+/// Seven nodes, the first four as in E10: a selection of a join of two relations. Every
+/// subset is a type variable.
+fn nodes_over_two_relations() -> Vec<Node> {
+    let mut nodes = e10_nodes();
+    nodes.truncate(4);
+    nodes.extend([
+        Node::Renaming {
+            operand: 3,
+            old: 1,
+            new: 2,
+        },
+        Node::ProjectingOut { operand: 4, old: 2 },
+        Node::NaturalJoin { left: 5, right: 2 },
+    ]);
+    nodes
+}
+
+/// n nodes and m 8: a relation and seven nodes over it and the nodes before, again and
+/// again. Relation 0 has all attributes: attribute 1 is in each relation, and 15 ordinary
+/// attributes are in relation 0 and others.
+pub fn of_nodes(count: u8) -> Setting {
+    let mut nodes = Vec::new();
+    for round in 0..count / 8 {
+        let relation = 8 * round;
+        nodes.push(Node::Relation {
+            relation: round % 8,
+        });
+        let before = relation.saturating_sub(1);
+        nodes.extend(seven_nodes(relation + 1, before, relation, round));
+    }
+    assert_eq!(nodes.len(), usize::from(count), "eight nodes each round");
+    let ordinary = (0..15).map(|place| (16 + place, spread_subset(place) | 1));
+    let schema = assignment_of(8, ordinary.chain([(1, 255)]));
+    let name = format!("n {count}, m 8, 15 ordinary attributes");
+    Setting::new(name, encode_file(8, &nodes), encode_schema(&schema))
+}
+
+/// How ordinary attributes are in the lists of an instantiation.
+#[derive(Clone, Copy)]
+pub enum Lists {
+    /// Three lists.
+    Three,
+    /// One attribute in each list.
+    OneInEach,
+}
+
+/// Subsets above 0 that differ for places below 255 and hold about half of the relations.
+fn spread_subset(place: u32) -> usize {
+    ((place + 1) * 0x9d) as usize % 256
+}
+
+/// 7 or 64 nodes and m 8: attribute 1 in each relation, and so many ordinary attributes.
+pub fn of_attributes(nodes: usize, ordinary: u32, lists: Lists) -> Setting {
+    let subset = |place: u32| match lists {
+        Lists::Three => [0x01, 0x0f, 0xff][place as usize % 3],
+        Lists::OneInEach => spread_subset(place),
+    };
+    let subsets = (0..ordinary).map(|place| (16 + place, subset(place)));
+    let schema = assignment_of(8, subsets.chain([(1, 255)]));
+    let nodes = match nodes {
+        7 => nodes_over_two_relations(),
+        _ => nodes_over_a_join(),
+    };
+    let lists = match lists {
+        Lists::Three => "three lists",
+        Lists::OneInEach => "one in each list",
+    };
+    let count = nodes.len();
+    let name = format!("n {count}, m 8, {ordinary} ordinary attributes, {lists}");
+    Setting::new(name, encode_file(8, &nodes), encode_schema(&schema))
+}

@@ -1,0 +1,159 @@
+//! The tables.
+
+use type_formula_tests::random::Random;
+use type_formula_tests::reference::{self, FORMULA_LENGTH};
+
+use crate::calls::{call, check, By, Call, Operation, ALL, OPERATIONS};
+use crate::measure::{medians, BATCHES};
+use crate::settings::{
+    e1_with_10_columns, of_attributes, of_nodes, random_of_64_nodes, Lists, Setting,
+};
+use crate::words;
+
+/// Prints a row of a markdown table.
+fn print_row(cells: &[String]) {
+    println!("| {} |", cells.join(" | "));
+}
+
+/// Prints the head of a markdown table.
+fn print_head(title: &str, cells: &[String]) {
+    println!("\n{title}\n");
+    print_row(cells);
+    println!("|{}", "---|".repeat(cells.len()));
+}
+
+/// Asserts that the words give the bytes of the reference on random files.
+fn check_words() {
+    let mut random = Random::new(51);
+    let (mut work, mut wanted) = (vec![0; 64 * FORMULA_LENGTH], vec![0; 64 * FORMULA_LENGTH]);
+    for round in 0..500 {
+        let (relations, count) = (random.between(1, 8), random.between(1, 64));
+        let bytes = match round % 2 {
+            0 => random.accepted_file(relations, count),
+            _ => random.mild_file(relations, count),
+        };
+        words::formula(&bytes, &mut work);
+        reference::formula(&bytes, &mut wanted);
+        assert!(work == wanted, "words differ from the reference");
+    }
+}
+
+/// The cells of an operation: the engine's time, and each other time with the engine's
+/// ratio to it; `-` where there is no such call.
+fn compared(operation: Operation, setting: &Setting) -> Vec<String> {
+    check(operation, setting);
+    let calls = ALL.map(|by| call(operation, by, setting));
+    let has = calls.each_ref().map(Option::is_some);
+    let calls: Vec<Call> = calls.into_iter().flatten().collect();
+    let mut times = medians(&calls).into_iter();
+    let engine = times.next().expect("has every operation");
+    let cell = |has: &bool| match has.then(|| times.next()).flatten() {
+        Some(time) => format!("{time:.0} ({:.3})", engine / time),
+        None => "-".into(),
+    };
+    let others: Vec<String> = has[1..].iter().map(cell).collect();
+    [vec![format!("{engine:.0}")], others].concat()
+}
+
+/// The engine beside the alternatives.
+fn print_comparisons() {
+    let title = "Nanoseconds, and in brackets the engine's time divided by it. The loop \
+                 over 64-bit words and the other implementation read the file by the same \
+                 function.";
+    let names = [
+        "Operation",
+        "Input",
+        "engine",
+        "other implementation",
+        "64-bit loop",
+        "copy",
+    ];
+    print_head(title, &names.map(String::from));
+    for (setting, operations) in [
+        (e1_with_10_columns(), &OPERATIONS[..]),
+        (random_of_64_nodes(), &OPERATIONS[..2]),
+        (of_attributes(64, 255, Lists::Three), &OPERATIONS[2..]),
+        (of_attributes(64, 255, Lists::OneInEach), &OPERATIONS[2..]),
+    ] {
+        for &operation in operations {
+            let front = vec![format!("{operation:?}"), setting.name.clone()];
+            print_row(&[front, compared(operation, &setting)].concat());
+        }
+    }
+}
+
+/// A column of a table: its name, and the operation for each setting.
+type Column<'a> = (String, Operation, &'a [Setting]);
+
+/// The times of a column, each with its ratio to the one before.
+fn with_ratios(times: &[f64]) -> Vec<String> {
+    let ratio = |place: usize| match place {
+        0 => String::new(),
+        _ => format!(" ({:.2})", times[place] / times[place - 1]),
+    };
+    let cell = |(place, time): (usize, &f64)| format!("{time:.0}{}", ratio(place));
+    times.iter().enumerate().map(cell).collect()
+}
+
+/// The engine's times as a table; the batches of all its calls alternate. Each row is for
+/// one of the counts and for the setting at its place.
+fn print_doubling(title: &str, (name, counts): (&str, &[u32]), columns: &[Column]) {
+    let mut calls: Vec<Call> = Vec::new();
+    for (_, operation, settings) in columns {
+        for setting in *settings {
+            check(*operation, setting);
+            calls.extend(call(*operation, By::Engine, setting));
+        }
+    }
+    let times = medians(&calls);
+    let cells: Vec<Vec<String>> = times.chunks(counts.len()).map(with_ratios).collect();
+    let names = columns.iter().map(|(name, _, _)| name.clone());
+    let names: Vec<String> = [name.to_string()].into_iter().chain(names).collect();
+    print_head(title, &names);
+    for (place, count) in counts.iter().enumerate() {
+        let row = cells.iter().map(|column| column[place].clone());
+        let row: Vec<String> = [count.to_string()].into_iter().chain(row).collect();
+        print_row(&row);
+    }
+}
+
+/// The engine as nodes double.
+fn print_nodes() {
+    let counts = [8, 16, 32, 64];
+    let settings = counts.map(|count| of_nodes(count as u8));
+    let column = |operation| (format!("{operation:?}"), operation, &settings[..]);
+    let title = "As nodes double, m 8 and 15 ordinary attributes: nanoseconds, and in brackets \
+                 the ratio to the row before.";
+    print_doubling(title, ("n", &counts), &OPERATIONS.map(column));
+}
+
+/// The engine as attributes double, for so many nodes.
+fn print_attributes(nodes: usize) {
+    let counts = [15, 31, 63, 127, 255];
+    let settings = |lists| counts.map(|count| of_attributes(nodes, count, lists));
+    let (three, one_in_each) = (settings(Lists::Three), settings(Lists::OneInEach));
+    let mut columns: Vec<Column> = Vec::new();
+    for operation in &OPERATIONS[2..] {
+        let name = |lists| format!("{operation:?}, {lists}");
+        columns.push((name("three lists"), *operation, &three));
+        let each = name("one attribute in each list");
+        columns.push((each, *operation, &one_in_each));
+    }
+    let title = format!(
+        "As ordinary attributes double, n {nodes} and m 8: nanoseconds, and in brackets the \
+         ratio to the row before."
+    );
+    print_doubling(&title, ("Ordinary attributes", &counts), &columns);
+}
+
+pub fn print_all() {
+    println!(
+        "Medians of {BATCHES} batches; batches of what is compared alternate. Work space and \
+         result slices are reused and not cleared between calls."
+    );
+    check_words();
+    print_comparisons();
+    print_nodes();
+    print_attributes(7);
+    print_attributes(64);
+}

@@ -1,0 +1,177 @@
+//! Columns as 64-bit words, and the step of each case of nodes. All is inline, so that the
+//! compiler sees the loop as a whole.
+
+use type_formula_tests::reference::{Node, COLUMN_LENGTH, FORMULA_LENGTH, OUTPUT_START};
+
+/// 256 bits, one for each subset.
+pub type Bits = [u64; 4];
+
+/// The allowed subsets of a column and those that put its attribute in the output.
+#[derive(Clone, Copy)]
+pub struct Column {
+    pub allowed: Bits,
+    pub output: Bits,
+}
+
+/// A column, word by word.
+#[inline]
+fn column_of(word: impl Fn(usize) -> (u64, u64)) -> Column {
+    let mut column = Column {
+        allowed: [0; 4],
+        output: [0; 4],
+    };
+    for i in 0..4 {
+        (column.allowed[i], column.output[i]) = word(i);
+    }
+    column
+}
+
+#[inline]
+fn read_bits(bytes: &[u8]) -> Bits {
+    let mut bits = [0; 4];
+    for (word, bytes) in bits.iter_mut().zip(bytes.chunks_exact(8)) {
+        *word = u64::from_le_bytes(bytes.try_into().expect("eight bytes"));
+    }
+    bits
+}
+
+#[inline]
+fn write_bits(bytes: &mut [u8], bits: &Bits) {
+    for (bytes, word) in bytes.chunks_exact_mut(8).zip(bits) {
+        bytes.copy_from_slice(&word.to_le_bytes());
+    }
+}
+
+#[inline]
+pub fn read_column(work: &[u8], node: u8, column: usize) -> Column {
+    let start = FORMULA_LENGTH * usize::from(node) + COLUMN_LENGTH * column;
+    let bytes = &work[start..start + COLUMN_LENGTH];
+    Column {
+        allowed: read_bits(&bytes[..OUTPUT_START]),
+        output: read_bits(&bytes[OUTPUT_START..]),
+    }
+}
+
+#[inline]
+pub fn write_column(formula: &mut [u8], column: usize, words: &Column) {
+    let start = COLUMN_LENGTH * column;
+    let bytes = &mut formula[start..start + COLUMN_LENGTH];
+    write_bits(&mut bytes[..OUTPUT_START], &words.allowed);
+    write_bits(&mut bytes[OUTPUT_START..], &words.output);
+}
+
+/// The subsets below 2^m.
+#[inline]
+fn all_subsets(relations: u8) -> Bits {
+    match relations {
+        0..=5 => [(1 << (1 << relations)) - 1, 0, 0, 0],
+        6 => [u64::MAX, 0, 0, 0],
+        7 => [u64::MAX, u64::MAX, 0, 0],
+        _ => [u64::MAX; 4],
+    }
+}
+
+/// The subsets that hold the relation.
+#[inline]
+fn subsets_with(relation: u8) -> Bits {
+    match relation {
+        0 => [0xaaaa_aaaa_aaaa_aaaa; 4],
+        1 => [0xcccc_cccc_cccc_cccc; 4],
+        2 => [0xf0f0_f0f0_f0f0_f0f0; 4],
+        3 => [0xff00_ff00_ff00_ff00; 4],
+        4 => [0xffff_0000_ffff_0000; 4],
+        5 => [0xffff_ffff_0000_0000; 4],
+        6 => [0, u64::MAX, 0, u64::MAX],
+        _ => [0, 0, u64::MAX, u64::MAX],
+    }
+}
+
+#[inline]
+fn equal_types(left: &Column, right: &Column) -> Column {
+    column_of(|i| {
+        let agree = !(left.output[i] ^ right.output[i]);
+        let allowed = left.allowed[i] & right.allowed[i] & agree;
+        (allowed, allowed & left.output[i])
+    })
+}
+
+#[inline]
+fn join(left: &Column, right: &Column) -> Column {
+    column_of(|i| {
+        let allowed = left.allowed[i] & right.allowed[i];
+        (allowed, allowed & (left.output[i] | right.output[i]))
+    })
+}
+
+#[inline]
+fn product(left: &Column, right: &Column) -> Column {
+    column_of(|i| {
+        let both = left.output[i] & right.output[i];
+        let allowed = left.allowed[i] & right.allowed[i] & !both;
+        (allowed, allowed & (left.output[i] | right.output[i]))
+    })
+}
+
+/// The attribute must be present; the result has it or not.
+#[inline]
+fn present(operand: &Column, stays: bool) -> Column {
+    column_of(|i| (operand.output[i], if stays { operand.output[i] } else { 0 }))
+}
+
+/// The attribute must be absent and comes.
+#[inline]
+fn absent(operand: &Column) -> Column {
+    column_of(|i| {
+        let allowed = operand.allowed[i] & !operand.output[i];
+        (allowed, allowed)
+    })
+}
+
+/// The result does not have the attribute.
+#[inline]
+fn dropped(operand: &Column) -> Column {
+    column_of(|i| (operand.allowed[i], 0))
+}
+
+const NOTHING: Column = Column {
+    allowed: [0; 4],
+    output: [0; 4],
+};
+
+/// The column of a node from those of the earlier nodes.
+#[inline]
+pub fn step(node: &Node, column: usize, relations: u8, earlier: &[u8]) -> Column {
+    let read = |operand| read_column(earlier, operand, column);
+    let is_listed = |set: u16| set >> column & 1 == 1;
+    let is_column = |attribute: u8| usize::from(attribute) == column;
+    match *node {
+        Node::Relation { relation } => {
+            let (all, with) = (all_subsets(relations), subsets_with(relation));
+            column_of(|i| (all[i], all[i] & with[i]))
+        }
+        Node::Union { left, right } | Node::Difference { left, right } => {
+            equal_types(&read(left), &read(right))
+        }
+        Node::NaturalJoin { left, right } => join(&read(left), &read(right)),
+        Node::Product { left, right } => product(&read(left), &read(right)),
+        Node::Selection { operand, set } if is_listed(set) => present(&read(operand), true),
+        Node::Selection { operand, .. } => read(operand),
+        Node::Projection { operand, set } if is_listed(set) => present(&read(operand), true),
+        Node::Projection { operand, .. } => dropped(&read(operand)),
+        Node::Renaming { operand, old, new } => match (is_column(old), is_column(new)) {
+            (true, true) => NOTHING,
+            (true, false) => present(&read(operand), false),
+            (false, true) => absent(&read(operand)),
+            (false, false) => read(operand),
+        },
+        Node::ProjectingOut { operand, old } if is_column(old) => present(&read(operand), false),
+        Node::ProjectingOut { operand, .. } => read(operand),
+    }
+}
+
+/// The lowest bit that stands, if one does.
+#[inline]
+pub fn lowest(bits: &Bits) -> Option<u32> {
+    let place = bits.iter().position(|&word| word != 0)?;
+    Some(64 * place as u32 + bits[place].trailing_zeros())
+}

@@ -1,0 +1,161 @@
+//! A mixture of inputs of all operations, each derived from a seed and its number: random,
+//! damaged, truncated, extended and extreme ones among inputs that give a result.
+
+mod files;
+mod instantiations;
+mod schemas;
+
+use std::rc::Rc;
+
+use self::files::Files;
+use crate::answer::{Answer, Operation, OPERATIONS};
+use crate::comparison::{Comparison, Difference};
+use crate::generators::{least_for_apply, least_for_recover};
+use crate::input::Input;
+use crate::random::Random;
+use crate::reference::{read_file, OUTPUT_LENGTH, SCHEMA_LENGTH};
+
+/// The seed of what fills lent slices.
+const NOISE_SEED: u64 = 110;
+
+/// Compares inputs of all operations.
+pub struct Mixture {
+    comparison: Comparison,
+    files: Files,
+    /// How many accepted files of m 8 and n 64 had their formulas inferred or were typed.
+    pub greatest: u64,
+}
+
+/// The operation of the input of this number: all have the same share.
+pub fn operation_of(number: u64) -> Operation {
+    OPERATIONS[(number % OPERATIONS.len() as u64) as usize]
+}
+
+/// Lengths of slices: three times in four enough, else near the least.
+fn lengths<const COUNT: usize>(random: &mut Random, least: [usize; COUNT]) -> [usize; COUNT] {
+    match random.below(4) {
+        0 => least.map(|least| random.near(least)),
+        _ => least.map(|least| random.enough(least)),
+    }
+}
+
+/// The number of an answer.
+fn number<A: Answer>(compared: Result<A, Difference>) -> Result<u8, Difference> {
+    compared.map(|answer| answer.number())
+}
+
+/// The node that is asked: most often the likely one, else any, sometimes one that is not
+/// below n.
+fn asked_node(random: &mut Random, input: &Input, likely: usize) -> usize {
+    match random.below(16) {
+        0 => {
+            let numbers = input.node_numbers();
+            numbers[random.below(numbers.len())]
+        }
+        1..=3 => random.below(input.inferred.as_ref().map_or(1, |all| all.formulas.len())),
+        _ => likely,
+    }
+}
+
+impl Mixture {
+    pub fn new() -> Self {
+        Mixture {
+            comparison: Comparison::new(NOISE_SEED),
+            files: Files::new(),
+            greatest: 0,
+        }
+    }
+
+    /// Compares the input of this number in a run with this seed. Gives the number of the
+    /// answer, or what differs.
+    pub fn compare(&mut self, seed: u64, number: u64) -> Result<u8, Difference> {
+        let mut random = Random::of_input(seed, number);
+        *self.comparison.random() = Random::new(random.word());
+        match operation_of(number) {
+            Operation::Accept => self.accept(&mut random),
+            Operation::Record => self.record(&mut random),
+            Operation::ReadNode => self.read_node(&mut random),
+            Operation::Formula => self.formula(&mut random),
+            Operation::Verdict => self.verdict(&mut random),
+            Operation::Typing => self.typing(&mut random),
+            Operation::Apply => self.apply(&mut random),
+            Operation::Recover => self.recover(&mut random),
+        }
+    }
+
+    /// Counts a file of m 8 and n 64.
+    fn count_greatest(&mut self, input: &Input) {
+        let is_greatest = input.bytes.starts_with(&[8, 64]) && input.inferred.is_ok();
+        self.greatest += u64::from(is_greatest);
+    }
+
+    fn accept(&mut self, random: &mut Random) -> Result<u8, Difference> {
+        let file = self.files.bytes(random);
+        number(self.comparison.accept(&file))
+    }
+
+    fn record(&mut self, random: &mut Random) -> Result<u8, Difference> {
+        let file = self.files.bytes(random);
+        let expected = read_file(&file);
+        let node = files::any_node(random, &file, expected.as_ref().ok());
+        self.comparison.record(&file, &expected, node)
+    }
+
+    fn read_node(&mut self, random: &mut Random) -> Result<u8, Difference> {
+        let (relations, number, bytes) = files::node(random);
+        self.comparison.read_node(relations, number, &bytes)
+    }
+
+    fn formula(&mut self, random: &mut Random) -> Result<u8, Difference> {
+        let input = self.files.input(random);
+        self.count_greatest(&input);
+        let [length] = lengths(random, [input.work_length()]);
+        self.comparison.formula(&input, length)
+    }
+
+    fn verdict(&mut self, random: &mut Random) -> Result<u8, Difference> {
+        let input = self.files.input(random);
+        self.count_greatest(&input);
+        let node = files::any_node_of(random, &input);
+        let lengths = lengths(random, [input.work_length(), SCHEMA_LENGTH]);
+        number(self.comparison.verdict(&input, node, lengths))
+    }
+
+    /// A file with one of its nodes and a schema that is often near a typed one.
+    fn with_schema(&mut self, random: &mut Random) -> (Rc<Input>, usize, Vec<u8>) {
+        let input = self.files.likely_input(random);
+        self.count_greatest(&input);
+        let likely = files::likely_node(random, &input);
+        let schema = schemas::schema(random, &input, likely);
+        let node = asked_node(random, &input, likely);
+        (input, node, schema)
+    }
+
+    fn typing(&mut self, random: &mut Random) -> Result<u8, Difference> {
+        let (input, node, schema) = self.with_schema(random);
+        let [length] = lengths(random, [OUTPUT_LENGTH]);
+        number(self.comparison.typing(&input.bytes, node, &schema, length))
+    }
+
+    fn apply(&mut self, random: &mut Random) -> Result<u8, Difference> {
+        let input = self.files.likely_input(random);
+        self.count_greatest(&input);
+        let likely = files::likely_node(random, &input);
+        let bytes = instantiations::instantiation(random, &input, likely);
+        let node = asked_node(random, &input, likely);
+        let lengths = lengths(random, least_for_apply(&input));
+        number(self.comparison.apply(&input, node, &bytes, lengths))
+    }
+
+    fn recover(&mut self, random: &mut Random) -> Result<u8, Difference> {
+        let (input, node, schema) = self.with_schema(random);
+        let lengths = lengths(random, least_for_recover(&input));
+        number(self.comparison.recover(&input, node, &schema, lengths))
+    }
+}
+
+impl Default for Mixture {
+    fn default() -> Self {
+        Mixture::new()
+    }
+}
