@@ -21,12 +21,12 @@ per_call() {
     echo $((($(instructions "$1" "$2" $many "$3") - $(instructions "$1" "$2" $few "$3")) / (many - few)))
 }
 
-echo "| Operation | n | engine | other implementation | 64-bit loop | copy |"
-echo "|---|---|---|---|---|---|"
+echo "| Operation | n | engine | other implementation | 64-bit loop | copy | copy by a 64-bit loop |"
+echo "|---|---|---|---|---|---|---|"
 for operation in formula verdict typing apply recover; do
     for size in 7 64; do
         row="| $operation | $size |"
-        for by in engine reference words copy; do
+        for by in engine reference words copy copyloop; do
             row="$row $(per_call $operation $size $by) |"
         done
         echo "$row"

@@ -27,16 +27,24 @@ pub const OPERATIONS: [Operation; 5] = [
     Operation::Recover,
 ];
 
-/// What makes a call: an implementation, or a copy of the bytes that it writes.
+/// What makes a call: an implementation, or a copy of the bytes that it writes, by the C
+/// library or by a loop over 64-bit words.
 #[derive(Clone, Copy, Debug, PartialEq, Eq)]
 pub enum By {
     Engine,
     Reference,
     Words,
     Copy,
+    CopyLoop,
 }
 
-pub const ALL: [By; 4] = [By::Engine, By::Reference, By::Words, By::Copy];
+pub const ALL: [By; 5] = [
+    By::Engine,
+    By::Reference,
+    By::Words,
+    By::Copy,
+    By::CopyLoop,
+];
 
 /// A call with these slices.
 pub type Call<'a> = Box<dyn Fn(&mut Slices) + 'a>;
@@ -166,14 +174,35 @@ fn copied_length(operation: Operation, setting: &Setting) -> usize {
     }
 }
 
+/// A copy by a loop over 64-bit words, compiled as every loop here is: the optimiser does not
+/// know that the number is 0, and so does not call the C library's copy.
+fn copy_words(target: &mut [u8], source: &[u8]) {
+    let zero = black_box(0);
+    let words = target.chunks_exact_mut(8).zip(source.chunks_exact(8));
+    for (target, source) in words {
+        let word = u64::from_le_bytes(source.try_into().expect("eight bytes"));
+        target.copy_from_slice(&(word ^ zero).to_le_bytes());
+    }
+    let rest = source.len() % 8;
+    target[source.len() - rest..].copy_from_slice(&source[source.len() - rest..]);
+}
+
+/// The copy of so many bytes to the slices.
+fn copy(by: By, length: usize) -> Call<'static> {
+    let source = vec![0x55; length];
+    Box::new(move |slices| {
+        let target = black_box(&mut slices.bytes()[..source.len()]);
+        match by {
+            By::CopyLoop => copy_words(target, black_box(&source)),
+            _ => target.copy_from_slice(black_box(&source)),
+        }
+    })
+}
+
 /// The call, if there is such a one.
 pub fn call(operation: Operation, by: By, setting: &Setting) -> Option<Call<'_>> {
-    if by == By::Copy {
-        let source = vec![0x55; copied_length(operation, setting)];
-        return Some(Box::new(move |slices| {
-            let target = &mut slices.bytes()[..source.len()];
-            black_box(target).copy_from_slice(black_box(&source));
-        }));
+    if by == By::Copy || by == By::CopyLoop {
+        return Some(copy(by, copied_length(operation, setting)));
     }
     let one_call = one_call(operation, by)?;
     Some(Box::new(move |slices| {

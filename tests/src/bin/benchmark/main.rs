@@ -1,13 +1,13 @@
 //! Times of Formula, Verdict, Typing, Apply and Recover, as markdown tables: beside the
-//! same operation by the reference, Formula and Verdict by a loop over 64-bit words, and a
-//! copy of the bytes that are written; and as nodes and as attributes double.
+//! same operation by the reference, Formula and Verdict by a loop over 64-bit words, and
+//! copies of the bytes that are written, by the C library and by a loop; and as nodes and as attributes double.
 //!
 //!     benchmark
 //!     benchmark once OPERATION SIZE COUNT [BY]
 //!
 //! The second calls one operation so many times and prints nothing, for a count of
 //! instructions. SIZE is a number of nodes: 7, 8, 16, 32 or 64. BY is engine, reference,
-//! words or copy.
+//! words, copy or copyloop.
 
 mod calls;
 mod measure;

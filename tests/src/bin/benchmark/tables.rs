@@ -67,6 +67,7 @@ fn print_comparisons() {
         "other implementation",
         "64-bit loop",
         "copy",
+        "copy by a 64-bit loop",
     ];
     print_head(title, &names.map(String::from));
     for (setting, operations) in [
