@@ -7,6 +7,7 @@ use native.Mathlib.Nat.{lt-of-lt-of-le, mod-lt}
 use native.Mathlib.Omega.{arith}
 use lib.Dec.{ltb, lit<}
 use lib.ListN.{length, getD}
+use Rattle.bits.specs.Booleans.{and-right}
 use Rattle.bits.specs.AllBelow.{allBelow, in-all, all-in, all-same}
 use Rattle.bits.specs.Bit.{bit, bit-none}
 use Rattle.bits.specs.Pack.{bit-pack}
@@ -60,9 +61,6 @@ module _ (m : ℕ) (few : m ≤ 8) (e : Expression) (legal : Legal m e) where
   special-cell : (subsets : List ℕ) (i : ℕ) → i < 16 → ok plain e i (specialHolders (mapsFrom subsets) i) ≡ ok plain e i (bit (getD subsets i 0))
   special-cell subsets i h = cell-depends plain m e legal i (specialHolders (mapsFrom subsets) i) (bit (getD subsets i 0)) (λ r below. maps-held subsets i r h (lt-of-lt-of-le below few)) .0
 
-  right : (a b : Bool) → a && b ≡ true → b ≡ true
-  right a b h = and-eq-true-iff a b .0 h .1
-
   pub fits-typed : (subsets entries : List ℕ) → getD subsets 0 0 ≡ 0 → entriesFit m e entries ≡ true → specialsFit m e subsets ≡ true → typedIn e (mapsFrom subsets) entries ≡ true
   unfolding typedIn entriesFit specialsFit allowedBit
   fits-typed subsets entries none fit special =
@@ -76,9 +74,9 @@ module _ (m : ℕ) (few : m ≤ 8) (e : Expression) (legal : Legal m e) where
       specials (suc i) h =
           let passes = all-in 15 (λ i. ltb (getD subsets (i + 1) 0) (2 ^ m) && ok plain e (i + 1) (bit (getD subsets (i + 1) 0))) special i (omega arith) in
           let same : i + 1 ≡ suc i = omega arith in
-          special-cell subsets (suc i) h ∙ sym (ap (λ (j : ℕ). ok plain e j (bit (getD subsets j 0))) same) ∙ right (ltb (getD subsets (i + 1) 0) (2 ^ m)) (ok plain e (i + 1) (bit (getD subsets (i + 1) 0))) passes
+          special-cell subsets (suc i) h ∙ sym (ap (λ (j : ℕ). ok plain e j (bit (getD subsets j 0))) same) ∙ and-right (ltb (getD subsets (i + 1) 0) (2 ^ m)) (ok plain e (i + 1) (bit (getD subsets (i + 1) 0))) passes
 
       listed : (i : ℕ) → i < length entries → ok plain e 0 (bit (getD entries i 0)) ≡ true
       listed i h =
           let passes = all-in (length entries) (λ i. ltb 0 (subsetOf (getD entries i 0)) && (ltb (subsetOf (getD entries i 0)) (2 ^ m) && ok plain e 0 (bit (subsetOf (getD entries i 0))))) fit i h in
-          sym (entry-cell m few e legal (getD entries i 0) .0) ∙ right (ltb (subsetOf (getD entries i 0)) (2 ^ m)) (ok plain e 0 (bit (subsetOf (getD entries i 0)))) (right (ltb 0 (subsetOf (getD entries i 0))) (ltb (subsetOf (getD entries i 0)) (2 ^ m) && ok plain e 0 (bit (subsetOf (getD entries i 0)))) passes)
+          sym (entry-cell m few e legal (getD entries i 0) .0) ∙ and-right (ltb (subsetOf (getD entries i 0)) (2 ^ m)) (ok plain e 0 (bit (subsetOf (getD entries i 0)))) (and-right (ltb 0 (subsetOf (getD entries i 0))) (ltb (subsetOf (getD entries i 0)) (2 ^ m) && ok plain e 0 (bit (subsetOf (getD entries i 0)))) passes)

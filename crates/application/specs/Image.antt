@@ -1,12 +1,12 @@
 -- The image of a table is a schema, and reading it gives the table back.
 use Prim.Native.Nat.{ℕ, zero, suc, _%_, _^_, _≤_, _<_}
-use mathlib.Core.Path.{_≡_, refl, sym, ap, _∙_}
+use mathlib.Core.Path.{_≡_, sym, ap, _∙_}
 use mathlib.Core.Bool.{Bool, true, false, cond}
 use mathlib.Core.List.{List, [], _∷_}
-use native.Mathlib.Nat.{lt-of-lt-of-le, mod-lt}
+use native.Mathlib.Nat.{lt-of-lt-of-le}
 use native.Mathlib.Decide.{decLt}
 use native.Mathlib.Omega.{arith}
-use lib.Dec.{eqb, lit<}
+use lib.Dec.{eqb}
 use lib.ListN.{length, getD, List·getD-eq-default}
 use lib.Pow.{pow-pos, pow-mono}
 use Rattle.bits.specs.Bit.{bit, bit-above}
@@ -19,7 +19,7 @@ use Rattle.membership.specs.Entries.{attributeOf, subsetOf, holdersIn}
 use Rattle.membership.specs.EnterLaws.{RisingEntries}
 use Rattle.membership.specs.EntriesOnce.{Positive, entries-once}
 use Rattle.membership.specs.Holders.{heldBy}
-use Rattle.membership.specs.HolderLaws.{held-member, held-rising, held-few, held-below}
+use Rattle.membership.specs.HolderLaws.{held-member, held-rising, held-few, held-below, holders-small}
 use Rattle.membership.specs.TableLaws.{Below}
 use Rattle.schema.specs.Schema.{recordsRead, readRecords, noRecord, schemaBytes, entriesOf, mapsOf, recordsOf}
 use Rattle.schema.specs.RecordsLaws.{AllRecords, written-records}
@@ -47,14 +47,6 @@ all-tab (suc n) f h = (h 0 (omega arith), all-tab n (λ i. f (suc i)) (λ i less
 pub held-positive : (m : ℕ) (es : List ℕ) → Held m es → Positive es
 held-positive m [] h = tt
 held-positive m (e ∷ es) h = (h .0, held-positive m es (h .2))
-
-holders-small : (es : List ℕ) (a : ℕ) → holdersIn es a < 256
-holders-small [] a = lit< tt
-holders-small (e ∷ es) a = go (eqb a (attributeOf e)) (holders-small es a)
-  where
-    go : (t : Bool) → holdersIn es a < 256 → cond t (subsetOf e) (holdersIn es a) < 256
-    go true rest = mod-lt e (lit< tt)
-    go false rest = rest
 
 pub holders-held : (m : ℕ) (es : List ℕ) → Held m es → (a : ℕ) → holdersIn es a < 2 ^ m
 holders-held m [] h a = pow-pos m

@@ -1,20 +1,20 @@
 -- An instantiation that fits has no list for subset 0.
 use Prim.Native.Nat.{ℕ, zero, suc, _+_, _*_, _/_, _≤_, _<_}
-use mathlib.Core.Path.{_≡_, refl, sym, ap, ap₂, _∙_}
+use mathlib.Core.Path.{_≡_, refl, sym, ap, _∙_}
 use mathlib.Core.Bool.{Bool, true, false, cond, _||_}
 use mathlib.Core.List.{List, [], _∷_}
 use native.Mathlib.Omega.{arith}
-use borrow.Author.Tests.{eq-eqb, eqb-true}
-use lib.Bits.{bitOr}
+use borrow.Author.Tests.{eq-eqb}
 use lib.Dec.{eqb}
 use lib.ListN.{length, getD}
+use Rattle.bits.specs.Booleans.{clash}
 use Rattle.bits.specs.Rising.{member}
 use Rattle.membership.specs.Entries.{attributeOf, subsetOf, holdersIn, enter}
-use Rattle.membership.specs.EnterLaws.{Order, lower, higher, equal, order, enter-lower, enter-higher, enter-equal, entry-attribute, joined-attribute}
+use Rattle.membership.specs.EnterLaws.{Order, lower, higher, equal, order, enter-lower, enter-higher, enter-equal, joined-attribute}
 use Rattle.instantiation.specs.Seen.{nothingSeen, repeatedIn}
 use Rattle.instantiation.specs.Instantiation.{entriesFrom, entriesIn, allListed}
 use Rattle.instantiation.specs.ReadLaws.{IsLists}
-use Rattle.instantiation.specs.Apart.{clash, listed-none, once-apart}
+use Rattle.instantiation.specs.Apart.{listed-none, once-apart}
 use Rattle.instantiation.specs.Owners.{lists-holders}
 use Rattle.application.specs.Bounds.{Held}
 

@@ -1,16 +1,14 @@
 -- Subsets of attributes and maps of relations say the same: each is got back from the other.
-use Prim.Native.Nat.{ℕ, zero, suc, _%_, _^_, _≤_, _<_}
+use Prim.Native.Nat.{ℕ, _%_, _^_, _≤_, _<_}
 use mathlib.Core.Path.{_≡_, refl, sym, ap, _∙_}
-use mathlib.Core.Bool.{Bool, true, false}
 use mathlib.Core.List.{List}
 use native.Mathlib.Nat.{lt-of-lt-of-le, mod-lt}
 use native.Mathlib.Decide.{decLt}
 use native.Mathlib.Omega.{arith}
-use borrow.Author.Tests.{eq-eqb}
 use lib.Dec.{eqb, lit<}
 use lib.ListN.{length, getD, List·getD-eq-default}
 use lib.Pow.{pow-mono}
-use Rattle.bits.specs.Bit.{bit, bit-first, bit-none, bit-above}
+use Rattle.bits.specs.Bit.{bit, bit-first, bit-none, bit-above, digit-clear}
 use Rattle.bits.specs.Pack.{pack, pack-below, pack-bits, pack-same, bit-pack, bits-once}
 use Rattle.bits.specs.Tab.{tab, length-tab, getD-tab, tab-is}
 use Rattle.application.specs.Special.{mapOf, mapsFrom, subsetOf, subsetsFrom}
@@ -31,12 +29,7 @@ module _ (subsets : List ℕ) where
 
   map-even : getD subsets 0 0 ≡ 0 → (r : ℕ) → mapOf subsets r % 2 ≡ 0
   unfolding mapOf
-  map-even none r = clear (mapOf subsets r % 2) (mod-lt (mapOf subsets r) (lit< tt)) (sym (bit-first (mapOf subsets r)) ∙ bit-pack 16 (λ i. bit (getD subsets i 0) r) 0 (lit< tt) ∙ ap (λ (x : ℕ). bit x r) none ∙ bit-none r)
-    where
-      clear : (d : ℕ) → d < 2 → eqb d 1 ≡ false → d ≡ 0
-      clear zero h z = refl
-      clear (suc zero) h z = absurd (let k : _≡_ {A = ℕ} 0 1 = cc in omega arith)
-      clear (suc (suc d)) h z = absurd (omega arith)
+  map-even none r = digit-clear (mapOf subsets r % 2) (mod-lt (mapOf subsets r) (lit< tt)) (sym (bit-first (mapOf subsets r)) ∙ bit-pack 16 (λ i. bit (getD subsets i 0) r) 0 (lit< tt) ∙ ap (λ (x : ℕ). bit x r) none ∙ bit-none r)
 
   -- bit 0 is clear where attribute 0 has no relation
   pub maps-even : getD subsets 0 0 ≡ 0 → (r : ℕ) → getD (mapsFrom subsets) r 0 % 2 ≡ 0

@@ -1,23 +1,22 @@
 -- Which tables there are: those of schemas, and those of instantiations that fit. A table fits a node exactly where it types it.
-use Prim.Native.Nat.{ℕ, zero, suc, _+_, _%_, _^_, _≤_, _<_}
-use mathlib.Core.Path.{_≡_, refl, sym, ap, ap₂, _∙_}
-use mathlib.Core.Bool.{Bool, true, false, _&&_, and-eq-true-iff}
+use Prim.Native.Nat.{ℕ, zero, suc, _+_, _^_, _≤_, _<_}
+use mathlib.Core.Path.{_≡_, refl, ap, _∙_}
+use mathlib.Core.Bool.{true, false, _&&_, and-eq-true-iff}
 use mathlib.Core.List.{List, [], _∷_}
-use native.Mathlib.Nat.{lt-of-lt-of-le, mod-lt}
+use native.Mathlib.Nat.{lt-of-lt-of-le}
 use native.Mathlib.Decide.{decLt}
 use native.Mathlib.Omega.{arith}
 use borrow.Author.Tests.{lt-ltb, ltb-true}
-use lib.Dec.{eqb, ltb, lit<}
+use lib.Dec.{ltb, lit<}
 use lib.ListN.{length, getD, List·getD-eq-default}
 use lib.Pow.{pow-mono, pow-pos}
 use Rattle.bits.specs.AllBelow.{allBelow, in-all, all-in}
-use Rattle.bits.specs.Bit.{bit, bit-first, bit-none, bit-above}
-use Rattle.bits.specs.Pack.{pack, pack-below, pack-same, bit-pack}
-use Rattle.bits.specs.Tab.{tab, length-tab, getD-tab}
+use Rattle.bits.specs.Bit.{bit, bit-above}
+use Rattle.bits.specs.Pack.{pack, pack-below, pack-same}
 use Rattle.algebra.specs.Expression.{Expression, Legal}
-use Rattle.algebra.specs.Cell.{plain, out, ok}
+use Rattle.algebra.specs.Cell.{plain, ok}
 use Rattle.algebra.specs.CellLaws.{cell-depends}
-use Rattle.bits.specs.Booleans.{same-test}
+use Rattle.bits.specs.Booleans.{same-test, and-left, and-right}
 use Rattle.formula.specs.Stored.{allowedBit}
 use Rattle.type_record.specs.Record.{TypeRecord}
 use Rattle.membership.specs.Entries.{subsetOf}
@@ -72,12 +71,6 @@ schema-table m ts few size all fits =
 
 -- ---- of instantiations
 
-left : (a b : Bool) → a && b ≡ true → a ≡ true
-left a b h = and-eq-true-iff a b .0 h .0
-
-right : (a b : Bool) → a && b ≡ true → b ≡ true
-right a b h = and-eq-true-iff a b .0 h .1
-
 module _ (m : ℕ) (few : m ≤ 8) (e : Expression) (subsets es : List ℕ) (none : getD subsets 0 0 ≡ 0) (fit : entriesFit m e es ≡ true) (special : specialsFit m e subsets ≡ true) where
   pub subsets-below : (i : ℕ) → i < 16 → getD subsets i 0 < 2 ^ m
   unfolding specialsFit allowedBit
@@ -85,7 +78,7 @@ module _ (m : ℕ) (few : m ≤ 8) (e : Expression) (subsets es : List ℕ) (non
   subsets-below (suc i) h =
       let passes = all-in 15 (λ i. ltb (getD subsets (i + 1) 0) (2 ^ m) && ok plain e (i + 1) (bit (getD subsets (i + 1) 0))) special i (omega arith) in
       let same : i + 1 ≡ suc i = omega arith in
-      let less = ltb-true (getD subsets (i + 1) 0) (2 ^ m) (left (ltb (getD subsets (i + 1) 0) (2 ^ m)) (ok plain e (i + 1) (bit (getD subsets (i + 1) 0))) passes) in
+      let less = ltb-true (getD subsets (i + 1) 0) (2 ^ m) (and-left (ltb (getD subsets (i + 1) 0) (2 ^ m)) (ok plain e (i + 1) (bit (getD subsets (i + 1) 0))) passes) in
       rw same at less
 
   pub held-entries : Held m es
@@ -94,8 +87,8 @@ module _ (m : ℕ) (few : m ≤ 8) (e : Expression) (subsets es : List ℕ) (non
       at-held m es
       (λ i h. let s = subsetOf (getD es i 0) in
       let passes = all-in (length es) (λ i. ltb 0 (subsetOf (getD es i 0)) && (ltb (subsetOf (getD es i 0)) (2 ^ m) && ok plain e 0 (bit (subsetOf (getD es i 0))))) fit i h in (
-        ltb-true 0 (subsetOf (getD es i 0)) (left (ltb 0 (subsetOf (getD es i 0))) (ltb (subsetOf (getD es i 0)) (2 ^ m) && ok plain e 0 (bit (subsetOf (getD es i 0)))) passes),
-        ltb-true (subsetOf (getD es i 0)) (2 ^ m) (left (ltb (subsetOf (getD es i 0)) (2 ^ m)) (ok plain e 0 (bit (subsetOf (getD es i 0)))) (right (ltb 0 (subsetOf (getD es i 0))) (ltb (subsetOf (getD es i 0)) (2 ^ m) && ok plain e 0 (bit (subsetOf (getD es i 0)))) passes)),
+        ltb-true 0 (subsetOf (getD es i 0)) (and-left (ltb 0 (subsetOf (getD es i 0))) (ltb (subsetOf (getD es i 0)) (2 ^ m) && ok plain e 0 (bit (subsetOf (getD es i 0)))) passes),
+        ltb-true (subsetOf (getD es i 0)) (2 ^ m) (and-left (ltb (subsetOf (getD es i 0)) (2 ^ m)) (ok plain e 0 (bit (subsetOf (getD es i 0)))) (and-right (ltb 0 (subsetOf (getD es i 0))) (ltb (subsetOf (getD es i 0)) (2 ^ m) && ok plain e 0 (bit (subsetOf (getD es i 0)))) passes)),
       ))
 
   map-empty : (r : ℕ) → m ≤ r → mapOf subsets r ≡ 0
@@ -143,7 +136,7 @@ module _ (m : ℕ) (few : m ≤ 8) (e : Expression) (legal : Legal m e) (maps es
   fit-typed : fits m e maps es ≡ true → typedIn e maps es ≡ true
   fit-typed fit =
       let back = maps-back maps (table .size) (table .small) in
-      rw back at (fits-typed m few e legal (subsetsFrom maps) es (subset-zero maps (table .even)) (left (entriesFit m e es) (specialsFit m e (subsetsFrom maps)) fit) (right (entriesFit m e es) (specialsFit m e (subsetsFrom maps)) fit))
+      rw back at (fits-typed m few e legal (subsetsFrom maps) es (subset-zero maps (table .even)) (and-left (entriesFit m e es) (specialsFit m e (subsetsFrom maps)) fit) (and-right (entriesFit m e es) (specialsFit m e (subsetsFrom maps)) fit))
 
   pub fits-same : fits m e maps es ≡ typedIn e maps es
   fits-same = same-test (fits m e maps es) (typedIn e maps es) (fit-typed, typed-fit)

@@ -1,7 +1,7 @@
 -- The bits of a number.
 use Prim.Native.Nat.{ℕ, zero, suc, _*_, _/_, _%_, _^_, _-_, _<_}
 use mathlib.Core.Path.{_≡_, refl, sym, ap, _∙_}
-use mathlib.Core.Bool.{Bool, true, false, not, _||_, _&&_, and-true}
+use mathlib.Core.Bool.{Bool, true, false, not, _||_, _&&_, and-true, true≢false}
 use native.Mathlib.Nat.{div-one, div-div-eq-div-mul, div-eq-of-lt, mul-comm, one-mul, pow-suc, mod-lt, mod-eq-of-lt, le-of-suc-le-suc, mul-div-cancel, mul-mod-left, zero-div}
 use native.Mathlib.Omega.{arith}
 use borrow.Author.Tests.{eq-eqb}
@@ -65,6 +65,10 @@ digit : (P : ℕ → Type 0) → P 0 → P 1 → (x : ℕ) → x < 2 → P x
 digit P z o zero h = z
 digit P z o (suc zero) h = o
 digit P z o (suc (suc x)) h = absurd (omega arith)
+
+-- a digit that is not 1 is 0
+pub digit-clear : (d : ℕ) → d < 2 → eqb d 1 ≡ false → d ≡ 0
+digit-clear = digit (λ (d : ℕ). eqb d 1 ≡ false → d ≡ 0) (λ e. refl) (λ e. absurd (true≢false e))
 
 -- an operation on numbers that goes digit by digit, with its table: its bit j is the table's value at the two bits j
 bit-table : (op : ℕ → ℕ → ℕ) (table : Bool → Bool → Bool) → ((x y j : ℕ) → op x y / 2 ^ j ≡ op (x / 2 ^ j) (y / 2 ^ j)) → ((x y j : ℕ) → op x y % 2 ^ j ≡ op (x % 2 ^ j) (y % 2 ^ j)) → eqb (op 0 0) 1 ≡ table false false → eqb (op 0 1) 1 ≡ table false true → eqb (op 1 0) 1 ≡ table true false → eqb (op 1 1) 1 ≡ table true true → (x y j : ℕ) → bit (op x y) j ≡ table (bit x j) (bit y j)

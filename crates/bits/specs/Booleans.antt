@@ -1,7 +1,7 @@
 -- What a test says.
-use mathlib.Core.Path.{_≡_, refl, sym}
+use mathlib.Core.Path.{_≡_, refl, sym, _∙_}
 use mathlib.Core.Logic.{_↔_}
-use mathlib.Core.Bool.{Bool, true, false, false≢true}
+use mathlib.Core.Bool.{Bool, true, false, _&&_, _||_, true≢false, false≢true, and-eq-true-iff}
 
 pub is-false : (b : Bool) → (b ≡ true → ⊥) → b ≡ false
 is-false true h = absurd (h refl)
@@ -11,3 +11,16 @@ is-false false h = refl
 pub same-test : (p q : Bool) → (p ≡ true) ↔ (q ≡ true) → p ≡ q
 same-test true q h = sym (h .0 refl)
 same-test false q h = sym (is-false q (λ e. false≢true (h .1 e)))
+
+pub clash : {b : Bool} → b ≡ true → b ≡ false → ⊥
+clash t f = true≢false (sym t ∙ f)
+
+pub or-neither : (a b : Bool) → a || b ≡ false → (a ≡ false) × (b ≡ false)
+or-neither true b e = absurd (true≢false e)
+or-neither false b e = (refl, e)
+
+pub and-left : (a b : Bool) → a && b ≡ true → a ≡ true
+and-left a b h = and-eq-true-iff a b .0 h .0
+
+pub and-right : (a b : Bool) → a && b ≡ true → b ≡ true
+and-right a b h = and-eq-true-iff a b .0 h .1

@@ -1,8 +1,8 @@
 -- Rising lists of numbers, and their members.
 use Prim.Native.Nat.{ℕ, suc, _≤_, _<_}
 use mathlib.Core.Path.{_≡_, refl, sym, ap, ap₂, subst, _∙_}
-use mathlib.Core.Bool.{Bool, true, false, _||_}
-use mathlib.Core.List.{List, [], _∷_}
+use mathlib.Core.Bool.{Bool, true, false, _||_, or-assoc}
+use mathlib.Core.List.{List, [], _∷_, _++_}
 use native.Mathlib.Decide.{decLe}
 use native.Mathlib.Omega.{arith}
 use borrow.Author.Tests.{eq-eqb, ne-eqb}
@@ -12,6 +12,10 @@ use lib.ListN.{getD}
 abbrev pub member : ℕ → List ℕ → Bool
 member a [] = false
 member a (x ∷ xs) = eqb a x || member a xs
+
+pub member-append : (a : ℕ) (xs ys : List ℕ) → member a (xs ++ ys) ≡ member a xs || member a ys
+member-append a [] ys = refl
+member-append a (x ∷ xs) ys = ap (λ (b : Bool). eqb a x || b) (member-append a xs ys) ∙ sym (or-assoc (eqb a x) (member a xs) (member a ys))
 
 -- each number is above the one before it, the first above p
 abbrev pub Rising : ℕ → List ℕ → Type 0

@@ -1,11 +1,12 @@
 -- The reading of a file's nodes, resumed at node k and byte `at`: what it answers after one more node, at a refusal and at the end.
 use Prim.Native.Nat.{ℕ, suc, _+_, _-_, _≤_, _<_}
-use mathlib.Core.Path.{_≡_, refl, ap, _∙_}
+use mathlib.Core.Path.{_≡_, ap, _∙_}
 use mathlib.Core.List.{List}
 use native.Mathlib.Nat.{sub-zero}
 use native.Mathlib.Omega.{arith}
 use lib.ListN.{length, take, drop, length-drop, drop-of-length-le}
 use lib.Seq.{drop-drop, drop-cons}
+use Rattle.expression.specs.Enough.{answer-precede}
 use Rattle.bits.specs.Part.{part-from}
 use Rattle.refusal.specs.declared.Refusal.{Refusal}
 use Rattle.refusal.specs.declared.Refusal.the-variants.{NodesFollowed}
@@ -16,7 +17,7 @@ use Rattle.expression.specs.declared.files.Acceptance.{Acceptance}
 use Rattle.expression.specs.declared.files.Acceptance.the-variants.{Accepted, Refused}
 use Rattle.expression.specs.ReadNode.{readNode}
 use Rattle.expression.specs.Legal.{node-legal}
-use Rattle.expression.specs.ReadFile.{Entry, Nodes, nodesRead, nodesRefused, precede, follow, atEnd, readNodes, collect, answer}
+use Rattle.expression.specs.ReadFile.{Nodes, follow, atEnd, readNodes, collect, answer}
 
 abbrev pub resumed : List ℕ → ℕ → ℕ → ℕ → ℕ → Acceptance
 resumed file m n k at = answer (collect m n (readNodes m (n - k) k (drop at file)))
@@ -27,10 +28,6 @@ outcome file m n = answer (collect m n (readNodes m n 0 (drop 2 file)))
 
 pub resumed-start : (file : List ℕ) (m n : ℕ) → resumed file m n 0 2 ≡ outcome file m n
 resumed-start file m n = ap (λ (count : ℕ). answer (collect m n (readNodes m count 0 (drop 2 file)))) (sub-zero n)
-
-preceded : (m n : ℕ) (e : Entry) (ns : Nodes) → answer (collect m n (precede e ns)) ≡ answer (collect m n ns)
-preceded m n e (nodesRefused r) = refl
-preceded m n e (nodesRead es) = refl
 
 module _ (file : List ℕ) (m n k at : ℕ) where
   one-more : (r : Reading) → k < n → readNode m k (take (length file - at) (drop at file)) ≡ r → readNodes m (n - k) k (drop at file) ≡ follow r (drop at file) (λ rest. readNodes m (n - (k + 1)) (k + 1) rest)
@@ -43,7 +40,7 @@ module _ (file : List ℕ) (m n k at : ℕ) where
   pub resumed-next : (node : Node) (size : ℕ) → k < n → readNode m k (take (length file - at) (drop at file)) ≡ Read node size → resumed file m n k at ≡ resumed file m n (k + 1) (at + size)
   resumed-next node size h e =
       ap (λ (ns : Nodes). answer (collect m n ns)) (one-more (Read node size) h e)
-      ∙ preceded m n (record { node = node; bytes = take size (drop at file) }) (readNodes m (n - (k + 1)) (k + 1) (drop size (drop at file)))
+      ∙ answer-precede m n (record { node = node; bytes = take size (drop at file) }) (readNodes m (n - (k + 1)) (k + 1) (drop size (drop at file)))
       ∙ ap (λ (bytes : List ℕ). answer (collect m n (readNodes m (n - (k + 1)) (k + 1) bytes))) (drop-drop size at file)
 
   pub resumed-refused : (r : Refusal) → k < n → readNode m k (take (length file - at) (drop at file)) ≡ NodeRefused r → resumed file m n k at ≡ Refused r

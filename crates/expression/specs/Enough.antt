@@ -59,7 +59,7 @@ node-enough m k (x ∷ y ∷ z ∷ u ∷ []) b h = absurd (omega arith)
 -- ---- so many nodes: more than five bytes each are enough
 
 -- the answer does not depend on the entries
-answer-precede : (m n : ℕ) (e : Entry) (ns : Nodes) → answer (collect m n (precede e ns)) ≡ answer (collect m n ns)
+pub answer-precede : (m n : ℕ) (e : Entry) (ns : Nodes) → answer (collect m n (precede e ns)) ≡ answer (collect m n ns)
 answer-precede m n e (nodesRefused r) = refl
 answer-precede m n e (nodesRead es) = refl
 

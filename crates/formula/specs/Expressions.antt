@@ -1,13 +1,14 @@
 -- The expression of a node: "Each node is an expression." (document 01)
 use Prim.Native.Nat.{ℕ, zero, suc, _<_, _≤_}
 use mathlib.Core.Path.{_≡_, refl, sym, ap, ap₂, subst}
-use mathlib.Core.Bool.{Bool, true, false, _&&_}
+use mathlib.Core.Bool.{true, false, _&&_}
 use mathlib.Core.List.{List}
 use native.Mathlib.Nat.{eq-or-lt-of-le, le-of-suc-le-suc, le-refl}
 use mathlib.Core.Logic.{_⊎_, inl, inr}
 use native.Mathlib.Omega.{arith}
 use borrow.Author.Tests.{eq-eqb, ne-eqb}
 use lib.Dec.{eqb}
+use Rattle.bits.specs.Booleans.{and-left}
 use Rattle.attribute_set.specs.AttrSet.{special, hasAttribute}
 use Rattle.attribute_set.specs.declared.AttrSet.{AttrSet}
 use Rattle.types.specs.Types.{Attrs}
@@ -78,14 +79,10 @@ pub expression-is : (file : List ℕ) (m k : ℕ) → LegalNode m k (nodeAt file
 unfolding expressionAt
 expression-is file m k legal = of-node-same m k (nodeAt file k) (earlier (nodeAt file) k) (expressionAt file) legal (earlier-is file k)
 
-special-left : (a b : Bool) → a && b ≡ true → a ≡ true
-special-left true b e = refl
-special-left false b e = e
-
 of-node-legal : (m k : ℕ) (node : Node) (operand : ℕ → Expression) → LegalNode m k node → ((l : ℕ) → l < k → Legal m (operand l)) → Legal m (ofNode node operand)
 of-node-legal m k (Relation r) operand legal rest = legal
 of-node-legal m k (Binary op l r) operand legal rest = (rest l (legal .0), rest r (legal .1))
-of-node-legal m k (WithSet op l s) operand legal rest = (λ a h. special-left (special a) (hasAttribute s a) h, rest l (legal .0))
+of-node-legal m k (WithSet op l s) operand legal rest = (λ a h. and-left (special a) (hasAttribute s a) h, rest l (legal .0))
 of-node-legal m k (Renaming l old new) operand legal rest = (legal .1, legal .2, rest l (legal .0))
 of-node-legal m k (ProjectingOut l old) operand legal rest = (legal .1, rest l (legal .0))
 

@@ -12,7 +12,7 @@ use Rattle.bits.specs.Tab.{tab, length-tab, getD-tab, tab-is, over, over-length
 use Rattle.membership.specs.declared.merging.Entries.{Entries}
 use Rattle.membership.specs.Entries.{entry, tableOf}
 use Rattle.membership.specs.TableLaws.{table-entries, table-size, table-item}
-use Rattle.membership.specs.Appending.{Appending, appending-none, appending-more, appending-end}
+use Rattle.entry_sorting.specs.Appending.{Appending, appending-none, appending-more, appending-end}
 use Rattle.instantiation.specs.Instantiation.{appended}
 
 -- ---- the loop

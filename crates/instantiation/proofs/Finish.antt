@@ -14,8 +14,8 @@ use Rattle.refusal.specs.declared.Refusal.the-variants.{InputFollowed, TooManyA
 use Rattle.membership.specs.declared.merging.Entries.{Entries}
 use Rattle.membership.specs.Entries.{tableOf}
 use Rattle.membership.specs.Holders.{ItemsFit}
-use Rattle.membership.specs.Passes.{table-fit}
-use Rattle.membership.specs.Sorting.{byAttribute}
+use Rattle.entry_sorting.specs.Passes.{table-fit}
+use Rattle.entry_sorting.specs.Sorting.{byAttribute}
 use Rattle.membership.specs.TableLaws.{table-count, table-full, table-all}
 use Rattle.schema.specs.declared.reading.Judgement.the-variants.{Read, Refused}
 use Rattle.instantiation.specs.declared.reading.ListsReading.{ListsReading}

@@ -10,8 +10,8 @@ use lib.Seq.{ext-getD, getD-set-same, getD-set-other, length-take-le}
 use Rattle.bits.specs.Part.{at-head}
 use Rattle.bits.specs.Tab.{over, over-is}
 use Rattle.bits.specs.Written.{Written, written-more}
-use Rattle.membership.specs.Chains.{hasDigit, Chained}
-use Rattle.membership.specs.ChainLaws.{next-is, link-next}
+use Rattle.entry_sorting.specs.Chains.{hasDigit, Chained}
+use Rattle.entry_sorting.specs.ChainLaws.{next-is, link-next}
 use Rattle.instantiation.specs.Instantiation.{withSubset, wordBytes, listBytes}
 use Rattle.instantiation.specs.ListBytes.{word-low, word-high, bytes-length}
 use Rattle.instantiation.specs.ChainLaws.{subset-here, subset-next, subset-end}

@@ -9,10 +9,10 @@ use native.Mathlib.Omega.{arith}
 use lib.Bits.{bitOr}
 use lib.Dec.{eqb}
 use lib.ListN.{length, getD, length-set}
-use Rattle.bits.specs.Rising.{member}
+use Rattle.bits.specs.Rising.{member, member-append}
 use Rattle.bits.specs.Tab.{tab}
 use Rattle.instantiation.specs.Seen.{repeatedIn, seenIn, Marked}
-use Rattle.instantiation.specs.SeenLaws.{member-append, repeated-same, withMark, mark-one}
+use Rattle.instantiation.specs.SeenLaws.{repeated-same, withMark, mark-one}
 
 -- what is marked, and what the whole list gives: a repeat so far, or one to come
 pub record Marking (n : ℕ) (f : ℕ → ℕ) (before now : List ℕ) (repeated : Bool) (i : ℕ) : Type 0 where

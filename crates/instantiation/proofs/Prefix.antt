@@ -10,7 +10,7 @@ use lib.ListN.{length, take, length-append}
 use lib.Seq.{length-take-le}
 use Rattle.bits.specs.Part.{over-more}
 use Rattle.bits.specs.Tab.{tab, tab-more, over, over-length}
-use Rattle.membership.specs.Chains.{Chained}
+use Rattle.entry_sorting.specs.Chains.{Chained}
 use Rattle.instantiation.specs.Instantiation.{withSubset, listsOf, listBytes, listsBytes}
 use Rattle.instantiation.specs.SubsetLaws.{lists-few}
 

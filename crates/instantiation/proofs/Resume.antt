@@ -7,7 +7,7 @@ use native.Mathlib.Omega.{arith}
 use lib.ListN.{length, take, drop, replicate, length-replicate, length-append, length-drop}
 use lib.Seq.{drop-drop, getD-drop}
 use Rattle.bits.specs.Part.{part-from}
-use Rattle.bits.specs.Rising.{member}
+use Rattle.bits.specs.Rising.{member, member-append}
 use Rattle.bits.specs.Tab.{tab, over}
 use Rattle.bits.specs.Word.{word, Bytes}
 use Rattle.refusal.specs.declared.Refusal.{Refusal}
@@ -21,7 +21,7 @@ use Rattle.membership.specs.TableLaws.{table-few, table-size, table-over}
 use Rattle.instantiation.specs.Instantiation.{standing, follow, precede, readLists, listedFrom, appended, allListed, refusedLists, gathered}
 use Rattle.instantiation.specs.ReadStep.{read-clear, read-stands}
 use Rattle.instantiation.specs.Seen.{nothingSeen, repeatedIn, seenIn, Marked}
-use Rattle.instantiation.specs.SeenLaws.{member-append, repeated-same, repeated-append, marks-none}
+use Rattle.instantiation.specs.SeenLaws.{repeated-same, repeated-append, marks-none}
 use Rattle.instantiation.proofs.Append.{appended-table}
 use Rattle.instantiation.proofs.More.{precedeAll, precede-more, precede-refused, entries-more, listed-more}
 

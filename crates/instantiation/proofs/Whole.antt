@@ -8,7 +8,7 @@ use lib.ListN.{length, getD, take, length-append}
 use lib.Seq.{length-take-le}
 use Rattle.bits.specs.Part.{over-more}
 use Rattle.bits.specs.Tab.{tab, length-tab, over}
-use Rattle.membership.specs.Chains.{Chained}
+use Rattle.entry_sorting.specs.Chains.{Chained}
 use Rattle.instantiation.specs.Instantiation.{listsOf, mapByte, mapFrom, listsBytes, instantiationBytes, WritesFrom}
 use Rattle.instantiation.specs.ChainLaws.{map-is}
 use Rattle.instantiation.specs.EntriesLaws.{lists-most}

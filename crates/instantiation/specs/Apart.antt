@@ -1,13 +1,15 @@
 -- Lists that share no attribute: "No attribute is in two lists" (document 01) says this of rising lists, and lists by subset are so.
 use Prim.Native.Nat.{ℕ, zero, suc, _+_, _<_}
 use mathlib.Core.Path.{_≡_, refl, sym, ap, ap₂, _∙_}
-use mathlib.Core.Bool.{Bool, true, false, _||_, or-false, or-true, or-assoc}
+use mathlib.Core.Bool.{Bool, true, false, _||_, or-true}
 use mathlib.Core.List.{List, [], _∷_, _++_}
 use native.Mathlib.Omega.{arith}
 use borrow.Author.Tests.{eqb-true, eq-eqb}
 use lib.Dec.{eqb}
 use lib.ListN.{getD}
-use Rattle.bits.specs.Rising.{member, Rising, rising-above}
+use Rattle.instantiation.specs.SeenLaws.{repeated-append}
+use Rattle.bits.specs.Booleans.{is-false, clash, or-neither}
+use Rattle.bits.specs.Rising.{member, Rising, rising-above, member-append}
 use Rattle.bits.specs.Tab.{tab}
 use Rattle.instantiation.specs.Seen.{repeatedIn}
 use Rattle.instantiation.specs.Instantiation.{allListed}
@@ -16,24 +18,6 @@ use Rattle.instantiation.specs.Instantiation.{allListed}
 abbrev pub Apart : List (List ℕ) → Type 0
 Apart [] = Unit {0}
 Apart (l ∷ ls) = ((a : ℕ) → member a l ≡ true → member a (allListed ls) ≡ false) × Apart ls
-
--- ---- tests
-
-pub or-neither : (a b : Bool) → a || b ≡ false → (a ≡ false) × (b ≡ false)
-or-neither true b e = absurd (let z : _≡_ {A = ℕ} 0 1 = cc in omega arith)
-or-neither false b e = (refl, e)
-
--- what cannot hold does not
-pub not-holds : (b : Bool) → (b ≡ true → ⊥) → b ≡ false
-not-holds true h = absurd (h refl)
-not-holds false h = refl
-
-pub clash : {b : Bool} → b ≡ true → b ≡ false → ⊥
-clash t f = let z : _≡_ {A = ℕ} 0 1 = cc in omega arith
-
-member-append : (a : ℕ) (xs ys : List ℕ) → member a (xs ++ ys) ≡ member a xs || member a ys
-member-append a [] ys = refl
-member-append a (x ∷ xs) ys = ap (λ (b : Bool). eqb a x || b) (member-append a xs ys) ∙ sym (or-assoc (eqb a x) (member a xs) (member a ys))
 
 -- what no list has
 pub listed-neither : (a : ℕ) (l : List ℕ) (ls : List (List ℕ)) → member a (l ++ allListed ls) ≡ false → (member a l ≡ false) × (member a (allListed ls) ≡ false)
@@ -56,26 +40,12 @@ listed-later a l ls h = member-append a l (allListed ls) ∙ ap (λ (b : Bool). 
 
 -- ---- repeats
 
-repeated-same : (f g : ℕ → Bool) (xs : List ℕ) → ((a : ℕ) → f a ≡ g a) → repeatedIn f xs ≡ repeatedIn g xs
-repeated-same f g [] e = refl
-repeated-same f g (x ∷ xs) e =
-    ap₂ _||_ (e x) (repeated-same (λ a. f a || eqb a x) (λ a. g a || eqb a x) xs (λ a. ap (λ (b : Bool). b || eqb a x) (e a)))
-
-repeated-append : (seen : ℕ → Bool) (xs ys : List ℕ) → repeatedIn seen (xs ++ ys) ≡ repeatedIn seen xs || repeatedIn (λ a. seen a || member a xs) ys
-repeated-append seen [] ys = repeated-same seen (λ a. seen a || false) ys (λ a. sym (or-false (seen a)))
-repeated-append seen (x ∷ xs) ys =
-    ap (λ (b : Bool). seen x || b)
-    (repeated-append (λ a. seen a || eqb a x) xs ys
-    ∙ ap (λ (b : Bool). repeatedIn (λ a. seen a || eqb a x) xs || b)
-    (repeated-same (λ a. (seen a || eqb a x) || member a xs) (λ a. seen a || (eqb a x || member a xs)) ys (λ a. or-assoc (seen a) (eqb a x) (member a xs))))
-    ∙ sym (or-assoc (seen x) (repeatedIn (λ a. seen a || eqb a x) xs) (repeatedIn (λ a. seen a || (eqb a x || member a xs)) ys))
-
 -- without repeats no attribute that was seen comes again
 pub seen-once : (seen : ℕ → Bool) (xs : List ℕ) → repeatedIn seen xs ≡ false → (a : ℕ) → seen a ≡ true → member a xs ≡ false
 seen-once seen [] e a h = refl
 seen-once seen (x ∷ xs) e a h =
     let both = or-neither (seen x) (repeatedIn (λ a. seen a || eqb a x) xs) e in
-    ap₂ _||_ (not-holds (eqb a x) (λ same. clash h (ap seen (eqb-true a x same) ∙ both .0)))
+    ap₂ _||_ (is-false (eqb a x) (λ same. clash h (ap seen (eqb-true a x same) ∙ both .0)))
     (seen-once (λ a. seen a || eqb a x) xs (both .1) a (ap (λ (b : Bool). b || eqb a x) h))
 
 -- without repeats the lists share no attribute
@@ -92,7 +62,7 @@ rising-not-repeated seen p (x ∷ xs) r new =
     ap₂ _||_ (new x (ap (λ (b : Bool). b || member x xs) (eq-eqb x x refl)))
     (rising-not-repeated (λ a. seen a || eqb a x) x xs (r .1)
     (λ a h. ap₂ _||_ (new a (ap (λ (b : Bool). eqb a x || b) h ∙ or-true (eqb a x)))
-    (not-holds (eqb a x) (λ same. clash h (let is = eqb-true a x same in rising-above x xs a (r .1) (omega arith))))))
+    (is-false (eqb a x) (λ same. clash h (let is = eqb-true a x same in rising-above x xs a (r .1) (omega arith))))))
 
 -- rising lists that share no attribute repeat none
 pub apart-once : (seen : ℕ → Bool) (ls : List (List ℕ)) → ((s : ℕ) → Rising 15 (getD ls s [])) → Apart ls → ((a : ℕ) → member a (allListed ls) ≡ true → seen a ≡ false) → repeatedIn seen (allListed ls) ≡ false
@@ -102,7 +72,7 @@ apart-once seen (l ∷ ls) rising apart new =
     ∙ ap₂ _||_ (rising-not-repeated seen 15 l (rising 0) (λ a h. new a (listed-first a l ls h)))
     (apart-once (λ a. seen a || member a l) ls (λ s. rising (suc s)) (apart .1)
     (λ a h. ap₂ _||_ (new a (listed-later a l ls h))
-    (not-holds (member a l) (λ first. clash h (apart .0 a first)))))
+    (is-false (member a l) (λ first. clash h (apart .0 a first)))))
 
 -- ---- lists by number, where h says in which one an attribute is
 
@@ -111,7 +81,7 @@ module _ (h : ℕ → ℕ) where
   unfolding tab
   earlier-none zero k f only a below = refl
   earlier-none (suc n) k f only a below =
-      listed-not a (f 0) (tab n (λ i. f (suc i))) (not-holds (member a (f 0)) (λ has. let is = only a 0 has in omega arith))
+      listed-not a (f 0) (tab n (λ i. f (suc i))) (is-false (member a (f 0)) (λ has. let is = only a 0 has in omega arith))
       (earlier-none n (suc k) (λ i. f (suc i)) (λ a s has. let is = only a (suc s) has in omega arith) a (omega arith))
 
   pub tab-apart : (n k : ℕ) (f : ℕ → List ℕ) → ((a s : ℕ) → member a (f s) ≡ true → h a ≡ k + s) → Apart (tab n f)

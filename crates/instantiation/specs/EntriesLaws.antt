@@ -8,19 +8,19 @@ use native.Mathlib.Omega.{arith}
 use borrow.Author.Tests.{eqb-true, eq-eqb}
 use lib.Dec.{eqb, lit<}
 use lib.ListN.{length, getD, List·getD-eq-default}
+use Rattle.membership.specs.HolderLaws.{holders-small}
 use Rattle.bits.specs.Rising.{member, Rising, rising-once}
 use Rattle.bits.specs.Tab.{length-tab, getD-tab, tab-is}
 use Rattle.membership.specs.Entries.{holdersIn, enter}
 use Rattle.membership.specs.EnterLaws.{RisingEntries, enter-rising}
 use Rattle.membership.specs.EntriesOnce.{Positive, enter-positive, entries-once}
-use Rattle.membership.specs.TableLaws.{Below, enter-below}
-use Rattle.schema.specs.EntriesLaws.{all-below}
+use Rattle.membership.specs.TableLaws.{Below, enter-below, all-below}
 use Rattle.instantiation.specs.Instantiation.{entriesFrom, entriesIn, allListed, withSubset, listsOf, listsBytes}
 use Rattle.instantiation.specs.Seen.{nothingSeen, repeatedIn}
 use Rattle.instantiation.specs.ReadLaws.{IsLists}
 use Rattle.instantiation.specs.Apart.{Apart, once-apart, apart-once, tab-apart}
 use Rattle.instantiation.specs.SubsetLaws.{subset-member, member-holders, subset-rising, subset-none, subset-few, subset-below, lists-few}
-use Rattle.instantiation.specs.Owners.{holders-small, lists-holders}
+use Rattle.instantiation.specs.Owners.{lists-holders}
 
 -- ---- order and bounds
 

@@ -6,15 +6,17 @@ use mathlib.Core.List.{List, [], _∷_}
 use native.Mathlib.Nat.{add-zero, zero-add}
 use native.Mathlib.Omega.{arith}
 use borrow.Author.Tests.{eq-eqb, ne-eqb}
-use lib.Dec.{eqb, lit<}
+use lib.Dec.{eqb}
 use lib.ListN.{length, getD}
+use Rattle.bits.specs.Booleans.{is-false, clash}
+use Rattle.membership.specs.HolderLaws.{holders-small}
 use Rattle.bits.specs.Bit.{bit, bit-none}
 use Rattle.bits.specs.Pack.{bits-once}
 use Rattle.bits.specs.Rising.{member, Rising}
-use Rattle.membership.specs.Entries.{attributeOf, subsetOf, holdersIn, enter}
+use Rattle.membership.specs.Entries.{holdersIn, enter}
 use Rattle.membership.specs.EnterLaws.{RisingEntries, enter-rising, enter-holders}
 use Rattle.instantiation.specs.Instantiation.{entriesFrom, entriesIn, allListed}
-use Rattle.instantiation.specs.Apart.{Apart, not-holds, clash, listed-neither, listed-none, listed-first, listed-later}
+use Rattle.instantiation.specs.Apart.{Apart, listed-neither, listed-none, listed-first, listed-later}
 
 -- the first of the subsets from s on whose list has a; d if none has
 abbrev owner : ℕ → List (List ℕ) → ℕ → ℕ → ℕ
@@ -22,14 +24,6 @@ owner s [] a d = d
 owner s (l ∷ ls) a d = cond (member a l) s (owner (s + 1) ls a d)
 
 -- ---- one list
-
-pub holders-small : (es : List ℕ) (a : ℕ) → holdersIn es a < 256
-holders-small [] a = lit< tt
-holders-small (e ∷ es) a = go (eqb a (attributeOf e)) (holders-small es a)
-  where
-    go : (t : Bool) → holdersIn es a < 256 → cond t (subsetOf e) (holdersIn es a) < 256
-    go true rest = omega arith
-    go false rest = rest
 
 module _ (s : ℕ) (more es : List ℕ) (small : s < 256) (r : Rising 15 more) (k : RisingEntries 15 es) (a : ℕ) where
   -- an attribute of the list that nobody held before
@@ -56,7 +50,7 @@ holders-from : (s : ℕ) (ls : List (List ℕ)) (es : List ℕ) → s + length l
 holders-from s [] es fits rising k apart new a = refl
 holders-from s (l ∷ ls) es fits rising k apart new a =
     holders-from (s + 1) ls (enter s l es) (omega arith) (λ i. rising (suc i)) (enter-rising s 15 l es small (rising 0) k) (apart .1)
-    (λ b h. kept-holders s l es small (rising 0) k b (not-holds (member b l) (λ has. clash h (apart .0 b has))) ∙ new b (listed-later b l ls h))
+    (λ b h. kept-holders s l es small (rising 0) k b (is-false (member b l) (λ has. clash h (apart .0 b has))) ∙ new b (listed-later b l ls h))
     a
     ∙ go (member a l) refl
   where

@@ -4,23 +4,15 @@ use mathlib.Core.Path.{_≡_, refl, sym, ap, ap₂, _∙_}
 use mathlib.Core.Bool.{Bool, false, _||_, or-assoc, or-false}
 use mathlib.Core.List.{List, [], _∷_, _++_}
 use native.Mathlib.Decide.{decLt, ℕ-discrete}
-use native.Mathlib.Nat.{mod-eq-of-lt}
 use native.Mathlib.Omega.{arith}
 use borrow.Author.Tests.{eq-eqb, ne-eqb}
 use lib.Bits.{bitOr}
 use lib.Dec.{eqb}
 use lib.ListN.{length, getD, set, replicate, length-replicate, getD-replicate, List·getD-eq-default}
-use lib.Pow.{pow-lt}
 use lib.Seq.{getD-set-same, getD-set-other}
-use Rattle.bits.specs.Bit.{bit, bit-or, bit-power, bit-none}
+use Rattle.bits.specs.Bit.{bit, bit-or, bit-power, bit-none, shifted-one}
 use Rattle.bits.specs.Rising.{member}
 use Rattle.instantiation.specs.Seen.{repeatedIn, seenIn}
-
--- ---- members
-
-pub member-append : (a : ℕ) (xs ys : List ℕ) → member a (xs ++ ys) ≡ member a xs || member a ys
-member-append a [] ys = refl
-member-append a (x ∷ xs) ys = ap (λ (b : Bool). eqb a x || b) (member-append a xs ys) ∙ sym (or-assoc (eqb a x) (member a xs) (member a ys))
 
 -- ---- repeats
 
@@ -50,10 +42,6 @@ marks-none n a = ap (λ (x : ℕ). bit x (a % 8)) (go (decLt (a / 8) n)) ∙ bit
     go (yes h) = getD-replicate n (a / 8) 0 0 h
     go (no h) = let size = length-replicate {A = ℕ} n 0 in List·getD-eq-default (replicate n 0) 0 {n = a / 8} (omega arith)
 
--- 1 << j
-single : (j : ℕ) → j < 8 → 1 * 2 ^ j % 256 ≡ 2 ^ j
-single j h = let below : 2 ^ j < 256 = pow-lt {i = j} {j = 8} h in omega (arith, mod-eq-of-lt {m = 256} below)
-
 -- the marks with that of attribute x
 abbrev pub withMark : List ℕ → ℕ → List ℕ
 withMark marks x = set marks (x / 8) (bitOr (getD marks (x / 8) 0) (1 * 2 ^ (x % 8) % 256))
@@ -67,7 +55,7 @@ mark-one marks x inside a = go (ℕ-discrete (a / 8) (x / 8))
 
     go : Dec (a / 8 ≡ x / 8) → seenIn (withMark marks x) a ≡ seenIn marks a || eqb a x
     go (yes e) =
-        rw (e, getD-set-same marks (x / 8) (bitOr (getD marks (x / 8) 0) (1 * 2 ^ (x % 8) % 256)) 0 inside, single (x % 8) (omega arith), bit-or, bit-power)
+        rw (e, getD-set-same marks (x / 8) (bitOr (getD marks (x / 8) 0) (1 * 2 ^ (x % 8) % 256)) 0 inside, shifted-one 8 (x % 8) (omega arith), bit-or, bit-power)
         (ap (λ (b : Bool). bit (getD marks (x / 8) 0) (a % 8) || b) (digit e (ℕ-discrete (a % 8) (x % 8))))
     go (no e) =
         rw (getD-set-other marks (x / 8) (a / 8) (bitOr (getD marks (x / 8) 0) (1 * 2 ^ (x % 8) % 256)) 0 e, ne-eqb a x (λ g. e (ap (λ (n : ℕ). n / 8) g)))

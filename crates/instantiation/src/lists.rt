@@ -5,7 +5,7 @@ ghost use Prim.Native.Nat.{_+_, _*_, _≤_, _<_};
 ghost use lib.Dec.{ltb};
 ghost use lib.ListN.{length, take};
 ghost use Rattle.bits.specs.Tab.{tab, over};
-ghost use Rattle.membership.specs.Chains.{Chained};
+ghost use Rattle.entry_sorting.specs.Chains.{Chained};
 ghost use Rattle.instantiation.specs.Instantiation.{withSubset, listsOf, listBytes, listsBytes, mapFrom};
 
 // Writes the list of subset s to the front of the slice, nothing where it is empty, and gives its length.

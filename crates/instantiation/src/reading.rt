@@ -6,9 +6,9 @@ ghost use Rattle.instantiation.specs.Instantiation.{standing, readLists,
 use crate::appending::append;
 use crate::seen::either;
 use crate::seen::mark;
+use entry_sorting::sort_by_attribute;
 use membership::Entries;
 use membership::no_entries;
-use membership::sort_by_attribute;
 use refusal::Refusal;
 use schema::Judgement;
 use type_record::ListReading;

@@ -6,7 +6,7 @@ ghost use Prim.Native.Nat.{_+_, _≤_};
 ghost use Rattle.instantiation.specs.Instantiation.{listsOf, instantiationBytes, WritesFrom};
 use crate::lists::write_lists;
 use crate::lists::write_map;
-use membership::chain;
+use entry_sorting::chain;
 
 // Writes the subsets of the special attributes 1 to 15 to the front of the slice.
 fn write_special(out: &mut [u8], subsets: &[u8])

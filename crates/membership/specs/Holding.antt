@@ -8,7 +8,7 @@ use native.Mathlib.Numerals.{add-one}
 use native.Mathlib.Omega.{arith}
 use borrow.Author.Tests.{eq-eqb, ne-eqb}
 use lib.ListN.{length, getD, set, take, drop, replicate, length-drop, length-replicate, getD-replicate, drop-of-length-le, List·getD-eq-default}
-use lib.Seq.{drop-cons, getD-take, length-take-le}
+use Rattle.membership.specs.HolderLaws.{items-taken, items-split}
 use Rattle.bits.specs.Bit.{bit, bit-test}
 use Rattle.bits.specs.Part.{at-head}
 use Rattle.bits.specs.Tab.{tab-is}
@@ -28,18 +28,13 @@ pub holding-first : (r : ℕ) (es : List ℕ) → Holding r es (replicate 256 0)
 holding-first r es = record { judged = omega arith; fewer = omega arith; reached = omega arith; written = written-none _ (replicate 256 0); rest = refl }
 
 module _ {items list : List ℕ} {count r k i : ℕ} (fit : ItemsFit items count) (h : Holding r (take count items) list k i) (most : count ≤ 256) where
-  size : length (take count items) ≡ count
-  size = length-take-le count items (fit .enough)
-
   -- what is left, by its first entry
   split : i < count → heldBy r (drop i (take count items)) ≡ heldBy r (getD items i 0 ∷ drop (suc i) (take count items))
-  split inside =
-      let s = size in
-      ap (heldBy r) (drop-cons (take count items) i 0 (omega arith) ∙ ap (λ (e : ℕ). e ∷ drop (suc i) (take count items)) (getD-take count items i 0 inside))
+  split inside = ap (heldBy r) (items-split fit i inside)
 
   pub holding-listed : i < count → getD items i 0 / 2 ^ r % 2 ≡ 1 → Holding r (take count items) (set list k (getD items i 0 / 256)) (k + 1) (i + 1)
   holding-listed inside stands =
-      let s = size in
+      let s = items-taken fit in
       let has : bit (getD items i 0) r ≡ true = sym (bit-test (getD items i 0) r) ∙ eq-eqb (getD items i 0 / 2 ^ r % 2) 1 stands in
       let first : drop k (heldBy r (take count items)) ≡ attributeOf (getD items i 0) ∷ heldBy r (drop (suc i) (take count items)) = h .rest ∙ split inside ∙ rw has in
       let here = at-head (heldBy r (take count items)) k 0 _ _ first in
@@ -56,7 +51,7 @@ module _ {items list : List ℕ} {count r k i : ℕ} (fit : ItemsFit items count
 
   pub holding-passed : i < count → (getD items i 0 / 2 ^ r % 2 ≡ 1 → ⊥) → Holding r (take count items) list k (i + 1)
   holding-passed inside clear =
-      let s = size in
+      let s = items-taken fit in
       let none : bit (getD items i 0) r ≡ false = sym (bit-test (getD items i 0) r) ∙ ne-eqb (getD items i 0 / 2 ^ r % 2) 1 clear in
       let fewer = h .fewer in
       record {
@@ -75,7 +70,7 @@ module _ {items list : List ℕ} {count r k i : ℕ} (fit : ItemsFit items count
     where
       is-all : k ≡ length (heldBy r (take count items))
       is-all =
-          let s = size in
+          let s = items-taken fit in
           let fewer = h .reached in
           let empty : drop k (heldBy r (take count items)) ≡ [] = h .rest ∙ ap (heldBy r) (drop-of-length-le (take count items) {i = i} (omega arith)) in
           let left = length-drop k (heldBy r (take count items)) in

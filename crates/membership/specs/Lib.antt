@@ -6,11 +6,3 @@ pub mod TableLaws
 pub mod Holders
 pub mod HolderLaws
 pub mod Holding
-pub mod Chains
-pub mod ChainLaws
-pub mod Sorting
-pub mod SortingLaws
-pub mod SortedLaws
-pub mod Appending
-pub mod Grouping
-pub mod Passes

@@ -1,5 +1,5 @@
 -- Laws of tables: what stands in one, and that entering a list into the first 256 entries gives the first 256 of all.
-use Prim.Native.Nat.{ℕ, zero, suc, _^_, _≤_, _<_}
+use Prim.Native.Nat.{ℕ, zero, suc, _≤_, _<_}
 use mathlib.Core.Path.{_≡_, refl, sym, ap, ap₂, _∙_}
 use mathlib.Core.List.{List, [], _∷_}
 use native.Mathlib.Nat.{le-refl, min-le-left}
@@ -112,6 +112,10 @@ enter-below s (a ∷ more) (e ∷ es) small h k =
     go (lower l) one two three = let below = h .0 in rw (enter-lower s a more e es l) (omega arith, one)
     go (higher l) one two three = rw (enter-higher s a more e es l) (k .0, two)
     go (equal l) one two three = rw (enter-equal s a more e es l) (or-lt 24 e s (k .0) (omega arith), three)
+
+pub all-below : (b : ℕ) (xs : List ℕ) → ((i : ℕ) → getD xs i 0 < b) → Below b xs
+all-below b [] below = tt
+all-below b (x ∷ xs) below = (below 0, all-below b xs (λ i. below (suc i)))
 
 pub is-table : (es : List ℕ) → Below 16777216 es → Table (tableOf es)
 is-table es h =

@@ -8,12 +8,12 @@ use borrow.Rule.Slice.PartMut.{putMid, midOf}
 use lib.ListN.{length, getD, take, length-append}
 use lib.Seq.{length-take-le}
 use Rattle.bits.specs.Part.{over-more}
-use Rattle.bits.specs.Tab.{tab, length-tab, tab-more, over, over-length}
+use Rattle.bits.specs.Tab.{tab, tab-more, over, over-length}
 use Rattle.type_record.specs.Record.{TypeRecord, recordSize, recordBytes}
 use Rattle.type_record.specs.RecordBytes.{size-most, record-length}
 use Rattle.membership.specs.declared.holders.Held.{Held}
 use Rattle.membership.specs.Holders.{heldBy, heldList, ItemsFit}
-use Rattle.membership.specs.HolderLaws.{held-few, held-attributes}
+use Rattle.membership.specs.HolderLaws.{held-few, held-attributes, held-fits}
 use Rattle.schema.specs.Schema.{schemaBytes, recordsOf, WritesFrom}
 
 -- ---- one more
@@ -67,11 +67,7 @@ module _ {m : ℕ} {special items : List ℕ} {count : ℕ} {old out : List ℕ}
 
   module _ {held : Held} (held-is : held ≡ heldList (heldBy r (take count items))) where
     pub list-reaches : held .count ≤ length (held .list)
-    unfolding heldList
-    list-reaches =
-        let most = held-most in
-        let all = length-tab 256 (λ i. getD (heldBy r (take count items)) i 0) in
-        rw held-is (omega arith)
+    list-reaches = rw held-is (held-fits (heldBy r (take count items)) (let most = held-most in omega arith))
 
     -- the attributes that the relation holds, as the code hands them on
     listed-is : take (held .count) (held .list) ≡ heldBy r (take count items)

@@ -16,7 +16,7 @@ use Rattle.type_record.specs.Record.{TypeRecord}
 use Rattle.type_record.specs.RecordBytes.{IsRecord}
 use Rattle.membership.specs.Entries.{holdersIn, enter}
 use Rattle.membership.specs.EnterLaws.{RisingEntries, Order, lower, higher, equal, order, enter-rising, enter-holders}
-use Rattle.membership.specs.TableLaws.{Below, enter-below}
+use Rattle.membership.specs.TableLaws.{Below, enter-below, all-below}
 use Rattle.membership.specs.Holders.{heldBy}
 use Rattle.membership.specs.HolderLaws.{held-member, held-rising}
 use Rattle.schema.specs.Schema.{noRecord, entriesFrom, entriesOf, mapsOf, recordsOf}
@@ -39,10 +39,6 @@ unfolding entriesOf
 entries-rising ts fits all = rising-from 0 ts [] (omega arith) all tt
 
 -- ---- bounds
-
-pub all-below : (b : ℕ) (xs : List ℕ) → ((i : ℕ) → getD xs i 0 < b) → Below b xs
-all-below b [] below = tt
-all-below b (x ∷ xs) below = (below 0, all-below b xs (λ i. below (suc i)))
 
 below-from : (r : ℕ) (ts : List TypeRecord) (es : List ℕ) → r + length ts ≤ 8 → AllRecords ts → Below 16777216 es → Below 16777216 (entriesFrom r ts es)
 below-from r [] es fits all below = below

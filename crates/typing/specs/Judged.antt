@@ -1,7 +1,7 @@
 -- What the lanes of a node say: whether it is typed over the table, and its output.
 use Prim.Native.Nat.{ℕ, zero, suc, _+_, _-_, _*_, _/_, _%_, _≤_, _<_}
 use mathlib.Core.Path.{_≡_, refl, sym, ap, fun-ext, _∙_}
-use mathlib.Core.Bool.{Bool, true, false, cond, _&&_, and-eq-true-iff, true≢false}
+use mathlib.Core.Bool.{Bool, true, false, cond, _&&_, and-eq-true-iff}
 use mathlib.Core.List.{List}
 use native.Mathlib.Nat.{mod-lt}
 use native.Mathlib.Decide.{decLt}
@@ -11,7 +11,7 @@ use lib.Dec.{eqb, lit<}
 use lib.ListN.{length, getD, take}
 use lib.Seq.{length-take-le, getD-take}
 use Rattle.bits.specs.AllBelow.{allBelow, in-all, all-in}
-use Rattle.bits.specs.Bit.{bit, bit-first, bit-none, bit-ones}
+use Rattle.bits.specs.Bit.{bit, bit-first, bit-none, bit-ones, digit-clear}
 use Rattle.bits.specs.Pack.{pack, pack-same, bit-pack}
 use Rattle.bits.specs.PackFrom.{bit-digit}
 use Rattle.bits.specs.Tab.{tab, length-tab, getD-tab, tab-is}
@@ -77,18 +77,13 @@ module _ (m : ℕ) (e : Expression) (legal : Legal m e) where
   -- bit 0 of the output's map is clear
   pub map-even : (special : List ℕ) → ((r : ℕ) → getD special r 0 % 2 ≡ 0) → outputMap e special % 2 ≡ 0
   unfolding outputMap
-  map-even special even = clear (pack 16 (λ i. out plain e i (specialHolders special i)) % 2) (mod-lt (pack 16 (λ i. out plain e i (specialHolders special i))) (lit< tt)) (sym (bit-first (pack 16 (λ i. out plain e i (specialHolders special i)))) ∙ lacks)
+  map-even special even = digit-clear (pack 16 (λ i. out plain e i (specialHolders special i)) % 2) (mod-lt (pack 16 (λ i. out plain e i (specialHolders special i))) (lit< tt)) (sym (bit-first (pack 16 (λ i. out plain e i (specialHolders special i)))) ∙ lacks)
     where
       none : specialHolders special 0 ≡ (λ r. false)
       none = fun-ext (λ r. bit-first (getD special r 0) ∙ rw (even r))
 
       lacks : bit (pack 16 (λ i. out plain e i (specialHolders special i))) 0 ≡ false
       lacks = bit-pack 16 (λ i. out plain e i (specialHolders special i)) 0 (lit< tt) ∙ rw none (cell-none plain refl refl m e legal .1)
-
-      clear : (d : ℕ) → d < 2 → eqb d 1 ≡ false → d ≡ 0
-      clear zero h z = refl
-      clear (suc zero) h z = absurd (true≢false z)
-      clear (suc (suc d)) h z = absurd (omega arith)
 
   module _ (special items : List ℕ) (count k : ℕ) (allowed output : List ℕ) (table : TableItems items count) (lanes : (b : ℕ) → b < lanesOf count → laneAt allowed output k b ≡ laneOf e special items b) where
     abbrev entries : List ℕ

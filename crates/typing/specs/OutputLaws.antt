@@ -17,7 +17,7 @@ use Rattle.bits.specs.Tab.{tab, length-tab, getD-tab, tab-is}
 use Rattle.bits.specs.Written.{Written}
 use Rattle.membership.specs.Entries.{entry, attributeOf}
 use Rattle.membership.specs.Holders.{heldBy, heldList, ItemsFit}
-use Rattle.membership.specs.HolderLaws.{held-few, held-attributes}
+use Rattle.membership.specs.HolderLaws.{held-few, held-attributes, held-fits}
 use Rattle.membership.specs.declared.holders.Held.{Held}
 
 -- ---- as they are computed
@@ -96,11 +96,7 @@ module _ (items : List ℕ) (count : ℕ) (output : List ℕ) (k : ℕ) (few : c
   found-list = let most = list-few items count output k few in ap (λ (h : Held). take (h .count) (h .list)) held-is ∙ held-attributes (listIn items count output k) (omega arith)
 
   pub found-fits : held .count ≤ length (held .list)
-  unfolding heldList
-  found-fits =
-      let most = list-few items count output k few in
-      let size = length-tab 256 (λ i. getD (listIn items count output k) i 0) in
-      rw held-is (omega arith)
+  found-fits = rw held-is (held-fits (listIn items count output k) (let most = list-few items count output k few in omega arith))
 
   pub found-few : length (take (held .count) (held .list)) ≤ 255
   found-few = rw found-list (list-few items count output k few)

@@ -1,6 +1,6 @@
 -- Demand 3 on the stored bytes: the formula of a node of an accepted file, read off the work space as Formula and Verdict leave it.
 use Prim.Native.Nat.{ℕ, _*_, _^_, _≤_, _<_}
-use mathlib.Core.Path.{_≡_, refl, sym, ap, _∙_}
+use mathlib.Core.Path.{_≡_, sym, ap, _∙_}
 use mathlib.Core.Logic.{_↔_}
 use mathlib.Core.Bool.{Bool, true, false, _&&_}
 use mathlib.Core.List.{List}
@@ -8,6 +8,7 @@ use native.Mathlib.Nat.{lt-of-lt-of-le}
 use borrow.Author.Tests.{lt-ltb, le-ltb}
 use lib.ListN.{length}
 use lib.Pow.{pow-mono}
+use Rattle.bits.specs.Booleans.{and-left}
 use Rattle.bits.specs.Bit.{bit}
 use Rattle.bits.specs.Tab.{over}
 use Rattle.types.specs.Types.{Attrs, IsType, Assignment, IsAssignment}
@@ -58,11 +59,7 @@ module _ (file : List ℕ) (m n : ℕ) (accepted : acceptance file ≡ Accepted 
   -- "An output bit stands only where the allowed bit does"
   pub stored-within : (c s : ℕ) → c < 16 → s < 256 → outputIn (columnAt filled k c) s ≡ true → allowedIn (columnAt filled k c) s ≡ true
   unfolding outputBit
-  stored-within c s hc hs h = stored-allowed c s hc hs ∙ first (allowedBit m (expressionAt file k) c s) (out plain (expressionAt file k) c (bit s)) (sym (stored-output c s hc hs) ∙ h)
-    where
-      first : (a b : Bool) → a && b ≡ true → a ≡ true
-      first true b e = refl
-      first false b e = e
+  stored-within c s hc hs h = stored-allowed c s hc hs ∙ and-left (allowedBit m (expressionAt file k) c s) (out plain (expressionAt file k) c (bit s)) (sym (stored-output c s hc hs) ∙ h)
 
   subsets-few : 2 ^ m ≤ 256
   subsets-few = pow-mono {j = 8} (accepted-file file m n accepted .counts .relations .1)

@@ -1,12 +1,10 @@
 use Prim.Native.Nat.{ℕ, _+_, _-_, _≤_, _<_}
-use mathlib.Core.Path.{_≡_, sym, _∙_}
+use mathlib.Core.Path.{_≡_, refl, sym, _∙_}
 use mathlib.Core.Bool.{true}
-use mathlib.Core.Logic.{⊎-elim}
-use native.Mathlib.Nat.{eq-or-lt-of-le}
 use native.Mathlib.Omega.{arith}
 use borrow.Author.Tests.{not-true, not-false}
 use lib.ListN.{getD}
-use Rattle.bits.specs.AllBelow.{in-all, not-all}
+use Rattle.bits.specs.AllBelow.{allBelow, all-next, not-all}
 use Rattle.formula.specs.Column.{allowedIn}
 use Rattle.formula.specs.Storage.{columnAt}
 use Rattle.membership.specs.Entries.{subsetOf}
@@ -15,17 +13,14 @@ use borrow.Author.Needs.{needs}
 use Rattle.application.proofs.fitting.entries_allowed.Statement.{statement}
 use Rattle.application.proofs.fitting.entries_allowed.Tie as tie
 
-upTo : (x i : ℕ) → x < i + 1 → x ≤ i
-upTo x i h = omega arith
-
 abbrev Inv-loop : tie.InvT-loop
-Inv-loop work node items count i₀ i = (i ≤ count) × ((x : ℕ) → x < i → variableIn (columnAt work node 0) (subsetOf (getD items x 0)) ≡ true)
+Inv-loop work node items count i₀ i = (i ≤ count) × (allBelow i (λ x. variableIn (columnAt work node 0) (subsetOf (getD items x 0))) ≡ true)
 
 abbrev μ-loop : tie.MeasureT-loop
 μ-loop work node items count i₀ i = count - i
 
 loop-holds : tie.Need-loop-holds Inv-loop μ-loop
-loop-holds c = (omega arith, λ x h. absurd (omega arith))
+loop-holds c = (omega arith, refl)
 
 mul-is-variable : tie.Need-mul-is-variable Inv-loop μ-loop
 mul-is-variable c = search needs
@@ -46,10 +41,10 @@ loop-less : tie.Need-loop-less Inv-loop μ-loop
 loop-less c = search needs
 
 loop-again : tie.Need-loop-again Inv-loop μ-loop
-loop-again c = (omega arith, λ x h. ⊎-elim (λ same. rw same (sym (c .before .is-variable .ensures) ∙ not-false _ (c .if1 .left))) (λ below. c .before .before .before .before .loop .inv .1 x below) (eq-or-lt-of-le (upTo x (c .before .before .before .before .loop .i) h)))
+loop-again c = (omega arith, all-next (@loop .i) (λ x. variableIn (columnAt (@args .work .now) (@args .node) 0) (subsetOf (getD (@args .items .now) x 0))) (@loop .inv .1) (sym (@is-variable .ensures) ∙ not-false _ (@if1 .left)))
 
 returns-2 : tie.Need-returns-2 Inv-loop μ-loop
-returns-2 c = let all : c .before .loop .i ≡ c .before .before .before .before .args .count = omega arith in sym (in-all (c .before .before .before .before .args .count) _ (rw all at (c .before .loop .inv .1)))
+returns-2 c = let all : @loop .i ≡ @args .count = omega arith in sym (rw all at (@loop .inv .1))
 
 pub entries-allowed-spec : {M : Type 1} → statement M
 entries-allowed-spec =

@@ -1,12 +1,10 @@
 use Prim.Native.Nat.{ℕ, _+_, _-_, _≤_, _<_}
-use mathlib.Core.Path.{_≡_, sym, _∙_}
+use mathlib.Core.Path.{_≡_, refl, sym, _∙_}
 use mathlib.Core.Bool.{true}
-use mathlib.Core.Logic.{⊎-elim}
-use native.Mathlib.Nat.{eq-or-lt-of-le}
 use native.Mathlib.Omega.{arith}
 use borrow.Author.Tests.{not-true, not-false}
 use lib.ListN.{getD}
-use Rattle.bits.specs.AllBelow.{in-all, not-all}
+use Rattle.bits.specs.AllBelow.{allBelow, all-next, not-all}
 use Rattle.formula.specs.Column.{allowedIn}
 use Rattle.formula.specs.Storage.{columnAt}
 use Rattle.membership.specs.Entries.{subsetOf}
@@ -15,17 +13,14 @@ use borrow.Author.Needs.{needs}
 use Rattle.application.proofs.fitting.specials_allowed.Statement.{statement}
 use Rattle.application.proofs.fitting.specials_allowed.Tie as tie
 
-upTo : (x i : ℕ) → x < i + 1 → x ≤ i
-upTo x i h = omega arith
-
 abbrev Inv-loop : tie.InvT-loop
-Inv-loop work node subsets i₀ i = (i ≤ 15) × ((x : ℕ) → x < i → allowedIn (columnAt work node (x + 1)) (getD subsets (x + 1) 0) ≡ true)
+Inv-loop work node subsets i₀ i = (i ≤ 15) × (allBelow i (λ x. allowedIn (columnAt work node (x + 1)) (getD subsets (x + 1) 0)) ≡ true)
 
 abbrev μ-loop : tie.MeasureT-loop
 μ-loop work node subsets i₀ i = 15 - i
 
 loop-holds : tie.Need-loop-holds Inv-loop μ-loop
-loop-holds c = (omega arith, λ x h. absurd (omega arith))
+loop-holds c = (omega arith, refl)
 
 add-is-allowed : tie.Need-add-is-allowed Inv-loop μ-loop
 add-is-allowed c = search needs
@@ -53,11 +48,11 @@ loop-less : tie.Need-loop-less Inv-loop μ-loop
 loop-less c = search needs
 
 loop-again : tie.Need-loop-again Inv-loop μ-loop
-loop-again c = (omega arith, λ x h. ⊎-elim (λ same. rw same (sym (c .before .is-allowed .ensures) ∙ not-false _ (c .if1 .left))) (λ below. c .before .before .before .before .loop .inv .1 x below) (eq-or-lt-of-le (upTo x (c .before .before .before .before .loop .i) h)))
+loop-again c = (omega arith, all-next (@loop .i) (λ x. allowedIn (columnAt (@args .work .now) (@args .node) (x + 1)) (getD (@args .subsets .now) (x + 1) 0)) (@loop .inv .1) (sym (@is-allowed .ensures) ∙ not-false _ (@if1 .left)))
 
 returns-2 : tie.Need-returns-2 Inv-loop μ-loop
 unfolding specialsAllowed
-returns-2 c = let all : c .before .loop .i ≡ 15 = omega arith in sym (in-all 15 (λ x. allowedIn (columnAt (c .before .before .before .before .args .work .now) (c .before .before .before .before .args .node) (x + 1)) (getD (c .before .before .before .before .args .subsets .now) (x + 1) 0)) (rw all at (c .before .loop .inv .1)))
+returns-2 c = let all : @loop .i ≡ 15 = omega arith in sym (rw all at (@loop .inv .1))
 
 pub specials-allowed-spec : {M : Type 1} → statement M
 specials-allowed-spec =
