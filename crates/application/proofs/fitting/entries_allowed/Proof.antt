@@ -41,10 +41,10 @@ loop-less : tie.Need-loop-less Inv-loop μ-loop
 loop-less c = search needs
 
 loop-again : tie.Need-loop-again Inv-loop μ-loop
-loop-again c = (omega arith, all-next (@loop .i) (λ x. variableIn (columnAt (@args .work .now) (@args .node) 0) (subsetOf (getD (@args .items .now) x 0))) (@loop .inv .1) (sym (@is-variable .ensures) ∙ not-false _ (@if1 .left)))
+loop-again c = (omega arith, all-next (c .before .before .before .before .loop .i) (λ x. variableIn (columnAt (c .before .before .before .before .before .before .before .args .work .now) (c .before .before .before .before .before .before .before .args .node) 0) (subsetOf (getD (c .before .before .before .before .before .before .before .args .items .now) x 0))) (c .before .before .before .before .loop .inv .1) (sym (c .before .is-variable .ensures) ∙ not-false _ (c .if1 .left)))
 
 returns-2 : tie.Need-returns-2 Inv-loop μ-loop
-returns-2 c = let all : @loop .i ≡ @args .count = omega arith in sym (rw all at (@loop .inv .1))
+returns-2 c = let all : c .before .loop .i ≡ c .before .before .before .before .args .count = omega arith in sym (rw all at (c .before .loop .inv .1))
 
 pub entries-allowed-spec : {M : Type 1} → statement M
 entries-allowed-spec =

@@ -48,11 +48,11 @@ loop-less : tie.Need-loop-less Inv-loop μ-loop
 loop-less c = search needs
 
 loop-again : tie.Need-loop-again Inv-loop μ-loop
-loop-again c = (omega arith, all-next (@loop .i) (λ x. allowedIn (columnAt (@args .work .now) (@args .node) (x + 1)) (getD (@args .subsets .now) (x + 1) 0)) (@loop .inv .1) (sym (@is-allowed .ensures) ∙ not-false _ (@if1 .left)))
+loop-again c = (omega arith, all-next (c .before .before .before .before .loop .i) (λ x. allowedIn (columnAt (c .before .before .before .before .before .before .before .args .work .now) (c .before .before .before .before .before .before .before .args .node) (x + 1)) (getD (c .before .before .before .before .before .before .before .args .subsets .now) (x + 1) 0)) (c .before .before .before .before .loop .inv .1) (sym (c .before .is-allowed .ensures) ∙ not-false _ (c .if1 .left)))
 
 returns-2 : tie.Need-returns-2 Inv-loop μ-loop
 unfolding specialsAllowed
-returns-2 c = let all : @loop .i ≡ 15 = omega arith in sym (rw all at (@loop .inv .1))
+returns-2 c = let all : c .before .loop .i ≡ 15 = omega arith in sym (rw all at (c .before .loop .inv .1))
 
 pub specials-allowed-spec : {M : Type 1} → statement M
 specials-allowed-spec =
