@@ -3,15 +3,6 @@ pub mod Fitting
 pub mod Fits
 pub mod Apply
 pub mod Recover
-pub mod Bounds
 pub mod SpecialLaws
-pub mod Image
-pub mod Tables
 pub mod ApplyLaws
 pub mod RecoverLaws
-pub mod RoundTrip
-pub mod ListZero
-pub mod Theorems
-pub mod Unrefused
-pub mod Link
-pub mod Composed

@@ -1,12 +1,12 @@
-// Apply, and then Recover on the bytes just written.
+// Apply, and then Recover on the bytes just written. In specs/: the second half of demand 2, and the link to demand 3.
 ghost use mathlib.Core.Path.{_≡_};
 ghost use lib.ListN.{length};
 ghost use Rattle.application.specs.Apply.{applyAnswer, applySchema, applyOut};
-ghost use Rattle.application.specs.Composed.{unlessShort, roundTrip, roundTripSpace, roundTripOut};
-use crate::applying::Application;
-use crate::applying::apply;
-use crate::recovering::Recovery;
-use crate::recovering::recover;
+ghost use Rattle.round_trip.specs.Composed.{unlessShort, roundTrip, roundTripSpace, roundTripOut};
+use application::Application;
+use application::Recovery;
+use application::apply;
+use application::recover;
 use refusal::Refusal;
 
 // Applies an instantiation and recovers it from the schema that was written: the same bytes, where nothing is refused.

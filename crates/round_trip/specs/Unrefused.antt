@@ -19,11 +19,11 @@ use Rattle.instantiation.specs.Instantiation.{instantiationReading}
 use Rattle.instantiation.specs.TableLaws.{instantiation-read, read-entries}
 use Rattle.instantiation.specs.declared.reading.Instantiation.{Instantiation}
 use Rattle.typing.specs.Typing.{afterSchema}
 use Rattle.application.specs.Fits.{entriesFit, specialsFit}
 use Rattle.application.specs.Apply.{tableApplied, entriesOf, readApplied, applyAnswer}
-use Rattle.application.specs.Theorems.{Applies}
+use Rattle.round_trip.specs.Theorems.{Applies}
 use Rattle.application.specs.declared.applying.Application.{Application}
 use Rattle.application.specs.declared.applying.Application.the-variants.{Applied, Refused}
 
 passed : (t : Bool) (r : Refusal) (next : Application) (size width : ℕ) → refuse Refused t r next ≡ Applied size width → (t ≡ false) × (next ≡ Applied size width)
 unfolding refuse

@@ -11,14 +11,14 @@ use Rattle.bits.specs.Tab.{over}
 use Rattle.bits.specs.Word.{Bytes}
 use Rattle.refusal.specs.declared.Refusal.{Refusal}
 use Rattle.refusal.specs.declared.Refusal.the-variants.{ResultSlice}
 use Rattle.application.specs.Apply.{applyAnswer, applySpace, applySchema, applyOut}
 use Rattle.application.specs.Recover.{recoverAnswer, recoverSpace, recoverOut}
-use Rattle.application.specs.Theorems.{applies-admits, apply-size, apply-fits, apply-recover}
-use Rattle.application.specs.Unrefused.{applied-applies}
+use Rattle.round_trip.specs.Theorems.{applies-admits, apply-size, apply-fits, apply-recover}
+use Rattle.round_trip.specs.Unrefused.{applied-applies}
 use Rattle.application.specs.declared.applying.Application.{Application}
 use Rattle.application.specs.declared.applying.Application.the-variants.{Applied, Refused as ApplyRefused}
 use Rattle.application.specs.declared.recovering.Recovery.{Recovery}
 use Rattle.application.specs.declared.recovering.Recovery.the-variants.{Recovered, Refused}
 
 -- what comes back: the instantiation's length, or Apply's refusal
 abbrev pub back : Application → ℕ → Recovery

@@ -1,10 +1,10 @@
 use mathlib.Core.Path.{sym, _∙_}
 use native.Mathlib.Omega.{arith}
 use lib.Seq.{length-take-le}
-use Rattle.application.specs.Composed.{trip-short, trip-refused, trip-fits, trip-applied}
+use Rattle.round_trip.specs.Composed.{trip-short, trip-refused, trip-fits, trip-applied}
 use borrow.Author.Needs.{needs}
-use Rattle.application.proofs.round_trip.apply_and_recover.Statement.{statement}
-use Rattle.application.proofs.round_trip.apply_and_recover.Tie as tie
+use Rattle.round_trip.proofs.apply_and_recover.Statement.{statement}
+use Rattle.round_trip.proofs.apply_and_recover.Tie as tie
 
 returns : tie.Need-returns
 returns c = trip-short (c .before .before .before .before .before .before .before .args .file .now) (c .before .before .before .before .before .before .before .args .node) (c .before .before .before .before .before .before .before .args .instantiation .now) (c .before .before .before .before .before .before .before .args .work .now) (c .before .before .before .before .before .before .before .args .schema .now) (c .before .before .before .before .before .before .before .args .out .now) (c .before .before .before .before .before .before .before .args .recovered .now) (c .if1 .taken)

@@ -42,13 +42,13 @@ use Rattle.instantiation.specs.ReadLaws.{IsLists, lists-read}
 use Rattle.instantiation.specs.Apart.{once-apart}
 use Rattle.instantiation.specs.Owners.{lists-holders}
 use Rattle.instantiation.specs.TableLaws.{subsets-none}
 use Rattle.application.specs.Special.{mapsFrom}
 use Rattle.application.specs.SpecialLaws.{map-bit}
 use Rattle.application.specs.Fits.{fits-typed}
-use Rattle.application.specs.Tables.{subsets-below}
-use Rattle.application.specs.Image.{IsTable, image-size, image-records, image-maps, image-entries, image-at, holders-held}
-use Rattle.application.specs.RoundTrip.{applied-table}
-use Rattle.application.specs.Theorems.{Applies, applies-admits}
+use Rattle.round_trip.specs.Tables.{subsets-below}
+use Rattle.round_trip.specs.Image.{IsTable, image-size, image-records, image-maps, image-entries, image-at, holders-held}
+use Rattle.round_trip.specs.RoundTrip.{applied-table}
+use Rattle.round_trip.specs.Theorems.{Applies, applies-admits}
 
 -- an instantiation whose subsets and lists are those of the bytes
 pub record AreBytes {F : Formula} (I : Instantiation F) (bytes : List ℕ) (ls : List (List ℕ)) : Type 0 where

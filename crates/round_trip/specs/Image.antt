@@ -24,7 +24,7 @@ use Rattle.membership.specs.TableLaws.{Below}
 use Rattle.schema.specs.Schema.{recordsRead, readRecords, noRecord, schemaBytes, entriesOf, mapsOf, recordsOf}
 use Rattle.schema.specs.RecordsLaws.{AllRecords, written-records}
 use Rattle.schema.specs.EntriesLaws.{entries-rising, entries-holders}
-use Rattle.application.specs.Bounds.{Held, schema-held}
+use Rattle.round_trip.specs.Bounds.{Held, schema-held}
 
 -- a table of m relations: rising entries of two bytes, each held by some of them, at most 255; a map for each, with bit 0 clear, and empty ones from m on
 pub record IsTable (m : ℕ) (maps es : List ℕ) : Type 0 where

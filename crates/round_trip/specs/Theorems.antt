@@ -36,19 +36,19 @@ use Rattle.typing.specs.Output.{typedIn, outputList}
 use Rattle.typing.specs.Typing.{tableAnswer, tableOut, typingAnswer, typingOut}
 use Rattle.typing.specs.TypingLaws.{typing-records}
 use Rattle.typing.specs.declared.operation.Answer.the-variants.{Typed, Untyped as TypingUntyped}
 use Rattle.application.specs.Special.{mapsFrom, subsetsFrom}
 use Rattle.application.specs.SpecialLaws.{subsets-back}
 use Rattle.application.specs.Fits.{entriesFit, specialsFit, fits-typed}
 use Rattle.application.specs.Apply.{imageBytes, outputBytes, tableApplied, tableImage, tableOutput, applyAnswer, applySchema, applyOut}
 use Rattle.application.specs.ApplyLaws as Applying
 use Rattle.application.specs.Recover.{fits, recoveredBytes, tableRecovered, tableInstantiation, recoverAnswer, recoverOut}
 use Rattle.application.specs.RecoverLaws as Recovering
-use Rattle.application.specs.Image.{IsTable, image-size, image-records, image-maps, image-entries}
-use Rattle.application.specs.Tables.{fits-same, held-entries}
-use Rattle.application.specs.ListZero.{list-zero}
-use Rattle.application.specs.RoundTrip.{applied-table, image-schema, recovered-same, recovered-table, written-instantiation, written-table, image-same}
+use Rattle.round_trip.specs.Image.{IsTable, image-size, image-records, image-maps, image-entries}
+use Rattle.round_trip.specs.Tables.{fits-same, held-entries}
+use Rattle.round_trip.specs.ListZero.{list-zero}
+use Rattle.round_trip.specs.RoundTrip.{applied-table, image-schema, recovered-same, recovered-table, written-instantiation, written-table, image-same}
 use Rattle.application.specs.declared.applying.Application.the-variants.{Applied}
 use Rattle.application.specs.declared.recovering.Recovery.the-variants.{Recovered, Untyped}
 
 -- ---- Recover on a schema with these records
 

@@ -23,14 +23,14 @@ use Rattle.instantiation.specs.Instantiation.{listsRead, readLists, entriesIn, 
 use Rattle.instantiation.specs.ReadLaws.{IsLists, lists-read, lists-written, written-lists, written-subsets}
 use Rattle.instantiation.specs.EntriesLaws.{entries-rising, entries-below, entries-lists, lists-of, lists-once, lists-entries}
 use Rattle.instantiation.specs.TableLaws.{ReadInstantiation, read-instantiation, subsets-size, subsets-none, subsets-small}
 use Rattle.application.specs.Special.{mapsFrom, subsetsFrom}
 use Rattle.application.specs.SpecialLaws.{subsets-back, maps-back, subset-zero}
 use Rattle.application.specs.SpecialLaws as Special
 use Rattle.application.specs.Fits.{entriesFit, specialsFit}
 use Rattle.application.specs.Apply.{imageBytes}
 use Rattle.application.specs.Recover.{fits, recoveredBytes}
-use Rattle.application.specs.Image.{IsTable, held-positive, image-read, image-entries, image-maps}
-use Rattle.application.specs.Tables.{schema-table, fit-table}
+use Rattle.round_trip.specs.Image.{IsTable, held-positive, image-read, image-entries, image-maps}
+use Rattle.round_trip.specs.Tables.{schema-table, fit-table}
 
 -- ---- an instantiation that fits, its image, and what is recovered from it
 

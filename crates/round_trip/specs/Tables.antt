@@ -28,12 +28,12 @@ use Rattle.schema.specs.EntriesLaws.{entries-rising, entries-below}
 use Rattle.schema.specs.TableLaws.{maps-at, maps-is, maps-size}
 use Rattle.typing.specs.Output.{specialHolders, typedIn}
 use Rattle.typing.specs.OutputRecord.{entry-cell}
 use Rattle.application.specs.Special.{mapOf, mapsFrom, subsetsFrom}
 use Rattle.application.specs.SpecialLaws.{maps-length, maps-even, map-case, subset-bit, subset-below, subset-zero, maps-back}
-use Rattle.application.specs.Bounds.{Held, schema-held, held-at, at-held}
+use Rattle.round_trip.specs.Bounds.{Held, schema-held, held-at, at-held}
 use Rattle.application.specs.Fits.{entriesFit, specialsFit, fits-typed}
-use Rattle.application.specs.Image.{IsTable}
+use Rattle.round_trip.specs.Image.{IsTable}
 use Rattle.application.specs.Recover.{fits}
 
 -- ---- of schemas
 

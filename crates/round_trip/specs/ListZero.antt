@@ -16,7 +16,7 @@ use Rattle.instantiation.specs.Instantiation.{entriesFrom, entriesIn, allListed
 use Rattle.instantiation.specs.ReadLaws.{IsLists}
 use Rattle.instantiation.specs.Apart.{listed-none, once-apart}
 use Rattle.instantiation.specs.Owners.{lists-holders}
-use Rattle.application.specs.Bounds.{Held}
+use Rattle.round_trip.specs.Bounds.{Held}
 
 -- a is the attribute of an entry
 abbrev entered : ℕ → List ℕ → Bool

@@ -1,0 +1,9 @@
+pub mod Bounds
+pub mod Image
+pub mod Tables
+pub mod RoundTrip
+pub mod ListZero
+pub mod Theorems
+pub mod Unrefused
+pub mod Link
+pub mod Composed
