@@ -13,7 +13,7 @@ use Rattle.membership.specs.declared.merging.Entries.{Entries}
 use Rattle.membership.specs.Entries.{entry, tableOf}
 use Rattle.membership.specs.TableLaws.{table-entries, table-size, table-item}
 use Rattle.entry_sorting.specs.Appending.{Appending, appending-none, appending-more, appending-end}
-use Rattle.instantiation.specs.Instantiation.{appended}
+use Rattle.instantiation.specs.Gathering.{appended}
 
 -- ---- the loop
 

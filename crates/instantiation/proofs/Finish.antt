@@ -19,7 +19,8 @@ use Rattle.entry_sorting.specs.Sorting.{byAttribute}
 use Rattle.membership.specs.TableLaws.{table-count, table-full, table-all}
 use Rattle.schema.specs.declared.reading.Judgement.the-variants.{Read, Refused}
 use Rattle.instantiation.specs.declared.reading.ListsReading.{ListsReading}
-use Rattle.instantiation.specs.Instantiation.{Lists, listsRefused, listsRead, atEnd, readLists, listedFrom, entriesIn, allListed, subsetsOf, refusedLists, gathered, refusedInstantiation, instantiationReading}
+use Rattle.instantiation.specs.Instantiation.{Lists, listsRefused, listsRead, atEnd, readLists, entriesIn, allListed, subsetsOf, refusedInstantiation, instantiationReading}
+use Rattle.instantiation.specs.Gathering.{listedFrom, refusedLists, gathered}
 use Rattle.instantiation.specs.ReadLaws.{IsLists, lists-read}
 use Rattle.instantiation.specs.Seen.{nothingSeen, repeatedIn}
 use Rattle.instantiation.specs.SortedLists.{listed-distinct, sorted-lists, sorted-length}

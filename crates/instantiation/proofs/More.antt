@@ -7,7 +7,8 @@ use native.Mathlib.Omega.{arith}
 use lib.ListN.{length}
 use Rattle.refusal.specs.declared.Refusal.{Refusal}
 use Rattle.membership.specs.Entries.{entry}
-use Rattle.instantiation.specs.Instantiation.{Lists, listsRefused, listsRead, precede, listedFrom, allListed}
+use Rattle.instantiation.specs.Instantiation.{Lists, listsRefused, listsRead, precede, allListed}
+use Rattle.instantiation.specs.Gathering.{listedFrom}
 
 -- these lists, with the reading of what follows them
 abbrev pub precedeAll : List (List ℕ) → Lists → Lists

@@ -18,7 +18,8 @@ use Rattle.type_record.specs.ListLaws.{HoldsList, list-holds}
 use Rattle.membership.specs.declared.merging.Entries.{Entries}
 use Rattle.membership.specs.Entries.{entry, tableOf, ListFits}
 use Rattle.membership.specs.TableLaws.{table-few, table-size, table-over}
-use Rattle.instantiation.specs.Instantiation.{standing, follow, precede, readLists, listedFrom, appended, allListed, refusedLists, gathered}
+use Rattle.instantiation.specs.Instantiation.{standing, follow, precede, readLists, allListed}
+use Rattle.instantiation.specs.Gathering.{listedFrom, appended, refusedLists, gathered}
 use Rattle.instantiation.specs.ReadStep.{read-clear, read-stands}
 use Rattle.instantiation.specs.Seen.{nothingSeen, repeatedIn, seenIn, Marked}
 use Rattle.instantiation.specs.SeenLaws.{repeated-same, repeated-append, marks-none}

@@ -9,7 +9,8 @@ use lib.Seq.{length-take-le}
 use Rattle.bits.specs.Part.{over-more}
 use Rattle.bits.specs.Tab.{tab, length-tab, over}
 use Rattle.entry_sorting.specs.Chains.{Chained}
-use Rattle.instantiation.specs.Instantiation.{listsOf, mapByte, mapFrom, listsBytes, instantiationBytes, WritesFrom}
+use Rattle.instantiation.specs.Instantiation.{listsOf, mapByte, listsBytes, instantiationBytes, WritesFrom}
+use Rattle.instantiation.specs.Gathering.{mapFrom}
 use Rattle.instantiation.specs.ChainLaws.{map-is}
 use Rattle.instantiation.specs.EntriesLaws.{lists-most}
 

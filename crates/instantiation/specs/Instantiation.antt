@@ -2,9 +2,9 @@
 use Prim.Native.Nat.{ℕ, zero, suc, _+_, _-_, _*_, _/_, _%_, _≤_, _<_}
 use mathlib.Core.Path.{_≡_}
 use mathlib.Core.Bool.{Bool, true, false, cond, not}
-use mathlib.Core.List.{List, [], _∷_, _++_, map}
+use mathlib.Core.List.{List, [], _∷_, _++_}
 use lib.Dec.{eqb, ltb}
-use lib.ListN.{length, getD, take, drop}
+use lib.ListN.{length, getD, drop}
 use Rattle.bits.specs.Bit.{bit}
 use Rattle.bits.specs.Pack.{pack}
 use Rattle.bits.specs.Tab.{tab}
@@ -13,10 +13,9 @@ use Rattle.refusal.specs.declared.Refusal.the-variants.{InputTruncated, InputFo
 use Rattle.type_record.specs.declared.lists.ListReading.{ListReading}
 use Rattle.type_record.specs.declared.lists.ListReading.the-variants.{Listed, Refused as ListRefused}
 use Rattle.type_record.specs.Lists.{readList, listed}
-use Rattle.membership.specs.Entries.{entry, attributeOf, subsetOf, enter, tableOf}
+use Rattle.membership.specs.Entries.{attributeOf, subsetOf, enter, tableOf}
 use Rattle.schema.specs.declared.reading.Judgement.the-variants.{Read, Refused}
 use Rattle.instantiation.specs.declared.reading.Instantiation.{Instantiation}
-use Rattle.instantiation.specs.declared.reading.ListsReading.{ListsReading}
 use Rattle.instantiation.specs.Seen.{nothingSeen, repeatedIn}
 
 -- ---- the lists
@@ -59,15 +58,6 @@ entriesFrom s (l ∷ ls) es = entriesFrom (s + 1) ls (enter s l es)
 unfoldable pub entriesIn : List (List ℕ) → List ℕ
 entriesIn ls = entriesFrom 0 ls []
 
--- the entries of these lists in the order of the bytes, under the subsets s, s + 1, ..
-abbrev pub listedFrom : ℕ → List (List ℕ) → List ℕ
-listedFrom s [] = []
-listedFrom s (l ∷ ls) = map (λ a. entry a s) l ++ listedFrom (s + 1) ls
-
--- the first k entries and more of them, at most 256 in all
-abbrev pub appended : ℕ → List ℕ → List ℕ → List ℕ
-appended k more es = take 256 (take k es ++ more)
-
 -- all attributes that are listed
 abbrev pub allListed : List (List ℕ) → List ℕ
 allListed [] = []
@@ -81,14 +71,6 @@ subsetsOf bytes = tab 16 (λ i. cond (eqb i 0) 0 (getD bytes (i - 1) 0))
 
 unfoldable pub refusedInstantiation : Refusal → Instantiation
 refusedInstantiation r = record { judgement = Refused r; subsets = tab 16 (λ i. 0); entries = tableOf [] }
-
-unfoldable pub refusedLists : Refusal → ListsReading
-refusedLists r = record { judgement = Refused r; repeated = false; entries = tableOf [] }
-
--- the lists before they are judged together: whether an attribute is in two of them, and their entries in the order of the bytes
-abbrev pub gathered : Lists → ListsReading
-gathered (listsRefused r) = refusedLists r
-gathered (listsRead ls) = record { judgement = Read; repeated = repeatedIn nothingSeen (allListed ls); entries = tableOf (listedFrom 0 ls) }
 
 -- "17; 19; 18"
 abbrev pub tabled : Lists → List ℕ → Instantiation
@@ -129,10 +111,6 @@ listsBytes (l ∷ ls) = listBytes l ++ listsBytes ls
 -- byte j of the map: the bits of the subsets whose list is not empty
 unfoldable pub mapByte : List (List ℕ) → ℕ → ℕ
 mapByte ls j = pack 8 (λ i. not (eqb (length (getD ls (j * 8 + i) [])) 0))
-
--- the same by the first entry of each subset, which is count where there is none
-unfoldable pub mapFrom : List ℕ → ℕ → ℕ → ℕ
-mapFrom first count j = pack 8 (λ i. ltb (getD first (j * 8 + i) 0) count)
 
 unfoldable pub instantiationBytes : List ℕ → List (List ℕ) → List ℕ
 instantiationBytes subsets ls = tab 15 (λ i. getD subsets (i + 1) 0) ++ (tab 32 (mapByte ls) ++ listsBytes ls)

@@ -1,4 +1,5 @@
 pub mod Instantiation
+pub mod Gathering
 pub mod Seen
 pub mod SeenLaws
 pub mod ReadStep

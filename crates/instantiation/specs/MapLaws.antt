@@ -8,7 +8,7 @@ use lib.Dec.{ltb}
 use lib.ListN.{getD}
 use lib.Pow.{pow-mono}
 use Rattle.bits.specs.PackFrom.{packFrom, from-lower, from-below, from-all}
-use Rattle.instantiation.specs.Instantiation.{mapFrom}
+use Rattle.instantiation.specs.Gathering.{mapFrom}
 
 abbrev pub mapBits : List ℕ → ℕ → ℕ → ℕ → ℕ
 mapBits first count j = packFrom 8 (λ i. ltb (getD first (j * 8 + i) 0) count)

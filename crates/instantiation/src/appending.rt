@@ -6,7 +6,7 @@ ghost use lib.ListN.{length};
 ghost use Rattle.bits.specs.Tab.{tab, over};
 ghost use Rattle.bits.specs.Word.{word};
 ghost use Rattle.membership.specs.Entries.{entry, ListFits};
-ghost use Rattle.instantiation.specs.Instantiation.{appended};
+ghost use Rattle.instantiation.specs.Gathering.{appended};
 
 // Writes the entries of the list's attributes under a subset from place k on, up to place 256, and gives the place after
 // them.

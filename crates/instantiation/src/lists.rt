@@ -6,7 +6,8 @@ ghost use lib.Dec.{ltb};
 ghost use lib.ListN.{length, take};
 ghost use Rattle.bits.specs.Tab.{tab, over};
 ghost use Rattle.entry_sorting.specs.Chains.{Chained};
-ghost use Rattle.instantiation.specs.Instantiation.{withSubset, listsOf, listBytes, listsBytes, mapFrom};
+ghost use Rattle.instantiation.specs.Instantiation.{withSubset, listsOf, listBytes, listsBytes};
+ghost use Rattle.instantiation.specs.Gathering.{mapFrom};
 
 // Writes the list of subset s to the front of the slice, nothing where it is empty, and gives its length.
 fn write_list(

@@ -2,7 +2,8 @@
 ghost use mathlib.Core.Path.{_≡_};
 ghost use Prim.Native.Nat.{_≤_, _<_};
 ghost use lib.ListN.{length, drop};
-ghost use Rattle.instantiation.specs.Instantiation.{standing, readLists, refusedLists, gathered, subsetsOf, refusedInstantiation, instantiationReading};
+ghost use Rattle.instantiation.specs.Instantiation.{standing, readLists, subsetsOf, refusedInstantiation, instantiationReading};
+ghost use Rattle.instantiation.specs.Gathering.{refusedLists, gathered};
 use crate::appending::append;
 use crate::seen::either;
 use crate::seen::mark;

@@ -2,7 +2,7 @@ use Prim.Native.Nat.{_-_, _≤_}
 use mathlib.Core.Path.{_≡_}
 use native.Mathlib.Omega.{arith}
 use Rattle.bits.specs.Written.{Written, written-none, written-more, written-all}
-use Rattle.instantiation.specs.Instantiation.{mapFrom}
+use Rattle.instantiation.specs.Gathering.{mapFrom}
 use borrow.Author.Needs.{needs}
 use Rattle.instantiation.proofs.lists.write_map.Statement.{statement}
 use Rattle.instantiation.proofs.lists.write_map.Tie as tie

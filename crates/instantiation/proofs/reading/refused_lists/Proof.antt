@@ -2,7 +2,7 @@ use mathlib.Core.Path.{ap}
 use mathlib.Core.Bool.{false}
 use Rattle.membership.specs.declared.merging.Entries.{Entries}
 use Rattle.schema.specs.declared.reading.Judgement.the-variants.{Refused}
-use Rattle.instantiation.specs.Instantiation.{refusedLists}
+use Rattle.instantiation.specs.Gathering.{refusedLists}
 use borrow.Author.Needs.{needs}
 use Rattle.instantiation.proofs.reading.refused_lists.Statement.{statement}
 use Rattle.instantiation.proofs.reading.refused_lists.Tie as tie
