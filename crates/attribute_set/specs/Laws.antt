@@ -7,6 +7,7 @@ use borrow.Author.Tests.{ne-eqb}
 use lib.Dec.{eqb}
 use lib.Bits.{bitOr}
 use Rattle.bits.specs.Bit.{bit, bit-none, bit-or, bit-power}
+use Rattle.bits.specs.Booleans.{is-false}
 use Rattle.bits.specs.Range.{in-range, range-in}
 use Rattle.attribute_set.specs.declared.AttrSet.{AttrSet}
 use Rattle.attribute_set.specs.declared.Built.the-variants.{Set, NoSet}
@@ -22,6 +23,9 @@ special-above a h = go (special a) refl
     go : (t : Bool) → special a ≡ t → t ≡ false
     go true e = let range = special-range a e in absurd (omega arith)
     go false e = refl
+
+pub special-zero : special 0 ≡ false
+special-zero = is-false (special 0) (λ e. let range = special-range 0 e in omega arith)
 
 pub special-in : (a : ℕ) → 1 ≤ a → a ≤ 15 → special a ≡ true
 unfolding special

@@ -1,18 +1,39 @@
 -- A list from a function, and the list with a run of elements replaced.
 use Prim.Native.Nat.{ℕ, zero, suc, _+_, _-_, _≤_, _<_}
 use mathlib.Core.Path.{_≡_, refl, sym, ap, _∙_}
-use mathlib.Core.List.{List, [], _∷_, _++_}
+use mathlib.Core.List.{List, [], _∷_, _++_, map}
 use native.Mathlib.Omega.{arith}
 use native.Mathlib.Decide.{decLe}
-use native.Mathlib.Nat.{le-of-suc-le-suc}
-use lib.ListN.{length, getD, take, drop, length-append, length-drop, List·getD-append}
-use lib.Seq.{ext-getD, getD-append-add, getD-drop, take-append-seam}
+use native.Mathlib.Nat.{add-zero, le-of-suc-le-suc}
+use lib.ListN.{length, getD, take, drop, replicate, length-append, length-drop, List·getD-append}
+use lib.Seq.{ext-getD, getD-append-add, getD-drop, drop-drop, drop-append-add, take-append-seam}
 
 module _ {A : Type 0} where
   -- f 0, f 1, .., n elements
   unfoldable pub tab : ℕ → (ℕ → A) → List A
   tab zero f = []
   tab (suc n) f = f 0 ∷ tab n (λ i. f (suc i))
+
+  pub tab-none : (f : ℕ → A) → tab 0 f ≡ []
+  unfolding tab
+  tab-none f = refl
+
+  pub tab-next : (n : ℕ) (f : ℕ → A) → tab (suc n) f ≡ f 0 ∷ tab n (λ i. f (suc i))
+  unfolding tab
+  tab-next n f = refl
+
+  -- the elements from number i on
+  pub tab-from : (left i : ℕ) (f : ℕ → A) → tab (suc left) (λ j. f (i + j)) ≡ f i ∷ tab left (λ j. f (i + 1 + j))
+  tab-from left i f = tab-next left (λ j. f (i + j)) ∙ simp (add-zero, shift)
+    where
+      shift : (j : ℕ) → i + suc j ≡ i + 1 + j
+      shift j = omega arith
+
+  -- one element, n times
+  pub tab-same : (n : ℕ) (x : A) → tab n (λ i. x) ≡ replicate n x
+  unfolding tab
+  tab-same zero x = refl
+  tab-same (suc n) x = ap (λ l. x ∷ l) (tab-same n x)
 
   pub length-tab : (n : ℕ) (f : ℕ → A) → length (tab n f) ≡ n
   unfolding tab
@@ -48,6 +69,22 @@ module _ {A : Type 0} where
   unfoldable pub over : List A → List A → List A
   over a old = a ++ drop (length a) old
 
+  pub over-with : (a old : List A) → over a old ≡ a ++ drop (length a) old
+  unfolding over
+  over-with a old = refl
+
+  -- nothing written
+  pub over-none : (old : List A) → over [] old ≡ old
+  unfolding over
+  over-none old = refl
+
+  -- writing on after what is written
+  pub over-again : (a b old : List A) → over (a ++ b) (over a old) ≡ over (a ++ b) old
+  unfolding over
+  over-again a b old =
+      rw (length-append a b)
+      (ap (λ (l : List A). (a ++ b) ++ l) (drop-append-add a (drop (length a) old) (length b) ∙ drop-drop (length b) (length a) old))
+
   pub over-is : (a old l : List A) (d : A) → length a ≤ length old → length l ≡ length old → ((i : ℕ) → i < length a → getD l i d ≡ getD a i d) → ((i : ℕ) → length a ≤ i → getD l i d ≡ getD old i d) → l ≡ over a old
   unfolding over
   over-is a old l d fits size front rest =
@@ -79,3 +116,9 @@ module _ {A : Type 0} where
   pub take-over : (a old : List A) → take (length a) (over a old) ≡ a
   unfolding over
   take-over a old = take-append-seam a (drop (length a) old)
+
+-- a function of each element
+pub map-tab : {A B : Type 0} (g : A → B) (n : ℕ) (f : ℕ → A) → map g (tab n f) ≡ tab n (λ i. g (f i))
+unfolding tab
+map-tab g zero f = refl
+map-tab g (suc n) f = ap (λ l. g (f 0) ∷ l) (map-tab g n (λ i. f (suc i)))

@@ -1,5 +1,6 @@
 -- Numbers of two bytes, low first.
 use Prim.Native.Nat.{ℕ, _+_, _*_, _<_}
+use mathlib.Core.Path.{_≡_, refl}
 use mathlib.Core.List.{List}
 use native.Mathlib.Omega.{arith}
 use lib.ListN.{getD}
@@ -7,6 +8,10 @@ use lib.ListN.{getD}
 -- the number at a place
 unfoldable pub word : List ℕ → ℕ → ℕ
 word bytes at = getD bytes at 0 + getD bytes (at + 1) 0 * 256
+
+pub word-bytes : (bytes : List ℕ) (at : ℕ) → word bytes at ≡ getD bytes at 0 + getD bytes (at + 1) 0 * 256
+unfolding word
+word-bytes bytes at = refl
 
 -- a list of bytes
 abbrev pub Bytes : List ℕ → Type 0

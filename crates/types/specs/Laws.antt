@@ -1,0 +1,41 @@
+-- The laws of types, columns and holders.
+use Prim.Native.Nat.{ℕ, _≤_, _<_, _^_}
+use mathlib.Core.Path.{_≡_, ap}
+use mathlib.Core.Bool.{Bool, true, false, cond}
+use mathlib.Core.Logic.{∥∥₁-prop}
+use Rattle.bits.specs.Bit.{bit}
+use Rattle.bits.specs.Pack.{bit-pack, pack-below}
+use Rattle.attribute_set.specs.AttrSet.{special}
+use Rattle.types.specs.Types.{Attrs, Assignment, Finite, column, holders}
+
+-- a set with a bound is finite
+pub finite-by : {t : Attrs} (bound : ℕ) → ((a : ℕ) → bound ≤ a → t a ≡ false) → Finite t
+unfolding Finite
+finite-by bound none = ∣ (bound, none) ∣₁
+
+-- a finite set has a bound
+pub finite-bound : {t : Attrs} → Finite t → ∥ ((bound : ℕ) × ((a : ℕ) → bound ≤ a → t a ≡ false)) ∥₁
+unfolding Finite
+finite-bound f = f
+
+-- and which one does not matter
+pub finite-prop : (t : Attrs) → IsProp (Finite t)
+unfolding Finite
+finite-prop t = ∥∥₁-prop
+
+pub column-of-special : (a : ℕ) → special a ≡ true → column a ≡ a
+unfolding column
+column-of-special a e = ap (λ (b : Bool). cond b a 0) e
+
+pub column-of-other : (a : ℕ) → special a ≡ false → column a ≡ 0
+unfolding column
+column-of-other a e = ap (λ (b : Bool). cond b a 0) e
+
+-- relation r holds an attribute if bit r stands
+pub holder-bit : (m : ℕ) (A : Assignment) (a r : ℕ) → r < m → bit (holders m A a) r ≡ A r a
+unfolding holders
+holder-bit m A a r h = bit-pack m (λ r. A r a) r h
+
+pub holders-few : (m : ℕ) (A : Assignment) (a : ℕ) → holders m A a < 2 ^ m
+unfolding holders
+holders-few m A a = pack-below m (λ r. A r a)
