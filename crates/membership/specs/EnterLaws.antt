@@ -42,6 +42,15 @@ order a b = go (ltb a b) refl (ltb b a) refl
     go false h true k = higher (ltb-true b a k)
     go false h false k = let l = ltb-false a b h in let r = ltb-false b a k in equal (omega arith)
 
+pub enter-none : (s : ℕ) (es : List ℕ) → enter s [] es ≡ es
+unfolding enter
+enter-none s es = refl
+
+-- into no entries
+pub enter-first : (s a : ℕ) (more : List ℕ) → enter s (a ∷ more) [] ≡ entry a s ∷ enter s more []
+unfolding enter
+enter-first s a more = refl
+
 module _ (s a : ℕ) (more : List ℕ) (e : ℕ) (es : List ℕ) where
   pub enter-lower : a < attributeOf e → enter s (a ∷ more) (e ∷ es) ≡ entry a s ∷ enter s more (e ∷ es)
   unfolding enter

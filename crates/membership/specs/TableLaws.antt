@@ -30,6 +30,11 @@ enter-front s (suc n) (suc k) (a ∷ more) (e ∷ es) h =
     go (higher l) one two three = rw (enter-higher s a more e es l, enter-higher s a more e (take k es) l) (ap (λ (t : List ℕ). e ∷ t) two)
     go (equal l) one two three = rw (enter-equal s a more e es l, enter-equal s a more e (take k es) l) (ap (λ (t : List ℕ). bitOr e s ∷ t) three)
 
+-- a count and 256 numbers that are the table
+pub table-made : (es : List ℕ) {c : ℕ} {l : List ℕ} → c ≡ length (take 256 es) → length l ≡ 256 → ((i : ℕ) → i < 256 → getD l i 0 ≡ getD es i 0) → record { count = c; items = l } ≡ tableOf es
+unfolding tableOf
+table-made es {c} {l} count size each = ap₂ (λ (c : ℕ) (l : List ℕ). record { count = c; items = l }) count (tab-is 256 (λ i. getD es i 0) 0 l size each)
+
 -- a table depends on the first 256 entries alone
 table-same : (es fs : List ℕ) → take 256 es ≡ take 256 fs → tableOf es ≡ tableOf fs
 unfolding tableOf
@@ -80,11 +85,9 @@ table-all es n size few =
 
 -- a table of at most 256 entries, as it is written
 pub table-over : (es : List ℕ) → length es ≤ 256 → record { count = length es; items = over es (replicate 256 0) } ≡ tableOf es
-unfolding tableOf
 table-over es most =
     let zeros = length-replicate {A = ℕ} 256 0 in
-    ap₂ (λ (c : ℕ) (l : List ℕ). record { count = c; items = l }) (ap length (sym (take-all 256 es most)))
-    (tab-is 256 (λ i. getD es i 0) 0 (over es (replicate 256 0)) (over-length es (replicate 256 0) (omega arith) ∙ zeros) (λ i h. each i h (decLt i (length es))))
+    table-made es (ap length (sym (take-all 256 es most))) (over-length es (replicate 256 0) (omega arith) ∙ zeros) (λ i h. each i h (decLt i (length es)))
   where
     each : (i : ℕ) → i < 256 → Dec (i < length es) → getD (over es (replicate 256 0)) i 0 ≡ getD es i 0
     each i h (yes inside) = over-front es (replicate 256 0) i 0 inside
