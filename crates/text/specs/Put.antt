@@ -7,7 +7,7 @@ use native.Mathlib.Numerals.{add-one}
 use native.Mathlib.Omega.{arith}
 use lib.ListN.{length, getD, take, drop, set, length-append, length-drop, take-append-drop}
 use lib.Seq.{length-take-le, take-at, drop-drop, take-suc, set-split, drop-append-add}
-use Rattle.bits.specs.Tab.{over}
+use Rattle.bits.specs.Tab.{over, over-with}
 
 -- the bytes from place `at` on, and the rest as it was
 unfoldable pub put : ℕ → List ℕ → List ℕ → List ℕ
@@ -27,8 +27,8 @@ unfolding put
 put-nothing at old = rw add-zero (take-append-drop at old)
 
 pub put-front : (bytes old : List ℕ) → put 0 bytes old ≡ over bytes old
-unfolding put over
-put-front bytes old = rw zero-add
+unfolding put
+put-front bytes old = rw (zero-add, over-with bytes old)
 
 pub put-byte : (at b : ℕ) (old : List ℕ) → at < length old → set old at b ≡ put at (b ∷ []) old
 unfolding put
