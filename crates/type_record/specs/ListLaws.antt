@@ -2,16 +2,16 @@
 use Prim.Native.Nat.{ℕ, zero, suc, _+_, _*_, _≤_, _<_}
 use mathlib.Core.Path.{_≡_, refl, sym, ap, subst, _∙_}
 use mathlib.Core.Bool.{Bool, true, false}
-use mathlib.Core.List.{List, _∷_}
+use mathlib.Core.List.{List, [], _∷_}
 use native.Mathlib.Decide.{decLe}
 use native.Mathlib.Nat.{add-zero, zero-add}
 use native.Mathlib.Omega.{arith}
 use borrow.Author.Tests.{ltb-false, leb-false, eqb-false, le-ltb, lt-leb, ne-eqb}
 use lib.ListN.{length, getD, List·getD-eq-default}
 use Rattle.bits.specs.Rising.{Rising}
-use Rattle.bits.specs.Tab.{tab, length-tab, getD-tab}
-use Rattle.bits.specs.Word.{word, Bytes, word-below}
-use Rattle.refusal.specs.Chain.{refuse}
+use Rattle.bits.specs.Tab.{tab, tab-none, tab-from, length-tab, getD-tab}
+use Rattle.bits.specs.Word.{Bytes, word-bytes, word-below}
+use Rattle.refusal.specs.Chain.{refuse, refuse-passes, refuse-past}
 use Rattle.refusal.specs.declared.Refusal.{Refusal}
 use Rattle.type_record.specs.declared.lists.ListReading.{ListReading}
 use Rattle.type_record.specs.declared.lists.ListReading.the-variants.{Listed, Refused}
@@ -19,32 +19,25 @@ use Rattle.type_record.specs.Lists.{attributeAt, readFrom, readList, lis
 
 -- a list that is read gets past the test
 passed : (t : Bool) (r : Refusal) {next : ListReading} {n : ℕ} → refuse Refused t r next ≡ Listed n → (t ≡ false) × (next ≡ Listed n)
-unfolding refuse
-passed true r e = absurd (let z : _≡_ {A = ℕ} 0 1 = cc in omega arith)
-passed false r e = (refl, e)
+passed t r {next} = refuse-past Refused t r next (λ e. let z : _≡_ {A = ℕ} 0 1 = cc in omega arith)
 
 module _ (bytes : List ℕ) where
   -- an attribute's two bytes
   pub attribute-is : (i : ℕ) → attributeAt bytes i ≡ getD bytes (i * 2 + 1) 0 + getD bytes (i * 2 + 2) 0 * 256
-  unfolding word
   attribute-is i =
       let next : i * 2 + 1 + 1 ≡ i * 2 + 2 = omega arith in
-      rw next
+      rw (word-bytes bytes (i * 2 + 1), next)
 
   -- so many attributes from number i on
   abbrev from : ℕ → ℕ → List ℕ
   from left i = tab left (λ j. attributeAt bytes (i + j))
 
   from-more : (left i : ℕ) → from (suc left) i ≡ attributeAt bytes i ∷ from left (i + 1)
-  unfolding tab
-  from-more left i = simp (add-zero, shift)
-    where
-      shift : (j : ℕ) → i + suc j ≡ i + 1 + j
-      shift j = omega arith
+  from-more left i = tab-from left i (attributeAt bytes)
 
   pub read-next : (left i previous : ℕ) → i * 2 + 3 ≤ length bytes → previous < attributeAt bytes i → readFrom bytes (suc left) i previous ≡ readFrom bytes left (i + 1) (attributeAt bytes i)
-  unfolding readFrom refuse
-  read-next left i previous enough above = rw (le-ltb (length bytes) (i * 2 + 3) enough, lt-leb (attributeAt bytes i) previous above)
+  unfolding readFrom
+  read-next left i previous enough above = refuse-passes _ _ _ _ (le-ltb (length bytes) (i * 2 + 3) enough) ∙ refuse-passes _ _ _ _ (lt-leb (attributeAt bytes i) previous above)
 
   -- ---- attributes that are read rise and lie within the bytes
 
@@ -54,10 +47,10 @@ module _ (bytes : List ℕ) where
     rising : Rising previous (from left i)
 
   read-from : (left i previous n : ℕ) → i * 2 + 1 ≤ length bytes → readFrom bytes left i previous ≡ Listed n → ReadFrom left i previous n
-  unfolding readFrom tab
+  unfolding readFrom
   read-from zero i previous n inside e =
       let same : i ≡ n = cc in
-      record { end = omega arith; fits = omega arith; rising = tt }
+      record { end = omega arith; fits = omega arith; rising = subst (Rising previous) (sym (tab-none (λ j. attributeAt bytes (i + j)))) tt }
   read-from (suc left) i previous n inside e =
       let enough = passed _ _ e in
       let above = passed _ _ (enough .1) in
@@ -113,12 +106,21 @@ module _ (bytes : List ℕ) where
       })
 
   pub holds-list : (n : ℕ) → HoldsList n → readList bytes ≡ Listed n
-  unfolding readList refuse
+  unfolding readList
   holds-list n h =
-      rw (le-ltb (length bytes) 1 (omega arith), h .count, ne-eqb n 0 (λ z. omega arith))
+      refuse-passes _ _ _ _ (le-ltb (length bytes) 1 (omega arith))
+      ∙ refuse-passes _ _ _ _ (ne-eqb (getD bytes 0 0) 0 (λ z. omega (arith, h .count)))
+      ∙ rw (h .count)
       (from-read n 0 15 (omega arith) (rw from-start (h .rising)) ∙ ap Listed (zero-add n))
 
   -- ---- the attributes of a list
+
+  pub listed-tab : (n : ℕ) → listed n bytes ≡ tab n (attributeAt bytes)
+  unfolding listed
+  listed-tab n = refl
+
+  pub listed-none : listed 0 bytes ≡ []
+  listed-none = listed-tab 0 ∙ tab-none (attributeAt bytes)
 
   pub listed-length : (n : ℕ) → length (listed n bytes) ≡ n
   unfolding listed

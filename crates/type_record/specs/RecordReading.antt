@@ -1,6 +1,6 @@
 -- Reading a type record: what the bytes hold where one is read, and that it is a record.
 use Prim.Native.Nat.{ℕ, zero, suc, _+_, _-_, _*_, _%_, _≤_}
-use mathlib.Core.Path.{_≡_, refl, sym, ap, ap₂, _∙_}
+use mathlib.Core.Path.{_≡_, refl, sym, ap, ap₂, subst, _∙_}
 use mathlib.Core.Bool.{Bool, true, false, cond}
 use mathlib.Core.List.{List}
 use native.Mathlib.Omega.{arith}
@@ -9,24 +9,21 @@ use lib.Dec.{eqb}
 use lib.ListN.{length, getD, drop, length-drop}
 use lib.Seq.{getD-drop}
 use Rattle.bits.specs.Rising.{Rising}
-use Rattle.bits.specs.Tab.{tab}
 use Rattle.bits.specs.Word.{word, Bytes, word-below}
-use Rattle.refusal.specs.Chain.{refuse}
+use Rattle.refusal.specs.Chain.{refuse, refuse-passes, refuse-past}
 use Rattle.refusal.specs.declared.Refusal.{Refusal}
 use Rattle.type_record.specs.declared.lists.ListReading.{ListReading}
 use Rattle.type_record.specs.declared.lists.ListReading.the-variants.{Listed, Refused as ListRefused}
 use Rattle.type_record.specs.declared.records.RecordReading.{RecordReading}
 use Rattle.type_record.specs.declared.records.RecordReading.the-variants.{Read, Refused}
 use Rattle.type_record.specs.Lists.{attributeAt, readList, listed}
-use Rattle.type_record.specs.ListLaws.{attribute-is, HoldsList, list-holds, holds-list, listed-length, listed-below}
+use Rattle.type_record.specs.ListLaws.{attribute-is, HoldsList, list-holds, holds-list, listed-none, listed-length, listed-below}
 use Rattle.type_record.specs.Record.{withList, readRecord, recordSize, recordAt}
 use Rattle.type_record.specs.RecordBytes.{IsRecord, follows, follows-some, size-none, size-some}
 
 -- a record that is read gets past the test
 passed : (t : Bool) (r : Refusal) {next : RecordReading} {map n : ℕ} → refuse Refused t r next ≡ Read map n → (t ≡ false) × (next ≡ Read map n)
-unfolding refuse
-passed true r e = absurd (let z : _≡_ {A = ℕ} 0 1 = cc in omega arith)
-passed false r e = (refl, e)
+passed t r {next} = refuse-past Refused t r next (λ e. let z : _≡_ {A = ℕ} 0 1 = cc in omega arith)
 
 with-list : (read : ℕ) (l : ListReading) {map n : ℕ} → withList read l ≡ Read map n → (map ≡ read) × (l ≡ Listed n)
 with-list read (Listed k) e = (cc, cc)
@@ -34,12 +31,12 @@ with-list read (ListRefused r) e = absurd (let z : _≡_ {A = ℕ} 0 1 = cc in o
 
 module _ (bytes : List ℕ) where
   pub read-none : 2 ≤ length bytes → word bytes 0 % 2 ≡ 0 → readRecord bytes ≡ Read (word bytes 0) 0
-  unfolding readRecord refuse
-  read-none enough even = rw (le-ltb (length bytes) 2 enough, eq-eqb (word bytes 0 % 2) 0 even)
+  unfolding readRecord
+  read-none enough even = refuse-passes _ _ _ _ (le-ltb (length bytes) 2 enough) ∙ rw (eq-eqb (word bytes 0 % 2) 0 even)
 
   pub read-some : 2 ≤ length bytes → (word bytes 0 % 2 ≡ 0 → ⊥) → readRecord bytes ≡ withList (word bytes 0 - 1) (readList (drop 2 bytes))
-  unfolding readRecord refuse
-  read-some enough odd = rw (le-ltb (length bytes) 2 enough, ne-eqb (word bytes 0 % 2) 0 odd)
+  unfolding readRecord
+  read-some enough odd = refuse-passes _ _ _ _ (le-ltb (length bytes) 2 enough) ∙ rw (ne-eqb (word bytes 0 % 2) 0 odd)
 
   -- attribute k, in the record's bytes
   pub attribute-at : (k : ℕ) → attributeAt (drop 2 bytes) k ≡ getD bytes (k * 2 + 3) 0 + getD bytes (k * 2 + 4) 0 * 256
@@ -57,10 +54,9 @@ module _ (bytes : List ℕ) where
     pub rising : Rising 15 (listed n (drop 2 bytes))
 
   holds-none : 2 ≤ length bytes → word bytes 0 % 2 ≡ 0 → Holds (word bytes 0) 0
-  unfolding listed tab
   holds-none enough even =
       let size = size-none in
-      record { even = even; first = omega arith; count = λ h. absurd (omega arith); fits = omega arith; rising = tt }
+      record { even = even; first = omega arith; count = λ h. absurd (omega arith); fits = omega arith; rising = subst (Rising 15) (sym (listed-none (drop 2 bytes))) tt }
 
   holds-some : (n : ℕ) → 2 ≤ length bytes → (word bytes 0 % 2 ≡ 0 → ⊥) → HoldsList (drop 2 bytes) n → Holds (word bytes 0 - 1) n
   holds-some n enough odd l =
@@ -107,6 +103,15 @@ module _ (bytes : List ℕ) where
         fits = omega arith;
         rising = h .rising;
       }))
+
+-- what the record says
+pub record-map : (bytes : List ℕ) (map n : ℕ) → recordAt bytes map n .map ≡ map
+unfolding recordAt
+record-map bytes map n = refl
+
+pub record-ordinary : (bytes : List ℕ) (map n : ℕ) → recordAt bytes map n .ordinary ≡ listed n (drop 2 bytes)
+unfolding recordAt
+record-ordinary bytes map n = refl
 
 -- what is read is a record, and lies within the bytes
 pub record ReadRecord (bytes : List ℕ) (map n : ℕ) : Type 0 where

@@ -8,7 +8,7 @@ use lib.Seq.{getD-take, length-take-le}
 use Rattle.bits.specs.Bit.{bit}
 use Rattle.bits.specs.Rising.{Rising}
 use Rattle.bits.specs.Tab.{getD-tab, tab-is}
-use Rattle.bits.specs.Word.{word, Bytes}
+use Rattle.bits.specs.Word.{Bytes, word-bytes}
 use Rattle.type_record.specs.declared.records.RecordReading.the-variants.{Read}
 use Rattle.type_record.specs.Lists.{attributeAt, listed}
 use Rattle.type_record.specs.ListLaws.{listed-length, listed-at}
@@ -23,8 +23,7 @@ map-bytes low high map bit small digit even e = (omega arith, omega arith)
 
 module _ (bytes : List ℕ) (map n : ℕ) (below : Bytes bytes) (holds : Holds bytes map n) where
   map-same : (getD bytes 0 0 ≡ map % 256 + follows n) × (getD bytes 1 0 ≡ map / 256)
-  unfolding word
-  map-same = map-bytes (getD bytes 0 0) (getD bytes 1 0) map (follows n) (below 0) (follows-most n) (holds .even) (holds .first)
+  map-same = map-bytes (getD bytes 0 0) (getD bytes 1 0) map (follows n) (below 0) (follows-most n) (holds .even) (sym (word-bytes bytes 0) ∙ holds .first)
 
   attribute-same : (k : ℕ) → k < n → getD (listed n (drop 2 bytes)) k 0 ≡ getD bytes (k * 2 + 3) 0 + getD bytes (k * 2 + 4) 0 * 256
   attribute-same k h = listed-at (drop 2 bytes) n k h ∙ attribute-at bytes k
@@ -80,7 +79,6 @@ module _ (t : TypeRecord) (rest : List ℕ) where
       omega arith)
 
   written-holds : IsRecord t → Holds written (t .map) (length (t .ordinary))
-  unfolding word
   written-holds is =
       let n = length (t .ordinary) in
       let most = size-most n (is .few) in
@@ -88,6 +86,7 @@ module _ (t : TypeRecord) (rest : List ℕ) where
       let size = record-length (t .map) (t .ordinary) in
       let low = written-at 0 (omega arith) ∙ byte-first (t .map) (t .ordinary) in
       let high = written-at 1 (omega arith) ∙ byte-second (t .map) (t .ordinary) in
+      let word-is = word-bytes written 0 in
       record {
         even = is .even;
         first = omega arith;

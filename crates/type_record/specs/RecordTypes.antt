@@ -8,11 +8,10 @@ use native.Mathlib.Omega.{arith}
 use lib.Dec.{eqb}
 use Rattle.bits.specs.Bit.{bit, bit-first}
 use Rattle.bits.specs.Pack.{bits-once}
-use Rattle.bits.specs.Range.{inRange}
 use Rattle.bits.specs.Rising.{member, rising-above, member-below, rising-once}
-use Rattle.attribute_set.specs.AttrSet.{special}
-use Rattle.attribute_set.specs.Laws.{special-in, special-above}
-use Rattle.types.specs.Types.{IsType, Finite}
+use Rattle.attribute_set.specs.Laws.{special-in, special-above, special-zero}
+use Rattle.types.specs.Types.{IsType}
+use Rattle.types.specs.Laws.{finite-by}
 use Rattle.type_record.specs.Record.{TypeRecord, typeOf}
 use Rattle.type_record.specs.RecordBytes.{IsRecord}
 
@@ -48,14 +47,13 @@ type-once t u t-is u-is same =
     ap₂ (λ (map : ℕ) (ordinary : List ℕ). record { map = map; ordinary = ordinary }) (map-once t u t-is u-is same) (ordinary-once t u t-is u-is same)
 
 type-zero : (t : TypeRecord) → IsRecord t → typeOf t 0 ≡ false
-unfolding typeOf special inRange
-type-zero t is = rising-above 15 (t .ordinary) 0 (is .rising) (omega arith)
+unfolding typeOf
+type-zero t is = rw special-zero (rising-above 15 (t .ordinary) 0 (is .rising) (omega arith))
 
 -- a record's type is a type
 pub record-type : (t : TypeRecord) → IsRecord t → IsType (typeOf t)
-unfolding Finite
 record-type t is =
     record {
       positive = type-zero t is;
-      finite = ∣ (65536, λ a h. type-ordinary t a (omega arith) ∙ member-below 65536 (t .ordinary) a (is .below) h) ∣₁;
+      finite = finite-by 65536 (λ a h. type-ordinary t a (omega arith) ∙ member-below 65536 (t .ordinary) a (is .below) h);
     }

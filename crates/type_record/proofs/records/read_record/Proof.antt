@@ -1,7 +1,7 @@
 use mathlib.Core.Path.{sym, ap, _∙_}
 use native.Mathlib.Omega.{arith}
 use Rattle.bits.specs.Part.{part-from}
-use Rattle.bits.specs.Word.{word}
+use Rattle.bits.specs.Word.{word-bytes}
 use Rattle.refusal.specs.Chain.{refuse, chain}
 use Rattle.type_record.specs.Record.{withList, readRecord}
 use Rattle.type_record.specs.RecordReading.{read-none, read-some}
@@ -32,8 +32,9 @@ add-map : tie.Need-add-map
 add-map c = omega (arith, c .before .shared-slice-known2 .given 0, c .shared-slice-known3 .given 1)
 
 returns-2 : tie.Need-returns-2
-unfolding word
-returns-2 c = sym (read-none (c .before .before .before .before .before .args .bytes .now) (c .before .before .before .if1 .left) (c .if2 .taken))
+returns-2 c =
+    let bytes = c .before .before .before .before .before .args .bytes .now in
+    rw (← word-bytes bytes 0) (sym (read-none bytes (c .before .before .before .if1 .left) (rw (word-bytes bytes 0) (c .if2 .taken))))
 
 sub-read-list : tie.Need-sub-read-list
 sub-read-list c = search needs
@@ -57,18 +58,21 @@ enum-known-r : tie.Need-enum-known-r
 enum-known-r c = search needs
 
 returns-3 : tie.Need-returns-3
-unfolding word
 returns-3 c =
     let bytes = c .before .before .before .before .before .before .before .before .before .before .args .bytes .now in
     let reading = sym (c .before .before .before .read-list .ensures) ∙ c .before .count .given .1 in
-    sym (read-some bytes (c .before .before .before .before .before .before .before .before .if1 .left) (c .before .before .before .before .before .if2 .left) ∙ ap (withList _) (rw part-from at reading))
+    rw (← word-bytes bytes 0)
+    (sym
+    (read-some bytes (c .before .before .before .before .before .before .before .before .if1 .left) (λ e. c .before .before .before .before .before .if2 .left (rw (word-bytes bytes 0) at e))
+    ∙ ap (withList _) (rw part-from at reading)))
 
 returns-4 : tie.Need-returns-4
-unfolding word
 returns-4 c =
     let bytes = c .before .before .before .before .before .before .before .before .before .before .args .bytes .now in
     let reading = sym (c .before .before .before .read-list .ensures) ∙ c .before .r .given .1 in
-    sym (read-some bytes (c .before .before .before .before .before .before .before .before .if1 .left) (c .before .before .before .before .before .if2 .left) ∙ ap (withList _) (rw part-from at reading))
+    sym
+    (read-some bytes (c .before .before .before .before .before .before .before .before .if1 .left) (λ e. c .before .before .before .before .before .if2 .left (rw (word-bytes bytes 0) at e))
+    ∙ ap (withList _) (rw part-from at reading))
 
 pub read-record-spec : {M : Type 1} → statement M
 read-record-spec =
