@@ -1,14 +1,14 @@
 -- The laws of columns: a set of special attributes cannot tell an attribute from its column.
 use Prim.Native.Nat.{ℕ, _≤_}
-use mathlib.Core.Path.{_≡_, refl, sym, _∙_}
-use mathlib.Core.Bool.{Bool, true, false, cond, true≢false}
-use native.Mathlib.Omega.{arith}
+use mathlib.Core.Path.{_≡_, refl, sym, ap, _∙_}
+use mathlib.Core.Bool.{Bool, true, false, true≢false}
 use borrow.Author.Tests.{eqb-true}
 use lib.Dec.{eqb}
 use Rattle.bits.specs.Booleans.{is-false}
 use Rattle.attribute_set.specs.AttrSet.{special}
-use Rattle.attribute_set.specs.Laws.{special-range, special-above}
+use Rattle.attribute_set.specs.Laws.{special-above, special-zero}
 use Rattle.types.specs.Types.{Attrs, _⊆_, column}
+use Rattle.types.specs.Laws.{column-of-special, column-of-other}
 
 -- no set of special attributes tells c from d
 abbrev pub Alike : ℕ → ℕ → Type 0
@@ -25,9 +25,6 @@ single-within x t h a e = rw (eqb-true a x e) h
 pub absent : (s : Attrs) → s ⊆ special → (a : ℕ) → special a ≡ false → s a ≡ false
 absent s named a h = is-false _ (λ e. true≢false (sym (named a e) ∙ h))
 
-special-zero : special 0 ≡ false
-special-zero = is-false _ (λ e. let h = special-range 0 e in omega arith)
-
 pub absent-zero : (s : Attrs) → s ⊆ special → s 0 ≡ false
 absent-zero s named = absent s named 0 special-zero
 
@@ -38,9 +35,8 @@ pub alike-ordinary : (a : ℕ) → 16 ≤ a → Alike 0 a
 alike-ordinary a least = alike-zero a (special-above a least)
 
 pub alike-column : (a : ℕ) → Alike (column a) a
-unfolding column
 alike-column a = go (special a) refl
   where
-    go : (t : Bool) → special a ≡ t → Alike (cond t a 0) a
-    go true e = λ s named. refl
-    go false e = alike-zero a e
+    go : (t : Bool) → special a ≡ t → Alike (column a) a
+    go true e = λ s named. ap s (column-of-special a e)
+    go false e = rw (column-of-other a e) (alike-zero a e)
