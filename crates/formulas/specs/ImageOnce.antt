@@ -1,13 +1,14 @@
 -- Two instantiations with one image are one.
 use Prim.Native.Nat.{ℕ, _<_, _^_}
 use mathlib.Core.Path.{_≡_, sym, subst}
-use mathlib.Core.Logic.{_↔_, Iff·trans, Iff·symm, ∥∥₁-prop}
+use mathlib.Core.Logic.{_↔_, Iff·trans, Iff·symm}
 use mathlib.Core.HLevel.{Π-prop, isProp→PathP}
 use native.Mathlib.Nat.{ℕ-set}
 use lib.Dec.{T, T-prop, ltb, ltb→lt}
 use Rattle.bits.specs.Pack.{bits-once}
 use Rattle.attribute_set.specs.AttrSet.{special}
-use Rattle.types.specs.Types.{Attrs, Finite, ordinary}
+use Rattle.types.specs.Types.{Finite, ordinary}
+use Rattle.types.specs.Laws.{finite-prop}
 use Rattle.formulas.specs.Formula.{Formula, isVariable}
 use Rattle.formulas.specs.Instantiation.{Instantiation, InImage}
 use Rattle.formulas.specs.Truth.{same-test}
@@ -46,10 +47,6 @@ module _ (F : Formula) where
 
   pub same-list : (I J : Instantiation F) → SameImage I J → (s : ℕ) (v : T (isVariable F s)) (a : ℕ) → I .list s v a ≡ J .list s v a
   same-list I J same s v a = same-test _ _ (carry I J same s v a, carry J I (λ r below b. Iff·symm (same r below b)) s v a)
-
-  finite-prop : (t : Attrs) → IsProp (Finite t)
-  unfolding Finite
-  finite-prop t = ∥∥₁-prop
 
   -- the subsets and the lists say the rest
   pub same-data : (I J : Instantiation F) → I .subset ≡ J .subset → I .list ≡ J .list → I ≡ J

@@ -2,11 +2,12 @@
 use Prim.Native.Nat.{ℕ, _<_, _^_}
 use mathlib.Core.Path.{_≡_, refl, sym, ap, subst, _∙_}
 use mathlib.Core.Bool.{true, _&&_}
-use mathlib.Core.Logic.{_↔_, ∥∥₁-map}
+use mathlib.Core.Logic.{_↔_, ∥∥₁-elim}
 use native.Mathlib.Omega.{arith}
 use lib.Dec.{T, eqb, eqb→eq, eqb-refl, lt→ltb}
 use Rattle.bits.specs.Bit.{bit, bit-none}
 use Rattle.types.specs.Types.{Attrs, Assignment, IsAssignment, Finite, ordinary, column, holders}
+use Rattle.types.specs.Laws.{finite-by, finite-prop}
 use Rattle.formulas.specs.Formula.{Formula, Fits, Grounded, isVariable}
 use Rattle.formulas.specs.Instantiation.{Instantiation, InImage, InOutput, HasImage, HasOutput}
 use Rattle.formulas.specs.Truth.{is-false, by-true, by-false, test-same, both, left, right}
@@ -34,10 +35,9 @@ module _ (F : Formula) (ground : Grounded F) (A : Assignment) (types : IsAssignm
   in-column a c e = fits-at F A t a c (holders (F .relations) A a) e refl .0 (fits a)
 
   held-finite : (s : ℕ) → 0 < s → Finite (heldBy (F .relations) A s)
-  unfolding Finite
   held-finite s some =
-      ∥∥₁-map (bounded (F .relations) A types)
-      λ b. (b .0, λ a h. is-false _ λ l. omega (arith, held (F .relations) A s a l, holders-none (F .relations) A a (b .1 a h)))
+      ∥∥₁-elim (bounded (F .relations) A types) (finite-prop (heldBy (F .relations) A s))
+      λ b. finite-by (b .0) (λ a h. is-false _ λ l. omega (arith, held (F .relations) A s a l, holders-none (F .relations) A a (b .1 a h)))
 
   pub instance : Instantiation F
   instance =

@@ -1,18 +1,18 @@
 -- The kinds of attributes, their columns, and the subset of the relations that hold an attribute.
 use Prim.Native.Nat.{ℕ, zero, suc, _+_, _≤_, _<_, _^_}
-use mathlib.Core.Path.{_≡_, sym, ap, _∙_}
-use mathlib.Core.Bool.{Bool, true, false, cond, _&&_}
+use mathlib.Core.Path.{_≡_, refl, sym, ap, _∙_}
+use mathlib.Core.Bool.{Bool, true, false, _&&_}
 use mathlib.Core.Logic.{_↔_, _⊎_, inl, inr, ∥∥₁-map₂}
 use native.Mathlib.Nat.{eq-or-lt-of-le, le-of-suc-le-suc}
 use native.Mathlib.Omega.{arith}
 use borrow.Author.Tests.{leb-false}
-use lib.Dec.{T, leb, ltb, leb→le, le→leb, ltb→lt, lt→ltb}
+use lib.Dec.{T, ltb, leb→le, ltb→lt, lt→ltb}
 use Rattle.bits.specs.Bit.{bit, bit-none}
-use Rattle.bits.specs.Range.{inRange}
-use Rattle.bits.specs.Pack.{bit-pack, pack-below, bits-once}
+use Rattle.bits.specs.Pack.{bits-once}
 use Rattle.attribute_set.specs.AttrSet.{special}
-use Rattle.attribute_set.specs.Laws.{special-range}
-use Rattle.types.specs.Types.{Attrs, IsType, Assignment, IsAssignment, Finite, ordinary, column, holders}
+use Rattle.attribute_set.specs.Laws.{special-range, special-in}
+use Rattle.types.specs.Types.{Attrs, IsType, Assignment, IsAssignment, ordinary, column, holders}
+use Rattle.types.specs.Laws.{finite-by, finite-bound, column-of-special, column-of-other, holder-bit, holders-few}
 use Rattle.formulas.specs.Formula.{Formula, Fits, isVariable}
 use Rattle.formulas.specs.Truth.{is-true, is-false, by-true, decided, both, left, right}
 use Rattle.formulas.specs.Search.{Below, found, missing, search-below}
@@ -34,11 +34,10 @@ pub data Kind (a : ℕ) : Type 0 where
   isZero : a ≡ 0 → Kind a
 
 neither : (a : ℕ) → (T (special a) → ⊥) → (T (ordinary a) → ⊥) → a ≡ 0
-unfolding special inRange
-neither a k l =
-    let below : a < 16 = leb-false 16 a (is-false (ordinary a) l) in
-    let none : a < 1 = leb-false 1 a (is-false (leb 1 a) λ h. k (both (leb 1 a) (leb a 15) h (le→leb a 15 (omega arith)))) in
-    omega arith
+neither zero k l = refl
+neither (suc a) k l =
+    let below : suc a < 16 = leb-false 16 (suc a) (is-false (ordinary (suc a)) l) in
+    absurd (k (by-true (special-in (suc a) (omega arith) (omega arith))))
 
 pub kind : (a : ℕ) → Kind a
 kind a = go (decided (special a)) (decided (ordinary a))
@@ -50,19 +49,16 @@ kind a = go (decided (special a)) (decided (ordinary a))
 
 -- special attributes alone are a type
 pub special-type : (test : Attrs) → IsType (λ a. special a && test a)
-unfolding Finite
-special-type test = record { positive = none 0 zero-other; finite = ∣ (16, λ a h. none a (λ k. omega (arith, special-bounds a k))) ∣₁ }
+special-type test = record { positive = none 0 zero-other; finite = finite-by 16 (λ a h. none a (λ k. omega (arith, special-bounds a k))) }
   where
     none : (a : ℕ) → (T (special a) → ⊥) → special a && test a ≡ false
     none a k = is-false _ (λ h. k (left (special a) (test a) h))
 
 pub column-special : (a : ℕ) → T (special a) → column a ≡ a
-unfolding column
-column-special a h = ap (λ (b : Bool). cond b a 0) (is-true (special a) h)
+column-special a h = column-of-special a (is-true (special a) h)
 
 pub column-other : (a : ℕ) → (T (special a) → ⊥) → column a ≡ 0
-unfolding column
-column-other a h = ap (λ (b : Bool). cond b a 0) (is-false (special a) h)
+column-other a h = column-of-other a (is-false (special a) h)
 
 pub column-below : (a : ℕ) → column a < 16
 column-below a = go (decided (special a))
@@ -74,12 +70,10 @@ column-below a = go (decided (special a))
 -- ---- holders
 
 pub holders-bit : (m : ℕ) (A : Assignment) (a r : ℕ) → r < m → bit (holders m A a) r ≡ A r a
-unfolding holders
-holders-bit m A a r h = bit-pack m (λ r. A r a) r h
+holders-bit = holder-bit
 
 pub holders-below : (m : ℕ) (A : Assignment) (a : ℕ) → holders m A a < 2 ^ m
-unfolding holders
-holders-below m A a = pack-below m (λ r. A r a)
+holders-below = holders-few
 
 pub holders-is : (m : ℕ) (A : Assignment) (a s : ℕ) → s < 2 ^ m → ((r : ℕ) → r < m → A r a ≡ bit s r) → holders m A a ≡ s
 holders-is m A a s h e = bits-once m (holders m A a) s (holders-below m A a) h (λ r below. holders-bit m A a r below ∙ e r below)
@@ -97,10 +91,9 @@ member m s some below = go (search-below m (bit s))
 
 -- from some attribute on no relation has any
 pub bounded : (m : ℕ) (A : Assignment) → IsAssignment m A → ∥ ((bound : ℕ) × ((a : ℕ) → bound ≤ a → (r : ℕ) → r < m → A r a ≡ false)) ∥₁
-unfolding Finite
 bounded zero A types = ∣ (0, λ a h r below. absurd (omega arith)) ∣₁
 bounded (suc m) A types =
-    ∥∥₁-map₂ (bounded m A (λ r below. types r (omega arith))) (types m (omega arith) .finite)
+    ∥∥₁-map₂ (bounded m A (λ r below. types r (omega arith))) (finite-bound (types m (omega arith) .finite))
     λ x y. (x .0 + y .0, λ a h r below. pick a r (x .1 a (omega arith) r) (y .1 a (omega arith)) (eq-or-lt-of-le (le-of-suc-le-suc below)))
   where
     pick : (a r : ℕ) → (r < m → A r a ≡ false) → A m a ≡ false → (r ≡ m) ⊎ (r < m) → A r a ≡ false
