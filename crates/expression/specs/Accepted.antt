@@ -10,7 +10,7 @@ use lib.ListN.{length, getD, take, drop}
 use lib.Seq.{length-take-le}
 use Rattle.bits.specs.Range.{inRange, in-range}
 use Rattle.refusal.specs.declared.Refusal.{Refusal}
-use Rattle.refusal.specs.Chain.{refuse}
+use Rattle.refusal.specs.Chain.{refuse, refuse-has, refuse-past}
 use Rattle.refusal.specs.Number.{numberOf}
 use Rattle.expression.specs.declared.nodes.Node.{Node}
 use Rattle.expression.specs.declared.reader.Reading.{Reading}
@@ -29,9 +29,7 @@ pub record Counts (file : List ℕ) (m n : ℕ) : Type 0 where
   pub nodes : (1 ≤ n) × (n ≤ 64)
 
 passed : (t : Bool) (r : Refusal) {next : Acceptance} {m n : ℕ} → refuse Refused t r next ≡ Accepted m n → (t ≡ false) × (next ≡ Accepted m n)
-unfolding refuse
-passed true r e = absurd (let z : _≡_ {A = ℕ} 0 1 = cc in omega arith)
-passed false r e = (refl, e)
+passed t r {next} = refuse-past Refused t r next (λ e. let z : _≡_ {A = ℕ} 0 1 = cc in omega arith)
 
 pub header-counts : (file : List ℕ) (m n : ℕ) → header file ≡ Accepted m n → Counts file m n
 unfolding header
@@ -128,9 +126,7 @@ data SmallNumber : Acceptance → Type 0 where
   refused : {r : Refusal} → numberOf r ≤ 10 → SmallNumber (Refused r)
 
 small-refuse : (t : Bool) (r : Refusal) {next : Acceptance} → numberOf r ≤ 10 → SmallNumber next → SmallNumber (refuse Refused t r next)
-unfolding refuse
-small-refuse true r h s = refused h
-small-refuse false r h s = s
+small-refuse t r {next} h s = refuse-has SmallNumber Refused t r next (refused h) (λ e. s)
 
 small-header : (file : List ℕ) → SmallNumber (header file)
 unfolding header

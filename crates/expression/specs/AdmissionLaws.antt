@@ -6,7 +6,7 @@ use mathlib.Core.List.{List}
 use native.Mathlib.Omega.{arith}
 use borrow.Author.Tests.{lt-ltb, le-ltb, le-leb, lt-leb, leb-true, leb-false, ltb-false}
 use lib.Dec.{ltb, leb, lit≤}
-use Rattle.refusal.specs.Chain.{refuse}
+use Rattle.refusal.specs.Chain.{refuse-stops, refuse-passes, refuse-past}
 use Rattle.refusal.specs.Number.{numberOf}
 use Rattle.refusal.specs.declared.Refusal.{Refusal}
 use Rattle.refusal.specs.declared.Refusal.the-variants.{NodeNumber, ResultSlice}
@@ -24,24 +24,24 @@ module _ (a : Acceptance) (test : ℕ → Bool) (q : Refusal) where
   tested-refused e = rw e
 
   pub tested-stops : {m n : ℕ} → a ≡ Accepted m n → test n ≡ true → tested a test q ≡ Refused q
-  unfolding tested refuse
-  tested-stops e t = rw (e, t)
+  unfolding tested
+  tested-stops {m} {n} e t = rw e (refuse-stops Refused (test n) q (Accepted m n) t)
 
   pub tested-passes : {m n : ℕ} → a ≡ Accepted m n → test n ≡ false → tested a test q ≡ Accepted m n
-  unfolding tested refuse
-  tested-passes e t = rw (e, t)
+  unfolding tested
+  tested-passes {m} {n} e t = rw e (refuse-passes Refused (test n) q (Accepted m n) t)
 
   pub passed : {m n : ℕ} → tested a test q ≡ Accepted m n → (a ≡ Accepted m n) × (test n ≡ false)
-  unfolding tested refuse
+  unfolding tested
   passed {m} {n} = go a
     where
       go : (b : Acceptance) → tested b test q ≡ Accepted m n → (b ≡ Accepted m n) × (test n ≡ false)
       go (Refused r) e = absurd (let z : _≡_ {A = ℕ} 0 1 = cc in omega arith)
-      go (Accepted m′ n′) e = fits (test n′) refl e
-        where
-          fits : (t : Bool) → test n′ ≡ t → refuse Refused t q (Accepted m′ n′) ≡ Accepted m n → (Accepted m′ n′ ≡ Accepted m n) × (test n ≡ false)
-          fits true is e = absurd (let z : _≡_ {A = ℕ} 0 1 = cc in omega arith)
-          fits false is e = (e, (let same : n ≡ n′ = cc in ap test same ∙ is))
+      go (Accepted m′ n′) e =
+          let past = refuse-past Refused (test n′) q (Accepted m′ n′) (λ r. let z : _≡_ {A = ℕ} 0 1 = cc in omega arith) e in
+          let is : Accepted m′ n′ ≡ Accepted m n = past .1 in
+          let same : n ≡ n′ = cc in
+          (is, ap test same ∙ past .0)
 
 -- ---- 13
 

@@ -9,7 +9,7 @@ use borrow.Author.Tests.{le-ltb}
 use lib.ListN.{length, take, drop, length-drop, take-append-drop}
 use lib.Seq.{length-take-le, take-all, drop-append-le}
 use Rattle.bits.specs.Range.{inRange}
-use Rattle.refusal.specs.Chain.{refuse}
+use Rattle.refusal.specs.Chain.{refuse, refuse-stops, refuse-passes}
 use Rattle.refusal.specs.declared.Refusal.the-variants.{HeaderTruncated, RelationCount, NodeCount, NodeTruncated, NodeMap}
 use Rattle.expression.specs.declared.reader.Reading.{Reading}
 use Rattle.expression.specs.declared.reader.Reading.the-variants.{Read, Refused as NodeRefused}
@@ -33,20 +33,15 @@ five-fields m k map x y z u v r =
     (ap (λ (t : Bool). refuse NodeRefused t NodeTruncated (judge m k 34 (x ∷ y ∷ z ∷ u ∷ v ∷ []) (fieldsOf 34) (nodeWith 34 (valueOf 34 (x ∷ y ∷ z ∷ u ∷ v ∷ [])) 3))) (le-ltb (length (x ∷ y ∷ z ∷ u ∷ v ∷ r)) 3 (omega arith)))
 
 five-bytes : (m k x y z u v : ℕ) (r : List ℕ) → readNode m k (x ∷ y ∷ z ∷ u ∷ v ∷ r) ≡ readNode m k (x ∷ y ∷ z ∷ u ∷ v ∷ [])
-unfolding readNode refuse
+unfolding readNode
 five-bytes m k x y z u v r =
-    ap (λ (t : Bool). refuse NodeRefused t NodeTruncated (refuse NodeRefused (not (legal x)) NodeMap (readFields m k x (x ∷ y ∷ z ∷ u ∷ v ∷ r)))) (le-ltb (length (x ∷ y ∷ z ∷ u ∷ v ∷ r)) 1 (omega arith))
-    ∙ ap (λ (n : Reading). refuse NodeRefused false NodeTruncated n) (go (legal x) refl)
+    refuse-passes _ _ _ _ (le-ltb (length (x ∷ y ∷ z ∷ u ∷ v ∷ r)) 1 (omega arith))
+    ∙ go (legal x) refl
+    ∙ sym (refuse-passes _ _ _ _ (le-ltb (length (x ∷ y ∷ z ∷ u ∷ v ∷ [])) 1 (omega arith)))
   where
-    refused : (p q : Reading) → refuse NodeRefused true NodeMap p ≡ refuse NodeRefused true NodeMap q
-    refused p q = refl
-
     go : (t : Bool) → legal x ≡ t → refuse NodeRefused (not (legal x)) NodeMap (readFields m k x (x ∷ y ∷ z ∷ u ∷ v ∷ r)) ≡ refuse NodeRefused (not (legal x)) NodeMap (readFields m k x (x ∷ y ∷ z ∷ u ∷ v ∷ []))
     go true e = ap (λ (n : Reading). refuse NodeRefused (not (legal x)) NodeMap n) (five-fields m k x x y z u v r e)
-    go false e =
-        ap (λ (t : Bool). refuse NodeRefused (not t) NodeMap (readFields m k x (x ∷ y ∷ z ∷ u ∷ v ∷ r))) e
-        ∙ refused (readFields m k x (x ∷ y ∷ z ∷ u ∷ v ∷ r)) (readFields m k x (x ∷ y ∷ z ∷ u ∷ v ∷ []))
-        ∙ sym (ap (λ (t : Bool). refuse NodeRefused (not t) NodeMap (readFields m k x (x ∷ y ∷ z ∷ u ∷ v ∷ []))) e)
+    go false e = refuse-stops _ _ _ _ (ap not e) ∙ sym (refuse-stops _ _ _ _ (ap not e))
 
 node-enough : (m k : ℕ) (a b : List ℕ) → 5 ≤ length a → readNode m k (a ++ b) ≡ readNode m k a
 node-enough m k (x ∷ y ∷ z ∷ u ∷ v ∷ r) b h = five-bytes m k x y z u v (r ++ b) ∙ sym (five-bytes m k x y z u v r)

@@ -11,7 +11,7 @@ use Rattle.bits.specs.Bit.{bit}
 use Rattle.attribute_set.specs.AttrSet.{special}
 use Rattle.attribute_set.specs.Laws.{Clear, clear-set}
 use Rattle.refusal.specs.Number.{numberOf}
-use Rattle.refusal.specs.Chain.{refuse}
+use Rattle.refusal.specs.Chain.{refuse, refuse-has}
 use Rattle.refusal.specs.declared.Refusal.{Refusal}
 use Rattle.expression.specs.declared.nodes.BinaryOp.{BinaryOp}
 use Rattle.expression.specs.declared.nodes.SetOp.{SetOp}
@@ -61,9 +61,7 @@ module _ (m k : ℕ) (bytes : List ℕ) where
   -- ---- what holds of each end of a chain of refusals holds of the chain
 
   by-refuse : (t : Bool) (r : Refusal) {next : Reading} → numberOf r ≤ 10 → (t ≡ false → Judged m k bytes next) → Judged m k bytes (refuse Refused t r next)
-  unfolding refuse
-  by-refuse true r h f = refused h
-  by-refuse false r h f = f refl
+  by-refuse t r {next} h f = refuse-has (Judged m k bytes) Refused t r next (refused h) f
 
   by-binary : (b : BinaryCode) {next : BinaryOp → Reading} → ((op : BinaryOp) → Judged m k bytes (next op)) → Judged m k bytes (withBinary b next)
   unfolding withBinary
