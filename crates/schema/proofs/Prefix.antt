@@ -1,6 +1,6 @@
 -- The records of the relations before r, written to the front of a slice: one record more, and the whole.
 use Prim.Native.Nat.{ℕ, _+_, _-_, _*_, _≤_, _<_}
-use mathlib.Core.Path.{_≡_, refl, sym, ap, _∙_}
+use mathlib.Core.Path.{_≡_, sym, ap, _∙_}
 use mathlib.Core.List.{List, [], _∷_, _++_, append-assoc, append-nil}
 use native.Mathlib.Numerals.{add-one}
 use native.Mathlib.Omega.{arith}
@@ -8,7 +8,7 @@ use borrow.Rule.Slice.PartMut.{putMid, midOf}
 use lib.ListN.{length, getD, take, length-append}
 use lib.Seq.{length-take-le}
 use Rattle.bits.specs.Part.{over-more}
-use Rattle.bits.specs.Tab.{tab, tab-more, over, over-length}
+use Rattle.bits.specs.Tab.{tab-none, tab-more, over, over-none, over-length}
 use Rattle.type_record.specs.Record.{TypeRecord, recordSize, recordBytes}
 use Rattle.type_record.specs.RecordBytes.{size-most, record-length}
 use Rattle.membership.specs.declared.holders.Held.{Held}
@@ -38,9 +38,18 @@ pub record Prefix (m : ℕ) (special es old out : List ℕ) (at r : ℕ) : Type 
   pub size : at ≡ length (schemaBytes (recordsOf r special es))
   pub written : out ≡ over (schemaBytes (recordsOf r special es)) old
 
+bytes-none : (special es : List ℕ) → schemaBytes (recordsOf 0 special es) ≡ []
+unfolding schemaBytes recordsOf
+bytes-none special es = ap schemaBytes (tab-none (λ r. record { map = getD special r 0; ordinary = heldBy r es }))
+
 pub prefix-first : (m : ℕ) (special es old : List ℕ) → Prefix m special es old old 0 0
-unfolding over schemaBytes recordsOf tab
-prefix-first m special es old = record { upTo = omega arith; most = omega arith; size = refl; written = refl }
+prefix-first m special es old =
+    record {
+      upTo = omega arith;
+      most = omega arith;
+      size = sym (ap length (bytes-none special es));
+      written = sym (ap (λ (b : List ℕ). over b old) (bytes-none special es) ∙ over-none old);
+    }
 
 pub items-fit : {special items : List ℕ} {count : ℕ} → WritesFrom special items count → ItemsFit items count
 items-fit w = let size = w .size in let few = w .few in record { enough = omega arith; below = w .below }

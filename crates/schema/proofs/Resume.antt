@@ -6,7 +6,7 @@ use native.Mathlib.Nat.{sub-zero}
 use native.Mathlib.Decide.{decLt}
 use native.Mathlib.Omega.{arith}
 use borrow.Author.Tests.{lt-ltb, le-ltb}
-use lib.ListN.{length, set, take, drop, length-append, length-drop, drop-of-length-le}
+use lib.ListN.{length, set, take, drop, replicate, length-append, length-drop, drop-of-length-le}
 use lib.Seq.{drop-drop, drop-cons, getD-drop}
 use Rattle.bits.specs.Bit.{shifted-one}
 use Rattle.bits.specs.Part.{part-from}
@@ -16,17 +16,17 @@ use Rattle.refusal.specs.declared.Refusal.{Refusal}
 use Rattle.refusal.specs.declared.Refusal.the-variants.{InputFollowed, TooManyAttributes}
 use Rattle.type_record.specs.declared.records.RecordReading.{RecordReading}
 use Rattle.type_record.specs.declared.records.RecordReading.the-variants.{Read as RecordRead, Refused as RecordRefused}
-use Rattle.type_record.specs.Lists.{listed}
+use Rattle.type_record.specs.ListLaws.{listed-tab}
 use Rattle.type_record.specs.Record.{TypeRecord, readRecord, recordSize, recordAt}
 use Rattle.type_record.specs.RecordBytes.{size-some, size-most}
-use Rattle.type_record.specs.RecordReading.{ReadRecord, record-read}
+use Rattle.type_record.specs.RecordReading.{ReadRecord, record-map, record-ordinary, record-read}
 use Rattle.membership.specs.declared.merging.Entries.{Entries}
 use Rattle.membership.specs.Entries.{enter, tableOf, Table, ListFits}
 use Rattle.membership.specs.TableLaws.{is-table, enter-table, table-count, table-full}
 use Rattle.schema.specs.declared.reading.Judgement.the-variants.{Read}
 use Rattle.schema.specs.Schema.{recordsRead, follow, atEnd, readRecords, entriesOf, mapsOf, tabled, refusedSchema, schemaReading}
 use Rattle.schema.specs.RecordsLaws.{AllRecords}
-use Rattle.schema.specs.EntriesLaws.{entries-below}
+use Rattle.schema.specs.EntriesLaws.{entries-below, maps-none}
 use Rattle.schema.proofs.More.{precedeAll, precede-more, precede-refused, precede-none, all-more, entries-more, maps-more}
 
 pub record Resumed (m : ℕ) (bytes special : List ℕ) (entries : Entries) (at r : ℕ) : Type 0 where
@@ -40,7 +40,7 @@ pub record Resumed (m : ℕ) (bytes special : List ℕ) (entries : Entries) (at 
   pub table : entries ≡ tableOf (entriesOf done)
   pub rest : readRecords m bytes ≡ precedeAll done (readRecords (m - r) (drop at bytes))
 
-pub resumed-start : (m : ℕ) (bytes : List ℕ) (entries : Entries) → entries ≡ tableOf [] → Resumed m bytes (mapsOf []) entries 0 0
+pub resumed-start : (m : ℕ) (bytes : List ℕ) (entries : Entries) → entries ≡ tableOf [] → Resumed m bytes (replicate 8 0) entries 0 0
 unfolding entriesOf
 resumed-start m bytes entries e =
     record {
@@ -49,7 +49,7 @@ resumed-start m bytes entries e =
       all = tt;
       most = omega arith;
       inside = omega arith;
-      maps = refl;
+      maps = sym maps-none;
       table = e;
       rest = ap (λ (n : ℕ). readRecords n bytes) (sym (sub-zero m));
     }
@@ -104,8 +104,8 @@ module _ {m : ℕ} {bytes special : List ℕ} {entries : Entries} {at r : ℕ} (
     entered = tableOf (enter (1 * 2 ^ r % 256) (tab n (λ x. word (take (length bytes - (at + 2)) (drop (at + 2) bytes)) (x * 2 + 1))) (take (entries .count) (entries .items)))
 
     listed-is : tab n (λ x. word (take (length bytes - (at + 2)) (drop (at + 2) bytes)) (x * 2 + 1)) ≡ recordAt (drop at bytes) map n .ordinary
-    unfolding recordAt listed
-    listed-is = rw (part-from bytes (at + 2), drop-drop 2 at bytes)
+    listed-is =
+        rw (part-from bytes (at + 2), record-ordinary (drop at bytes) map n, drop-drop 2 at bytes) (sym (listed-tab (drop (at + 2) bytes) n))
 
     entered-is : r < m → entered ≡ tableOf (entriesOf (h .done ++ (recordAt (drop at bytes) map n ∷ [])))
     entered-is more =
@@ -113,10 +113,10 @@ module _ {m : ℕ} {bytes special : List ℕ} {entries : Entries} {at r : ℕ} (
         (enter-table (2 ^ r) (recordAt (drop at bytes) map n .ordinary) (entriesOf (h .done)))
 
     maps-is : r < m → set special r map ≡ mapsOf (h .done ++ (recordAt (drop at bytes) map n ∷ []))
-    unfolding recordAt
     maps-is more =
         let c = h .count in
-        rw (h .maps, ← c) (maps-more (recordAt (drop at bytes) map n) (h .done) (omega arith))
+        ap (set special r) (sym (record-map (drop at bytes) map n))
+        ∙ rw (h .maps, ← c) (maps-more (recordAt (drop at bytes) map n) (h .done) (omega arith))
 
     pub resumed-next : {next : Entries} {size : ℕ} → r < m → next ≡ entered → size ≡ recordSize n → Resumed m bytes (set special r map) next (at + size) (r + 1)
     resumed-next more next-is size-is =

@@ -7,11 +7,11 @@ use native.Mathlib.Nat.{sub-zero}
 use native.Mathlib.Omega.{arith}
 use borrow.Author.Tests.{le-leb, lt-leb, eq-eqb, ne-eqb}
 use lib.Dec.{leb, eqb}
-use lib.ListN.{length, getD}
+use lib.ListN.{length, getD, replicate}
 use lib.Pow.{pow-lt}
 use Rattle.bits.specs.Bit.{bit, bit-none, bit-power}
 use Rattle.bits.specs.Rising.{member, rising-once}
-use Rattle.bits.specs.Tab.{getD-tab, tab-is}
+use Rattle.bits.specs.Tab.{tab-same, getD-tab, tab-is}
 use Rattle.type_record.specs.Record.{TypeRecord}
 use Rattle.type_record.specs.RecordBytes.{IsRecord}
 use Rattle.membership.specs.Entries.{holdersIn, enter}
@@ -81,6 +81,11 @@ entries-holders ts fits all a r h =
     ∙ rw (le-leb 0 r (omega arith), sub-zero r, bit-none r) (or-false (member a (getD ts r noRecord .ordinary)))
 
 -- ---- the records that a table was made of
+
+-- no records have empty maps
+pub maps-none : mapsOf [] ≡ replicate 8 0
+unfolding mapsOf
+maps-none = tab-same 8 0
 
 all-at : (ts : List TypeRecord) → AllRecords ts → (r : ℕ) → r < length ts → IsRecord (getD ts r noRecord)
 all-at [] all r h = absurd (omega arith)

@@ -10,7 +10,7 @@ use Rattle.type_record.specs.declared.records.RecordReading.{RecordReading}
 use Rattle.type_record.specs.declared.records.RecordReading.the-variants.{Read as RecordRead, Refused as RecordRefused}
 use Rattle.type_record.specs.Record.{TypeRecord, readRecord, recordSize, recordAt, recordBytes}
 use Rattle.type_record.specs.RecordBytes.{IsRecord, size-most, record-length}
-use Rattle.type_record.specs.RecordReading.{record-read}
+use Rattle.type_record.specs.RecordReading.{record-map, record-read}
 use Rattle.type_record.specs.RecordRoundTrip.{read-written, written-read, written-record}
 use Rattle.type_record.specs.RecordTypes.{type-once}
 use Rattle.schema.specs.Schema.{Records, recordsRefused, recordsRead, precede, follow, atEnd, readRecords, schemaBytes, assignmentOf}
@@ -63,12 +63,12 @@ records-read (suc m) bytes ts below e =
 
 -- writing what was read gives the same bytes
 pub records-written : (m : ℕ) (bytes : List ℕ) (ts : List TypeRecord) → Bytes bytes → readRecords m bytes ≡ recordsRead ts → schemaBytes ts ≡ bytes
-unfolding readRecords schemaBytes recordAt
+unfolding readRecords schemaBytes
 records-written zero bytes ts below e = let none = ended bytes ts e in rw (none .0, none .1)
 records-written (suc m) bytes ts below e =
     let f = first m bytes ts e in
     let size = recordSize (f .count) in
-    rw (f .is)
+    rw (f .is, record-map bytes (f .map) (f .count))
     (ap₂ _++_ (read-written bytes (f .map) (f .count) below (f .reading)) (records-written m (drop size bytes) (f .others) (bytes-after size bytes below) (f .rest))
     ∙ take-append-drop size bytes)
 

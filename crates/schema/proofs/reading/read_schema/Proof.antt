@@ -1,8 +1,6 @@
 use Prim.Native.Nat.{_-_}
 use mathlib.Core.Path.{sym, _∙_}
 use native.Mathlib.Omega.{arith}
-use Rattle.bits.specs.Tab.{tab}
-use Rattle.schema.specs.Schema.{mapsOf}
 use Rattle.schema.proofs.Resume.{Resumed, resumed-start, is-entries, resumed-refused, record-fits, list-fits, resumed-next, resumed-followed, resumed-over, resumed-end}
 use borrow.Author.Needs.{needs}
 use Rattle.schema.proofs.reading.read_schema.Statement.{statement}
@@ -18,7 +16,6 @@ no-entries-requires : tie.Need-no-entries-requires Inv-loop μ-loop
 no-entries-requires c κs = search needs
 
 loop-holds : tie.Need-loop-holds Inv-loop μ-loop
-unfolding mapsOf tab
 loop-holds c =
     let args = c .before .before .args in
     resumed-start (args .m) (args .bytes .now) (c .no-entries .result) (c .no-entries .ensures)
