@@ -9,7 +9,7 @@ use lib.Bits.{bitOr, or-lt}
 use lib.Dec.{lit<}
 use lib.ListN.{length, getD, take, replicate, length-take, length-replicate, getD-replicate, List·getD-eq-default}
 use lib.Seq.{take-nil, take-take, take-all, getD-take, ext-getD, length-take-le}
-use Rattle.bits.specs.Tab.{tab, length-tab, getD-tab, tab-is, over, over-length, over-front, over-back}
+use Rattle.bits.specs.Tab.{tab, length-tab, getD-tab, tab-is, over, over-none, over-length, over-front, over-back}
 use Rattle.membership.specs.Entries.{entry, attributeOf, enter, tableOf, Table}
 use Rattle.membership.specs.EnterLaws.{enter-lower, enter-higher, enter-equal, Order, lower, higher, equal, order}
 
@@ -92,6 +92,10 @@ table-over es most =
     each : (i : ℕ) → i < 256 → Dec (i < length es) → getD (over es (replicate 256 0)) i 0 ≡ getD es i 0
     each i h (yes inside) = over-front es (replicate 256 0) i 0 inside
     each i h (no past) = over-back es (replicate 256 0) i 0 (omega arith) ∙ getD-replicate {A = ℕ} 256 i 0 0 h ∙ sym (List·getD-eq-default es 0 {n = i} (omega arith))
+
+-- no entries
+pub table-none : record { count = 0; items = replicate 256 0 } ≡ tableOf []
+table-none = ap (λ (l : List ℕ). record { count = 0; items = l }) (sym (over-none (replicate 256 0))) ∙ table-over [] (omega arith)
 
 -- ---- entries below 2 ^ 24
 
