@@ -8,10 +8,10 @@ use native.Mathlib.Nat.{min-le-left, min-le-right}
 use native.Mathlib.Omega.{arith}
 use lib.ListN.{length, getD, set, take, length-take, length-append, List·getD-eq-default}
 use lib.Seq.{getD-take, take-append-add, length-take-le}
-use Rattle.bits.specs.Tab.{tab, length-tab, getD-tab, tab-is, over, over-length, over-front, over-back}
+use Rattle.bits.specs.Tab.{tab, map-tab, length-tab, getD-tab, over, over-length, over-front, over-back}
 use Rattle.membership.specs.declared.merging.Entries.{Entries}
 use Rattle.membership.specs.Entries.{entry, tableOf}
-use Rattle.membership.specs.TableLaws.{table-entries, table-size, table-item}
+use Rattle.membership.specs.TableLaws.{table-made, table-entries, table-size, table-item}
 use Rattle.entry_sorting.specs.Appending.{Appending, appending-none, appending-more, appending-end}
 use Rattle.instantiation.specs.Gathering.{appended}
 
@@ -26,14 +26,9 @@ pub record Adding (more : List ℕ) (k : ℕ) (old out : List ℕ) (at i : ℕ) 
 pub adding-none : (more : List ℕ) (k : ℕ) (old : List ℕ) → k ≤ length old → Adding more k old old k 0
 adding-none more k old fits = record { place = omega arith; upTo = omega arith; written = appending-none (take (256 - k) more) k old fits }
 
-map-tab : (n s : ℕ) (f : ℕ → ℕ) → map (λ a. entry a s) (tab n f) ≡ tab n (λ x. entry (f x) s)
-unfolding tab
-map-tab zero s f = refl
-map-tab (suc n) s f = ap (λ (l : List ℕ). entry (f 0) s ∷ l) (map-tab n s (λ x. f (suc x)))
-
 module _ (n s : ℕ) (f : ℕ → ℕ) {k : ℕ} {old out : List ℕ} {at i : ℕ} (most : k ≤ 256) (size : length old ≡ 256) (h : Adding (map (λ a. entry a s) (tab n f)) k old out at i) where
   all : length (map (λ a. entry a s) (tab n f)) ≡ n
-  all = ap length (map-tab n s f) ∙ length-tab n (λ x. entry (f x) s)
+  all = ap length (map-tab (λ a. entry a s) n f) ∙ length-tab n (λ x. entry (f x) s)
 
   -- there is room
   pub adding-room : at < 256 → at < length out
@@ -51,7 +46,7 @@ module _ (n s : ℕ) (f : ℕ → ℕ) {k : ℕ} {old out : List ℕ} {at i : �
             appending-more (h .written) (x * 256 + s) (adding-room room) (rw (here, length-take) (inside (256 - k) (length (map (λ a. entry a s) (tab n f))) (omega arith) (omega arith)))
             (rw here
             (getD-take (256 - k) (map (λ a. entry a s) (tab n f)) i 0 (omega arith)
-            ∙ ap (λ (l : List ℕ). getD l i 0) (map-tab n s f)
+            ∙ ap (λ (l : List ℕ). getD l i 0) (map-tab (λ a. entry a s) n f)
             ∙ getD-tab n (λ x. entry (f x) s) i 0 more
             ∙ ap (λ (a : ℕ). entry a s) (sym is)));
       }
@@ -97,10 +92,9 @@ module _ {k : ℕ} {items : List ℕ} (es more : List ℕ) (table : record { cou
       ∙ front-more 256 es more
 
   pub appended-table : {r : ℕ} {out : List ℕ} → r ≡ length (appended k more items) → out ≡ over (appended k more items) items → record { count = r; items = out } ≡ tableOf (es ++ more)
-  unfolding tableOf
   appended-table {r} {out} r-is out-is =
-      ap₂ (λ (c : ℕ) (l : List ℕ). record { count = c; items = l }) (r-is ∙ ap length appended-is)
-      (out-is ∙ ap (λ (l : List ℕ). over l items) appended-is ∙ tab-is 256 (λ i. getD (es ++ more) i 0) 0 (over (take 256 (es ++ more)) items) size (λ i h. each i h (decLt i (length (take 256 (es ++ more))))))
+      ap (λ (l : List ℕ). record { count = r; items = l }) (out-is ∙ ap (λ (l : List ℕ). over l items) appended-is)
+      ∙ table-made (es ++ more) (r-is ∙ ap length appended-is) size (λ i h. each i h (decLt i (length (take 256 (es ++ more)))))
     where
       length-items : length items ≡ 256
       length-items = ap length items-are ∙ table-size es

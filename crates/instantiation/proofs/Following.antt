@@ -8,7 +8,7 @@ use native.Mathlib.Omega.{arith}
 use lib.ListN.{length, getD, set, take, drop, length-set, length-drop}
 use lib.Seq.{ext-getD, getD-set-same, getD-set-other, length-take-le}
 use Rattle.bits.specs.Part.{at-head}
-use Rattle.bits.specs.Tab.{over, over-is}
+use Rattle.bits.specs.Tab.{over, over-none, over-is}
 use Rattle.bits.specs.Written.{Written, written-more}
 use Rattle.entry_sorting.specs.Chains.{hasDigit, Chained}
 use Rattle.entry_sorting.specs.ChainLaws.{next-is, link-next}
@@ -47,8 +47,7 @@ written-word v l old out n a fits is w =
     rw end (written-more (listByte v l) (n * 2 + 2) old (set out (n * 2 + 1) (a % 256)) (a / 256) (omega arith) low (ap (λ (x : ℕ). x / 256) is ∙ sym (byte-high v l n)))
 
 written-empty : (l old out : List ℕ) → length l ≡ 0 → Written (listByte (getD old 0 0) l) 1 old out → (0 ≡ length (listBytes l)) × (out ≡ over (listBytes l) old)
-unfolding over
-written-empty [] old out none w = (refl, ext-getD 0 out old (w .size) (λ i h. each i))
+written-empty [] old out none w = (refl, ext-getD 0 out old (w .size) (λ i h. each i) ∙ sym (over-none old))
   where
     each : (i : ℕ) → getD out i 0 ≡ getD old i 0
     each zero = w .front 0 (omega arith)

@@ -1,16 +1,16 @@
 -- A list that is being marked: i of its n attributes are.
-use Prim.Native.Nat.{ℕ, zero, suc, _+_, _-_, _*_, _/_, _%_, _^_, _≤_, _<_}
+use Prim.Native.Nat.{ℕ, suc, _+_, _-_, _*_, _/_, _%_, _^_, _≤_, _<_}
 use mathlib.Core.Path.{_≡_, refl, sym, ap, _∙_}
 use mathlib.Core.Bool.{Bool, false, _||_, or-assoc, or-false}
-use mathlib.Core.List.{List, [], _∷_, _++_}
-use native.Mathlib.Nat.{add-zero, zero-add, sub-zero}
+use mathlib.Core.List.{List, [], _∷_}
+use native.Mathlib.Nat.{zero-add, sub-zero}
 use native.Mathlib.Numerals.{add-one}
 use native.Mathlib.Omega.{arith}
 use lib.Bits.{bitOr}
 use lib.Dec.{eqb}
 use lib.ListN.{length, getD, length-set}
 use Rattle.bits.specs.Rising.{member, member-append}
-use Rattle.bits.specs.Tab.{tab}
+use Rattle.bits.specs.Tab.{tab, tab-none, tab-from, tab-more}
 use Rattle.instantiation.specs.Seen.{repeatedIn, seenIn, Marked}
 use Rattle.instantiation.specs.SeenLaws.{repeated-same, withMark, mark-one}
 
@@ -22,29 +22,13 @@ pub record Marking (n : ℕ) (f : ℕ → ℕ) (before now : List ℕ) (repeated
   pub rest : repeatedIn (seenIn before) (tab n f) ≡ repeated || repeatedIn (seenIn now) (tab (n - i) (λ j. f (i + j)))
 
 pub marking-first : (n : ℕ) (f : ℕ → ℕ) (before : List ℕ) → Marking n f before before false 0
-unfolding tab
 marking-first n f before =
     record {
       most = omega arith;
       size = refl;
-      marks = λ a. sym (or-false (seenIn before a));
+      marks = λ a. sym (ap (λ (l : List ℕ). seenIn before a || member a l) (tab-none f) ∙ or-false (seenIn before a));
       rest = simp (sub-zero, zero-add);
     }
-
-tab-suc : (i : ℕ) (f : ℕ → ℕ) → tab (suc i) f ≡ tab i f ++ (f i ∷ [])
-unfolding tab
-tab-suc zero f = refl
-tab-suc (suc i) f = ap (λ (l : List ℕ). f 0 ∷ l) (tab-suc i (λ j. f (suc j)))
-
-tab-more : (i : ℕ) (f : ℕ → ℕ) → tab (i + 1) f ≡ tab i f ++ (f i ∷ [])
-tab-more i f = rw (add-one i) (tab-suc i f)
-
-tab-split : (left i : ℕ) (f : ℕ → ℕ) → tab (suc left) (λ j. f (i + j)) ≡ f i ∷ tab left (λ j. f (i + 1 + j))
-unfolding tab
-tab-split left i f = simp (add-zero, shift)
-  where
-    shift : (j : ℕ) → i + suc j ≡ i + 1 + j
-    shift j = omega arith
 
 module _ {n : ℕ} {f : ℕ → ℕ} {before now : List ℕ} {repeated : Bool} {i : ℕ} (m : Marking n f before now repeated i) where
   pub marking-next : {x : ℕ} {next : Bool} → i < n → x / 8 < length now → x ≡ f i → next ≡ repeated || seenIn now x → Marking n f before (withMark now x) next (i + 1)
@@ -70,20 +54,19 @@ module _ {n : ℕ} {f : ℕ → ℕ} {before now : List ℕ} {repeated : Bool} {
 
       tab-member : (a : ℕ) → member a (tab (i + 1) f) ≡ member a (tab i f) || eqb a x
       tab-member a =
-          ap (member a) (tab-more i f) ∙ member-append a (tab i f) (f i ∷ [])
+          ap (λ (k : ℕ). member a (tab k f)) (add-one i) ∙ ap (member a) (tab-more i f) ∙ member-append a (tab i f) (f i ∷ [])
           ∙ ap (λ (b : Bool). member a (tab i f) || b) (or-false (eqb a (f i)) ∙ ap (eqb a) (sym x-is))
 
       rest-is : repeatedIn (seenIn now) (tab (n - i) (λ j. f (i + j))) ≡ seenIn now x || to-come
       rest-is =
           let left : n - i ≡ suc (n - (i + 1)) = omega arith in
-          rw (left, tab-split (n - (i + 1)) i f, ← x-is)
+          rw (left, tab-from (n - (i + 1)) i f, ← x-is)
           (ap (λ (b : Bool). seenIn now x || b)
           (repeated-same (λ a. seenIn now a || eqb a x) (seenIn (withMark now x)) (tab (n - (i + 1)) (λ j. f (i + 1 + j))) (λ a. sym (mark-one now x inside a))))
 
   pub marking-end : n ≤ i → (repeated ≡ repeatedIn (seenIn before) (tab n f)) × Marked (tab n f) before now
-  unfolding tab
   marking-end all =
       let most = m .most in
       let none : n - i ≡ 0 = omega arith in
       let same : i ≡ n = omega arith in
-      (sym (m .rest ∙ rw none (or-false repeated)), record { size = m .size; marks = λ a. rw same at (m .marks a) })
+      (sym (m .rest ∙ rw (none, tab-none (λ j. f (i + j))) (or-false repeated)), record { size = m .size; marks = λ a. rw same at (m .marks a) })

@@ -9,7 +9,7 @@ use borrow.Rule.Slice.PartMut.{putMid, midOf, mid-len}
 use lib.ListN.{length, take, length-append}
 use lib.Seq.{length-take-le}
 use Rattle.bits.specs.Part.{over-more}
-use Rattle.bits.specs.Tab.{tab, tab-more, over, over-length}
+use Rattle.bits.specs.Tab.{tab, tab-none, tab-more, over, over-none, over-length}
 use Rattle.entry_sorting.specs.Chains.{Chained}
 use Rattle.instantiation.specs.Instantiation.{withSubset, listsOf, listBytes, listsBytes}
 use Rattle.instantiation.specs.SubsetLaws.{lists-few}
@@ -35,8 +35,13 @@ pub record Prefix (es old out : List ℕ) (at s : ℕ) : Type 0 where
   pub written : out ≡ over (bytesTo s es) old
 
 pub prefix-first : (es old : List ℕ) → Prefix es old old 0 0
-unfolding over tab
-prefix-first es old = record { upTo = omega arith; size = refl; written = refl }
+prefix-first es old =
+    let none = tab-none (λ x. withSubset x es) in
+    record {
+      upTo = omega arith;
+      size = sym (ap (λ (ls : List (List ℕ)). length (listsBytes ls)) none);
+      written = sym (ap (λ (ls : List (List ℕ)). over (listsBytes ls) old) none ∙ over-none old);
+    }
 
 module _ {items : List ℕ} {count : ℕ} {first next old out : List ℕ} {at s : ℕ} (chained : Chained 1 items count first next 0) (fits : 765 ≤ length old) (h : Prefix (take count items) old out at s) where
   few : (n : ℕ) → length (bytesTo n (take count items)) ≤ 765

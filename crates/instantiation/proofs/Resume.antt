@@ -14,10 +14,10 @@ use Rattle.refusal.specs.declared.Refusal.{Refusal}
 use Rattle.type_record.specs.declared.lists.ListReading.{ListReading}
 use Rattle.type_record.specs.declared.lists.ListReading.the-variants.{Listed, Refused as ListRefused}
 use Rattle.type_record.specs.Lists.{readList, listed}
-use Rattle.type_record.specs.ListLaws.{HoldsList, list-holds}
+use Rattle.type_record.specs.ListLaws.{HoldsList, list-holds, listed-tab}
 use Rattle.membership.specs.declared.merging.Entries.{Entries}
 use Rattle.membership.specs.Entries.{entry, tableOf, ListFits}
-use Rattle.membership.specs.TableLaws.{table-few, table-size, table-over}
+use Rattle.membership.specs.TableLaws.{table-few, table-size, table-none}
 use Rattle.instantiation.specs.Instantiation.{standing, follow, precede, readLists, allListed}
 use Rattle.instantiation.specs.Gathering.{listedFrom, appended, refusedLists, gathered}
 use Rattle.instantiation.specs.ReadStep.{read-clear, read-stands}
@@ -39,7 +39,6 @@ pub record Resumed (bytes seen : List ℕ) (repeated : Bool) (items : List ℕ) 
   pub rest : readLists bytes 256 0 (drop 47 bytes) ≡ precedeAll done (readLists bytes (256 - s) s (drop at bytes))
 
 pub resumed-start : (bytes : List ℕ) → 47 ≤ length bytes → Resumed bytes (replicate 8192 0) false (replicate 256 0) 0 47 0
-unfolding over
 resumed-start bytes enough =
     record {
       done = [];
@@ -49,7 +48,7 @@ resumed-start bytes enough =
       size = length-replicate {A = ℕ} 8192 0;
       marks = λ a. marks-none 8192 a;
       repeats = refl;
-      table = table-over [] (omega arith);
+      table = table-none;
       rest = refl;
     }
 
@@ -124,8 +123,7 @@ module _ {bytes seen : List ℕ} {repeated : Bool} {items : List ℕ} {k at s : 
     attributes = tab n (λ x. word (take (length bytes - at) (drop at bytes)) (x * 2 + 1))
 
     attributes-are : attributes ≡ listed n (drop at bytes)
-    unfolding listed
-    attributes-are = rw (part-from bytes at)
+    attributes-are = rw (part-from bytes at) (sym (listed-tab (drop at bytes) n))
 
     marks-more : (marks : List ℕ) → Marked attributes seen marks → (a : ℕ) → seenIn marks a ≡ member a (allListed (h .done ++ (listed n (drop at bytes) ∷ [])))
     marks-more marks marked a =

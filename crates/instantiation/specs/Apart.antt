@@ -1,6 +1,6 @@
 -- Lists that share no attribute: "No attribute is in two lists" (document 01) says this of rising lists, and lists by subset are so.
 use Prim.Native.Nat.{ℕ, zero, suc, _+_, _<_}
-use mathlib.Core.Path.{_≡_, refl, sym, ap, ap₂, _∙_}
+use mathlib.Core.Path.{_≡_, refl, sym, ap, ap₂, subst, _∙_}
 use mathlib.Core.Bool.{Bool, true, false, _||_, or-true}
 use mathlib.Core.List.{List, [], _∷_, _++_}
 use native.Mathlib.Omega.{arith}
@@ -10,7 +10,7 @@ use lib.ListN.{getD}
 use Rattle.instantiation.specs.SeenLaws.{repeated-append}
 use Rattle.bits.specs.Booleans.{is-false, clash, or-neither}
 use Rattle.bits.specs.Rising.{member, Rising, rising-above, member-append}
-use Rattle.bits.specs.Tab.{tab}
+use Rattle.bits.specs.Tab.{tab, tab-none, tab-next}
 use Rattle.instantiation.specs.Seen.{repeatedIn}
 use Rattle.instantiation.specs.Instantiation.{allListed}
 
@@ -78,16 +78,16 @@ apart-once seen (l ∷ ls) rising apart new =
 
 module _ (h : ℕ → ℕ) where
   earlier-none : (n k : ℕ) (f : ℕ → List ℕ) → ((a s : ℕ) → member a (f s) ≡ true → h a ≡ k + s) → (a : ℕ) → h a < k → member a (allListed (tab n f)) ≡ false
-  unfolding tab
-  earlier-none zero k f only a below = refl
+  earlier-none zero k f only a below = ap (λ (ls : List (List ℕ)). member a (allListed ls)) (tab-none f)
   earlier-none (suc n) k f only a below =
-      listed-not a (f 0) (tab n (λ i. f (suc i))) (is-false (member a (f 0)) (λ has. let is = only a 0 has in omega arith))
+      ap (λ (ls : List (List ℕ)). member a (allListed ls)) (tab-next n f)
+      ∙ listed-not a (f 0) (tab n (λ i. f (suc i))) (is-false (member a (f 0)) (λ has. let is = only a 0 has in omega arith))
       (earlier-none n (suc k) (λ i. f (suc i)) (λ a s has. let is = only a (suc s) has in omega arith) a (omega arith))
 
   pub tab-apart : (n k : ℕ) (f : ℕ → List ℕ) → ((a s : ℕ) → member a (f s) ≡ true → h a ≡ k + s) → Apart (tab n f)
-  unfolding tab
-  tab-apart zero k f only = tt
-  tab-apart (suc n) k f only = (
-    λ a has. earlier-none n (suc k) (λ i. f (suc i)) (λ a s has. let is = only a (suc s) has in omega arith) a (let is = only a 0 has in omega arith),
-    tab-apart n (suc k) (λ i. f (suc i)) (λ a s has. let is = only a (suc s) has in omega arith),
-  )
+  tab-apart zero k f only = subst Apart (sym (tab-none f)) tt
+  tab-apart (suc n) k f only =
+      subst Apart (sym (tab-next n f)) (
+        λ a has. earlier-none n (suc k) (λ i. f (suc i)) (λ a s has. let is = only a (suc s) has in omega arith) a (let is = only a 0 has in omega arith),
+        tab-apart n (suc k) (λ i. f (suc i)) (λ a s has. let is = only a (suc s) has in omega arith),
+      )

@@ -12,7 +12,7 @@ use Rattle.membership.specs.HolderLaws.{holders-small}
 use Rattle.bits.specs.Rising.{member, Rising, rising-once}
 use Rattle.bits.specs.Tab.{length-tab, getD-tab, tab-is}
 use Rattle.membership.specs.Entries.{holdersIn, enter}
-use Rattle.membership.specs.EnterLaws.{RisingEntries, enter-rising}
+use Rattle.membership.specs.EnterLaws.{RisingEntries, enter-none, enter-rising}
 use Rattle.membership.specs.EntriesOnce.{Positive, enter-positive, entries-once}
 use Rattle.membership.specs.TableLaws.{Below, enter-below, all-below}
 use Rattle.instantiation.specs.Instantiation.{entriesFrom, entriesIn, allListed, withSubset, listsOf, listsBytes}
@@ -52,9 +52,9 @@ positive-from s [] es some fits h = h
 positive-from s (l ∷ ls) es some fits h = positive-from (s + 1) ls (enter s l es) (omega arith) (omega arith) (enter-positive s l es some (omega arith) h)
 
 listed-positive : (ls : List (List ℕ)) → length ls ≡ 256 → getD ls 0 [] ≡ [] → Positive (entriesIn ls)
-unfolding entriesIn enter
+unfolding entriesIn
 listed-positive [] size none = tt
-listed-positive (l ∷ ls) size none = rw none (positive-from 1 ls [] (omega arith) (omega arith) tt)
+listed-positive (l ∷ ls) size none = rw (none, enter-none 0 []) (positive-from 1 ls [] (omega arith) (omega arith) tt)
 
 pub entries-positive : (ls : List (List ℕ)) → IsLists ls → getD ls 0 [] ≡ [] → repeatedIn nothingSeen (allListed ls) ≡ false → Positive (entriesIn ls)
 entries-positive ls is none once = listed-positive ls (is .size) none

@@ -10,7 +10,7 @@ use Rattle.bits.specs.Tab.{tab-is}
 use Rattle.bits.specs.Word.{Bytes}
 use Rattle.type_record.specs.declared.lists.ListReading.the-variants.{Listed}
 use Rattle.type_record.specs.Lists.{attributeAt, readList, listed}
-use Rattle.type_record.specs.ListLaws.{attribute-is, HoldsList, list-holds, holds-list, listed-length, listed-at, listed-below}
+use Rattle.type_record.specs.ListLaws.{attribute-is, HoldsList, list-holds, holds-list, listed-tab, listed-length, listed-at, listed-below}
 use Rattle.instantiation.specs.Instantiation.{wordBytes, listBytes}
 
 -- what a list can be: rising from 16 on, at most 255 attributes of two bytes
@@ -128,9 +128,9 @@ module _ (l rest : List ℕ) (some : 1 ≤ length l) where
 
   -- the same attributes
   pub written-listed : listed (length l) written ≡ l
-  unfolding listed
   written-listed =
-      sym
+      listed-tab written (length l)
+      ∙ sym
       (tab-is (length l) (attributeAt written) 0 l refl
       (λ k h.
       let low = written-at (k * 2 + 1) (omega arith) ∙ bytes-low l some k in

@@ -9,7 +9,7 @@ use borrow.Author.Tests.{eqb-true, eq-eqb, ne-eqb, le-leb, lt-leb}
 use lib.Dec.{eqb, leb, lit<}
 use lib.ListN.{length, getD, length-append}
 use Rattle.bits.specs.Rising.{member, Rising, rising-lower, rising-above}
-use Rattle.bits.specs.Tab.{tab}
+use Rattle.bits.specs.Tab.{tab, tab-none, tab-next}
 use Rattle.membership.specs.Entries.{attributeOf, subsetOf, holdersIn}
 use Rattle.membership.specs.EnterLaws.{RisingEntries, Order, lower, higher, equal, order, holders-below}
 use Rattle.membership.specs.EntriesOnce.{Positive}
@@ -105,14 +105,13 @@ above-split s (e ∷ es) = go (order (subsetOf e) s) (above-split s es)
 
 -- the lists of subsets from s on have no more attributes than there are entries
 listed-most : (n s : ℕ) (f : ℕ → List ℕ) (es : List ℕ) → ((i : ℕ) → f i ≡ withSubset (s + i) es) → length (allListed (tab n f)) ≤ above s es
-unfolding tab
-listed-most zero s f es is = omega arith
+listed-most zero s f es is = rw (tab-none f) (omega arith)
 listed-most (suc n) s f es is =
     let rest = listed-most n (suc s) (λ i. f (suc i)) es (λ i. is (suc i) ∙ ap (λ (k : ℕ). withSubset k es) (omega arith)) in
     let split = above-split s es in
     let first = ap length (is 0 ∙ ap (λ (k : ℕ). withSubset k es) (add-zero s)) in
     let whole = length-append (f 0) (allListed (tab n (λ i. f (suc i)))) in
-    omega arith
+    rw (tab-next n f) (omega arith)
 
 bytes-most : (ls : List (List ℕ)) → length (listsBytes ls) ≤ length (allListed ls) * 3
 bytes-most [] = omega arith

@@ -1,5 +1,4 @@
-use mathlib.Core.Path.{refl}
-use Rattle.bits.specs.Bit.{bit}
+use Rattle.bits.specs.Bit.{bit-test}
 use borrow.Author.Needs.{needs}
 use Rattle.instantiation.proofs.reading.is_standing.Statement.{statement}
 use Rattle.instantiation.proofs.reading.is_standing.Tie as tie
@@ -17,8 +16,7 @@ shr-result : tie.Need-shr-result
 shr-result c = search needs
 
 returns : tie.Need-returns
-unfolding bit
-returns c = refl
+returns c = bit-test _ _
 
 pub is-standing-spec : {M : Type 1} → statement M
 is-standing-spec =

@@ -1,6 +1,6 @@
 use Prim.Native.Nat.{_+_, _-_, _*_}
 use native.Mathlib.Omega.{arith}
-use Rattle.bits.specs.Bit.{bit}
+use Rattle.bits.specs.Bit.{bit-test}
 use Rattle.bits.specs.Word.{word, word-below}
 use Rattle.instantiation.proofs.Marking.{Marking, marking-first, marking-next, marking-end}
 use borrow.Author.Needs.{needs}
@@ -68,14 +68,13 @@ loop-less : tie.Need-loop-less Inv-loop μ-loop
 loop-less c = search needs
 
 loop-again : tie.Need-loop-again Inv-loop μ-loop
-unfolding bit
 loop-again c =
     let list = c .before .before .before .before .before .before .before .args .list .now in
     let below = word-below list (c .before .before .before .before .loop .i * 2 + 1) (λ x. omega (arith, c .before .before .before .before .before .before .shared-slice-known .given x)) in
     let is = c .before .before .word-at .ensures in
     let size = c .before .before .before .before .loop .inv .size in
     let whole = c .before .before .before .before .before .before .before .pre .0 .1 in
-    marking-next (c .before .before .before .before .loop .inv) (c .before .before .before .loop-test .taken) (omega arith) is (c .either .ensures)
+    marking-next (c .before .before .before .before .loop .inv) (c .before .before .before .loop-test .taken) (omega arith) is (rw bit-test at (c .either .ensures))
 
 same-length : tie.Need-same-length Inv-loop μ-loop
 same-length c = c .before .loop .inv .size
