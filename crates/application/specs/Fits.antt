@@ -21,7 +21,8 @@ use Rattle.formula.specs.StoredLaws.{allowed-cell}
 use Rattle.formula.specs.NodeColumn.{cell-allowed}
 use Rattle.membership.specs.Entries.{subsetOf}
 use Rattle.typing.specs.Output.{specialHolders, typedIn}
-use Rattle.typing.specs.OutputRecord.{all-typed, entry-cell}
+use Rattle.typing.specs.OutputLaws.{all-typed}
+use Rattle.typing.specs.OutputRecord.{entry-cell}
 use Rattle.application.specs.Special.{mapsFrom}
 use Rattle.application.specs.SpecialLaws.{map-bit}
 use Rattle.application.specs.Fitting.{entriesAllowed, specialsAllowed}

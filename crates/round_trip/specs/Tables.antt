@@ -25,7 +25,8 @@ use Rattle.schema.specs.RecordsLaws.{AllRecords}
 use Rattle.schema.specs.EntriesLaws.{entries-rising, entries-below}
 use Rattle.schema.specs.TableLaws.{maps-at, maps-is, maps-size}
 use Rattle.typing.specs.Output.{specialHolders, typedIn}
-use Rattle.typing.specs.OutputRecord.{typed-special, typed-entry, entry-cell}
+use Rattle.typing.specs.OutputLaws.{typed-special, typed-entry}
+use Rattle.typing.specs.OutputRecord.{entry-cell}
 use Rattle.application.specs.Special.{mapsFrom, subsetsFrom}
 use Rattle.application.specs.SpecialLaws.{maps-length, maps-even, maps-small as subset-maps-small, maps-empty as subset-maps-empty, subset-bit, subset-below, subset-zero, maps-back}
 use Rattle.round_trip.specs.Bounds.{Held, schema-held, held-at, at-held}

@@ -1,16 +1,14 @@
 -- The output record is a type record, and what it says about each attribute is what the attribute's cell says.
 use Prim.Native.Nat.{ℕ, zero, suc, _%_, _≤_, _<_}
-use mathlib.Core.Path.{_≡_, refl, sym, ap₂, _∙_}
-use mathlib.Core.Bool.{Bool, true, false, cond, _&&_}
+use mathlib.Core.Path.{_≡_, refl, sym, _∙_}
+use mathlib.Core.Bool.{Bool, true, false, cond}
 use mathlib.Core.List.{List, [], _∷_}
 use native.Mathlib.Nat.{lt-of-lt-of-le}
 use native.Mathlib.Omega.{arith}
 use borrow.Author.Tests.{eqb-true, eq-eqb, ne-eqb}
 use lib.Dec.{eqb, lit<}
 use lib.ListN.{length, getD}
-use Rattle.bits.specs.AllBelow.{allBelow, in-all, all-in}
 use Rattle.bits.specs.Bit.{bit}
-use Rattle.bits.specs.Booleans.{and-left, and-right}
 use Rattle.bits.specs.Pack.{pack-below}
 use Rattle.bits.specs.Rising.{member, Rising, rising-lower, rising-above}
 use Rattle.algebra.specs.Expression.{Expression, Legal}
@@ -21,27 +19,12 @@ use Rattle.type_record.specs.RecordBytes.{IsRecord}
 use Rattle.membership.specs.Entries.{attributeOf, subsetOf, holdersIn}
 use Rattle.membership.specs.EnterLaws.{RisingEntries, subset-bit}
 use Rattle.membership.specs.TableLaws.{Below}
-use Rattle.typing.specs.Output.{specialHolders, typedIn, outputMap, outputList}
+use Rattle.typing.specs.Output.{outputMap, outputList}
 use Rattle.typing.specs.Judged.{map-even, none-held}
 
 -- the output record over a table
 unfoldable pub outputRecord : Expression → List ℕ → List ℕ → TypeRecord
 outputRecord e special entries = record { map = outputMap e special; ordinary = outputList e entries }
-
--- ---- a typed table: each special attribute and each entry breaks no rule
-
-module _ (e : Expression) (special entries : List ℕ) where
-  pub typed-special : typedIn e special entries ≡ true → (i : ℕ) → i < 16 → ok plain e i (specialHolders special i) ≡ true
-  unfolding typedIn
-  typed-special typed = all-in 16 (λ i. ok plain e i (specialHolders special i)) (and-left (allBelow 16 (λ i. ok plain e i (specialHolders special i))) (allBelow (length entries) (λ i. ok plain e 0 (bit (getD entries i 0)))) typed)
-
-  pub typed-entry : typedIn e special entries ≡ true → (i : ℕ) → i < length entries → ok plain e 0 (bit (getD entries i 0)) ≡ true
-  unfolding typedIn
-  typed-entry typed = all-in (length entries) (λ i. ok plain e 0 (bit (getD entries i 0))) (and-right (allBelow 16 (λ i. ok plain e i (specialHolders special i))) (allBelow (length entries) (λ i. ok plain e 0 (bit (getD entries i 0)))) typed)
-
-  pub all-typed : ((i : ℕ) → i < 16 → ok plain e i (specialHolders special i) ≡ true) → ((i : ℕ) → i < length entries → ok plain e 0 (bit (getD entries i 0)) ≡ true) → typedIn e special entries ≡ true
-  unfolding typedIn
-  all-typed specials listed = ap₂ _&&_ (in-all 16 (λ i. ok plain e i (specialHolders special i)) specials) (in-all (length entries) (λ i. ok plain e 0 (bit (getD entries i 0))) listed)
 
 -- ---- its list
 

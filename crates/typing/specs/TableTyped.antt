@@ -24,7 +24,8 @@ use Rattle.schema.specs.RecordsLaws.{AllRecords}
 use Rattle.schema.specs.EntriesLaws.{entries-rising, entries-holders, entries-below}
 use Rattle.schema.specs.TableLaws.{maps-at, maps-is}
 use Rattle.typing.specs.Output.{specialHolders, typedIn, outputMap}
-use Rattle.typing.specs.OutputRecord.{outputRecord, typed-special, typed-entry, all-typed, output-is, output-member, holders-allowed, entries-allowed}
+use Rattle.typing.specs.OutputLaws.{typed-special, typed-entry, all-typed}
+use Rattle.typing.specs.OutputRecord.{outputRecord, output-is, output-member, holders-allowed, entries-allowed}
 
 -- a legal expression over m relations, and the records of a schema of m relations with at most 255 different ordinary attributes
 module _ (m : ℕ) (few : m ≤ 8) (e : Expression) (legal : Legal m e) (ts : List TypeRecord) (all : AllRecords ts) (size : length ts ≡ m) where
