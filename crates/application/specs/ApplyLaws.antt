@@ -12,8 +12,9 @@ use Rattle.bits.specs.Word.{Bytes}
 use Rattle.refusal.specs.Chain.{refuse}
 use Rattle.refusal.specs.declared.Refusal.{Refusal}
 use Rattle.refusal.specs.declared.Refusal.the-variants.{TypeVariable, SpecialSubset}
+use Rattle.expression.specs.declared.files.Acceptance.{Acceptance}
 use Rattle.expression.specs.declared.files.Acceptance.the-variants.{Accepted, Refused as FileRefused}
-use Rattle.expression.specs.Admission.{sliced}
+use Rattle.expression.specs.Admission.{after, sliced}
 use Rattle.expression.specs.AdmissionLaws.{sliced-passed}
 use Rattle.algebra.specs.Expression.{Expression, Legal}
 use Rattle.formula.specs.Expressions.{expressionAt}
@@ -24,6 +25,7 @@ use Rattle.type_record.specs.Record.{recordSize, recordBytes}
 use Rattle.membership.specs.Entries.{subsetOf}
 use Rattle.membership.specs.TableLaws.{table-count, is-table}
 use Rattle.schema.specs.Schema.{schemaBytes, recordsOf}
+use Rattle.schema.specs.declared.reading.Judgement.{Judgement}
 use Rattle.schema.specs.declared.reading.Judgement.the-variants.{Read, Refused as ReadRefused}
 use Rattle.instantiation.specs.Instantiation.{entriesIn, instantiationReading}
 use Rattle.instantiation.specs.ReadLaws.{lists-read}
@@ -31,15 +33,15 @@ use Rattle.instantiation.specs.EntriesLaws.{entries-below}
 use Rattle.instantiation.specs.TableLaws.{ReadInstantiation, instantiation-read, read-zeros, subsets-size, subsets-none, subsets-small}
 use Rattle.instantiation.specs.declared.reading.Instantiation.{Instantiation}
 use Rattle.typing.specs.Output.{typedIn, outputMap, outputList}
-use Rattle.typing.specs.Typing.{tableAnswer, tableOut}
-use Rattle.typing.specs.TypingLaws.{ReadTable}
+use Rattle.typing.specs.Typing.{tableAnswer, tableOut, afterSchema}
+use Rattle.typing.specs.TypingLaws.{ReadTable, answer-typed, out-typed}
 use Rattle.typing.specs.declared.operation.Answer.{Answer}
 use Rattle.typing.specs.declared.operation.Answer.the-variants.{Typed, Untyped, Refused as TypingRefused}
 use Rattle.application.specs.Special.{mapsFrom}
 use Rattle.application.specs.SpecialLaws.{maps-length, maps-even}
 use Rattle.application.specs.Fitting.{variableIn, entriesAllowed, specialsAllowed}
 use Rattle.application.specs.Fits.{entriesFit, specialsFit, entries-stored, specials-stored, fits-typed}
-use Rattle.application.specs.Apply.{tableApplied, tableImage, tableOutput, entriesOf, readApplied, readImage, readOutput, readSpace, applyAnswer, applySpace, applySchema, applyOut}
+use Rattle.application.specs.Apply.{imageBytes, outputBytes, tableApplied, tableImage, tableOutput, entriesOf, readApplied, readImage, readOutput, readSpace, applyAnswer, applySpace, applySchema, applyOut}
 use Rattle.application.specs.declared.applying.Application.{Application}
 use Rattle.application.specs.declared.applying.Application.the-variants.{Applied, Refused}
 
@@ -67,6 +69,42 @@ entries-tested file m k work items count filled enough t is =
     ∙ ap (λ (n : ℕ). allBelow n (λ i. variableIn (columnAt work k 0) (subsetOf (getD (take count items) i 0)))) (sym (length-take-le count items enough))
     ∙ entries-stored work k m (expressionAt file k) (filled .columns) (take count items)
 
+-- ---- what a table gives: the answer, the image and the output record
+
+module _ (m : ℕ) (e : Expression) (subsets entries : List ℕ) where
+  abbrev TableGives : List ℕ → List ℕ → Application → List ℕ → List ℕ → Type 0
+  TableGives schema out a image written =
+      (tableApplied m e subsets entries ≡ a)
+      × ((tableImage m e subsets entries schema ≡ image)
+      × (tableOutput m e subsets entries out ≡ written))
+
+  -- both tests hold
+  pub table-fits : (schema out : List ℕ) → entriesFit m e entries ≡ true → specialsFit m e subsets ≡ true → TableGives schema out (Applied (length (imageBytes m subsets entries)) (recordSize (length (outputList e entries)))) (over (imageBytes m subsets entries) schema) (over (outputBytes e subsets entries) out)
+  unfolding tableApplied tableImage tableOutput refuse
+  table-fits schema out fit special = rw (fit, special) (refl, (refl, refl))
+
+  -- the first fails
+  pub entries-refused : (schema out : List ℕ) → entriesFit m e entries ≡ false → TableGives schema out (Refused TypeVariable) schema out
+  unfolding tableApplied tableImage tableOutput refuse
+  entries-refused schema out fails = rw fails (refl, (refl, refl))
+
+  -- the first holds and the second fails
+  pub specials-refused : (schema out : List ℕ) → entriesFit m e entries ≡ true → specialsFit m e subsets ≡ false → TableGives schema out (Refused SpecialSubset) schema out
+  unfolding tableApplied tableImage tableOutput refuse
+  specials-refused schema out fit fails = rw (fit, fails) (refl, (refl, refl))
+
+  -- and the other way: where it was applied, both hold
+  pub applied-fits : (size width : ℕ) → tableApplied m e subsets entries ≡ Applied size width → (entriesFit m e entries ≡ true) × (specialsFit m e subsets ≡ true)
+  applied-fits size width said = go (entriesFit m e entries) refl (specialsFit m e subsets) refl
+    where
+      never : (r : Refusal) → tableApplied m e subsets entries ≡ Refused r → ⊥
+      never r refused = let both = sym refused ∙ said in let z : _≡_ {A = ℕ} 0 1 = cc in omega arith
+
+      go : (t : Bool) → entriesFit m e entries ≡ t → (u : Bool) → specialsFit m e subsets ≡ u → (entriesFit m e entries ≡ true) × (specialsFit m e subsets ≡ true)
+      go false fails u is = absurd (never TypeVariable (entries-refused entries entries fails .0))
+      go true fit false fails = absurd (never SpecialSubset (specials-refused entries entries fit fails .0))
+      go true fit true special = (fit, special)
+
 -- ---- over a table
 
 module _ (file : List ℕ) (m k : ℕ) (few : m ≤ 8) (legal : Legal m (expressionAt file k)) (work subsets items : List ℕ) (count : ℕ) (filled : Filled file m k work) (table : ReadSubsets subsets items count) where
@@ -79,15 +117,14 @@ module _ (file : List ℕ) (m k : ℕ) (few : m ≤ 8) (legal : Legal m (express
 
   module _ (schema out : List ℕ) where
     pub variable-refused : (t : Bool) → t ≡ false → t ≡ allBelow count (λ i. variableIn (columnAt work k 0) (subsetOf (getD items i 0))) → (Refused TypeVariable ≡ tableApplied m (expressionAt file k) subsets (take count items)) × ((schema ≡ tableImage m (expressionAt file k) subsets (take count items) schema) × (out ≡ tableOutput m (expressionAt file k) subsets (take count items) out))
-    unfolding tableApplied tableImage tableOutput refuse
-    variable-refused t fails is = let no-fit = sym (entries-found t is) ∙ fails in rw no-fit (refl, (refl, refl))
+    variable-refused t fails is =
+        let gives = entries-refused m (expressionAt file k) subsets (take count items) schema out (sym (entries-found t is) ∙ fails) in
+        (sym (gives .0), (sym (gives .1 .0), sym (gives .1 .1)))
 
     pub special-refused : (t u : Bool) → t ≡ true → t ≡ allBelow count (λ i. variableIn (columnAt work k 0) (subsetOf (getD items i 0))) → u ≡ false → u ≡ specialsAllowed work k subsets → (Refused SpecialSubset ≡ tableApplied m (expressionAt file k) subsets (take count items)) × ((schema ≡ tableImage m (expressionAt file k) subsets (take count items) schema) × (out ≡ tableOutput m (expressionAt file k) subsets (take count items) out))
-    unfolding tableApplied tableImage tableOutput refuse
     special-refused t u holds is fails is′ =
-        let fit = sym (entries-found t is) ∙ holds in
-        let no-fit = sym (specials-found u is′) ∙ fails in
-        rw (fit, no-fit) (refl, (refl, refl))
+        let gives = specials-refused m (expressionAt file k) subsets (take count items) schema out (sym (entries-found t is) ∙ holds) (sym (specials-found u is′) ∙ fails) in
+        (sym (gives .0), (sym (gives .1 .0), sym (gives .1 .1)))
 
     -- both tests hold: the table types the node
     module _ (t u : Bool) (holds : t ≡ true) (is : t ≡ allBelow count (λ i. variableIn (columnAt work k 0) (subsetOf (getD items i 0)))) (holds′ : u ≡ true) (is′ : u ≡ specialsAllowed work k subsets) (maps : List ℕ) (maps-are : maps ≡ mapsFrom subsets) where
@@ -101,8 +138,7 @@ module _ (file : List ℕ) (m k : ℕ) (few : m ≤ 8) (legal : Legal m (express
       typed = rw maps-are (fits-typed m few (expressionAt file k) legal subsets (take count items) (table .none) fit special-fit)
 
       always-typed : (a : Answer) → a ≡ tableAnswer (expressionAt file k) maps (take count items) → a ≡ Typed (recordSize (length (outputList (expressionAt file k) (take count items))))
-      unfolding tableAnswer
-      always-typed a said = said ∙ rw typed
+      always-typed a said = said ∙ answer-typed (expressionAt file k) maps (take count items) typed
 
       -- and no other answer comes
       pub never-untyped : (a : Answer) → a ≡ tableAnswer (expressionAt file k) maps (take count items) → a ≡ Untyped → ⊥
@@ -112,14 +148,16 @@ module _ (file : List ℕ) (m k : ℕ) (few : m ≤ 8) (legal : Legal m (express
       never-refused a r said is = let both = sym is ∙ always-typed a said in let z : _≡_ {A = ℕ} 0 1 = cc in omega arith
 
       pub table-applied : (size outSize : ℕ) (image written : List ℕ) → size ≡ length (schemaBytes (recordsOf m maps (take count items))) → image ≡ over (schemaBytes (recordsOf m maps (take count items))) schema → Typed outSize ≡ tableAnswer (expressionAt file k) maps (take count items) → written ≡ tableOut (expressionAt file k) maps (take count items) out → (Applied size outSize ≡ tableApplied m (expressionAt file k) subsets (take count items)) × ((image ≡ tableImage m (expressionAt file k) subsets (take count items) schema) × (written ≡ tableOutput m (expressionAt file k) subsets (take count items) out))
-      unfolding tableApplied tableImage tableOutput refuse tableOut
       table-applied size outSize image written size-is image-is said wrote =
           let out-size : outSize ≡ recordSize (length (outputList (expressionAt file k) (take count items))) = sized (always-typed (Typed outSize) said) in
-          rw (fit, special-fit) (
-            ap₂ Applied (size-is ∙ ap (λ (x : List ℕ). length (schemaBytes (recordsOf m x (take count items)))) maps-are) out-size,
+          let gives = table-fits m (expressionAt file k) subsets (take count items) schema out fit special-fit in (
+            ap₂ Applied (size-is ∙ ap (λ (x : List ℕ). length (schemaBytes (recordsOf m x (take count items)))) maps-are) out-size ∙ sym (gives .0),
             (
-              image-is ∙ ap (λ (x : List ℕ). over (schemaBytes (recordsOf m x (take count items))) schema) maps-are,
-              wrote ∙ (rw typed) ∙ ap (λ (x : List ℕ). over (recordBytes (outputMap (expressionAt file k) x) (outputList (expressionAt file k) (take count items))) out) maps-are,
+              image-is ∙ ap (λ (x : List ℕ). over (schemaBytes (recordsOf m x (take count items))) schema) maps-are ∙ sym (gives .1 .0),
+              wrote
+                  ∙ out-typed (expressionAt file k) maps (take count items) out typed
+                  ∙ ap (λ (x : List ℕ). over (recordBytes (outputMap (expressionAt file k) x) (outputList (expressionAt file k) (take count items))) out) maps-are
+                  ∙ sym (gives .1 .1),
             ),
           )
         where
@@ -175,6 +213,15 @@ module _ (file : List ℕ) (m n : ℕ) (e : Expression) (i : Instantiation) (wor
   unfolding readApplied readSpace readImage readOutput
   read-goes is a filled image written space applied imaged wrote = rw is (applied, (space, (imaged, wrote)))
 
+-- where it was applied, the instantiation was read
+pub read-applied : (m : ℕ) (e : Expression) (i : Instantiation) (size width : ℕ) → readApplied m e i ≡ Applied size width → (i .judgement ≡ Read) × (tableApplied m e (i .subsets) (entriesOf i) ≡ Applied size width)
+unfolding readApplied
+read-applied m e i size width said = go (i .judgement) refl said
+  where
+    go : (j : Judgement) → i .judgement ≡ j → afterSchema j Refused (tableApplied m e (i .subsets) (entriesOf i)) ≡ Applied size width → (i .judgement ≡ Read) × (tableApplied m e (i .subsets) (entriesOf i) ≡ Applied size width)
+    go (ReadRefused r) is q = absurd (let z : _≡_ {A = ℕ} 0 1 = cc in omega arith)
+    go Read is q = (is, q)
+
 -- ---- the answer, the work space and the two slices
 
 -- where none of 1 to 13 applies: the node and the work space, and the two slices
@@ -199,3 +246,12 @@ module _ (file : List ℕ) (k : ℕ) (bytes work schema out : List ℕ) where
   pub apply-goes : (m n : ℕ) → sliced (sliced (admitted file k (length work)) (length schema) 4104) (length out) 513 ≡ Accepted m n → (a : Application) (filled image written : List ℕ) → a ≡ readApplied m (expressionAt file k) (instantiationReading bytes) → filled ≡ readSpace file m n (instantiationReading bytes .judgement) work → image ≡ readImage m (expressionAt file k) (instantiationReading bytes) schema → written ≡ readOutput m (expressionAt file k) (instantiationReading bytes) out → Results a filled image written
   unfolding applyAnswer applySpace applySchema applyOut
   apply-goes m n e a filled image written answered space imaged wrote = rw e (answered, (space, (imaged, wrote)))
+
+-- where Apply applied, none of 1 to 13 applies
+pub apply-applied : (file : List ℕ) (k : ℕ) (bytes : List ℕ) (space size outSize s w : ℕ) → applyAnswer file k bytes space size outSize ≡ Applied s w → (m : ℕ) × ((n : ℕ) × ((sliced (sliced (admitted file k space) size 4104) outSize 513 ≡ Accepted m n) × (readApplied m (expressionAt file k) (instantiationReading bytes) ≡ Applied s w)))
+unfolding applyAnswer
+apply-applied file k bytes space size outSize s w said = go (sliced (sliced (admitted file k space) size 4104) outSize 513) refl said
+  where
+    go : (a : Acceptance) → sliced (sliced (admitted file k space) size 4104) outSize 513 ≡ a → after a Refused (λ m n. readApplied m (expressionAt file k) (instantiationReading bytes)) ≡ Applied s w → (m : ℕ) × ((n : ℕ) × ((sliced (sliced (admitted file k space) size 4104) outSize 513 ≡ Accepted m n) × (readApplied m (expressionAt file k) (instantiationReading bytes) ≡ Applied s w)))
+    go (FileRefused r) goes q = absurd (let z : _≡_ {A = ℕ} 0 1 = cc in omega arith)
+    go (Accepted m n) goes q = (m, (n, (goes, q)))

@@ -1,28 +1,30 @@
 -- A table that fits a node: "Each subset must be allowed in its column and each standing bit a type variable." (document 01). A list that is not empty stands for each standing bit, so the subsets of the entries are the standing bits.
-use Prim.Native.Nat.{ℕ, zero, suc, _+_, _^_, _≤_, _<_}
-use mathlib.Core.Path.{_≡_, refl, sym, ap, fun-ext, _∙_}
-use mathlib.Core.Bool.{Bool, true, false, _&&_, and-eq-true-iff}
+use Prim.Native.Nat.{ℕ, zero, suc, _+_, _-_, _≤_, _<_}
+use mathlib.Core.Path.{_≡_, refl, sym, ap, ap₂, fun-ext, _∙_}
+use mathlib.Core.Bool.{Bool, true, false, _&&_}
 use mathlib.Core.List.{List}
 use native.Mathlib.Nat.{lt-of-lt-of-le, mod-lt}
 use native.Mathlib.Omega.{arith}
+use borrow.Author.Tests.{lt-ltb, ltb-true}
 use lib.Dec.{ltb, lit<}
 use lib.ListN.{length, getD}
-use Rattle.bits.specs.Booleans.{and-right}
+use Rattle.bits.specs.Booleans.{and-left, and-right}
 use Rattle.bits.specs.AllBelow.{allBelow, in-all, all-in, all-same}
 use Rattle.bits.specs.Bit.{bit, bit-none}
-use Rattle.bits.specs.Pack.{bit-pack}
-use Rattle.bits.specs.Tab.{getD-tab}
 use Rattle.algebra.specs.Expression.{Expression, Legal}
 use Rattle.algebra.specs.Cell.{plain, ok}
 use Rattle.algebra.specs.CellLaws.{cell-depends, cell-none}
 use Rattle.formula.specs.Column.{allowedIn}
 use Rattle.formula.specs.Storage.{columnAt}
 use Rattle.formula.specs.Stored.{allowedBit, cellColumn}
+use Rattle.formula.specs.StoredLaws.{allowed-cell}
 use Rattle.formula.specs.NodeColumn.{cell-allowed}
 use Rattle.membership.specs.Entries.{subsetOf}
 use Rattle.typing.specs.Output.{specialHolders, typedIn}
+use Rattle.typing.specs.OutputLaws.{all-typed}
 use Rattle.typing.specs.OutputRecord.{entry-cell}
-use Rattle.application.specs.Special.{mapOf, mapsFrom}
+use Rattle.application.specs.Special.{mapsFrom}
+use Rattle.application.specs.SpecialLaws.{map-bit}
 use Rattle.application.specs.Fitting.{entriesAllowed, specialsAllowed}
 
 -- "The type variables are the s above 0 allowed in column 0."
@@ -34,6 +36,30 @@ entriesFit m e entries = allBelow (length entries) (λ i. variable m e (subsetOf
 
 unfoldable pub specialsFit : ℕ → Expression → List ℕ → Bool
 specialsFit m e subsets = allBelow 15 (λ i. allowedBit m e (i + 1) (getD subsets (i + 1) 0))
+
+-- ---- what they say about each entry and each attribute
+
+module _ (m : ℕ) (e : Expression) where
+  pub entry-fits : (entries : List ℕ) → entriesFit m e entries ≡ true → (i : ℕ) → i < length entries → (1 ≤ subsetOf (getD entries i 0)) × (allowedBit m e 0 (subsetOf (getD entries i 0)) ≡ true)
+  unfolding entriesFit
+  entry-fits entries fit i h =
+      let s = subsetOf (getD entries i 0) in
+      let passes = all-in (length entries) (λ i. variable m e (subsetOf (getD entries i 0))) fit i h in
+      (ltb-true 0 s (and-left (ltb 0 s) (allowedBit m e 0 s) passes), and-right (ltb 0 s) (allowedBit m e 0 s) passes)
+
+  pub fit-entries : (entries : List ℕ) → ((i : ℕ) → i < length entries → (1 ≤ subsetOf (getD entries i 0)) × (allowedBit m e 0 (subsetOf (getD entries i 0)) ≡ true)) → entriesFit m e entries ≡ true
+  unfolding entriesFit
+  fit-entries entries each = in-all (length entries) (λ i. variable m e (subsetOf (getD entries i 0))) (λ i h. ap₂ _&&_ (lt-ltb 0 (subsetOf (getD entries i 0)) (each i h .0)) (each i h .1))
+
+  pub special-fits : (subsets : List ℕ) → specialsFit m e subsets ≡ true → (i : ℕ) → 1 ≤ i → i ≤ 15 → allowedBit m e i (getD subsets i 0) ≡ true
+  unfolding specialsFit
+  special-fits subsets fit i some most =
+      let same : i - 1 + 1 ≡ i = omega arith in
+      sym (ap (λ (j : ℕ). allowedBit m e j (getD subsets j 0)) same) ∙ all-in 15 (λ i. allowedBit m e (i + 1) (getD subsets (i + 1) 0)) fit (i - 1) (omega arith)
+
+  pub fit-specials : (subsets : List ℕ) → ((i : ℕ) → 1 ≤ i → i ≤ 15 → allowedBit m e i (getD subsets i 0) ≡ true) → specialsFit m e subsets ≡ true
+  unfolding specialsFit
+  fit-specials subsets each = in-all 15 (λ i. allowedBit m e (i + 1) (getD subsets (i + 1) 0)) (λ i h. each (i + 1) (omega arith) (omega arith))
 
 -- ---- as the work space says
 
@@ -53,30 +79,17 @@ module _ (work : List ℕ) (k m : ℕ) (e : Expression) (columns : (c : ℕ) →
 -- ---- a table that fits is typed
 
 module _ (m : ℕ) (few : m ≤ 8) (e : Expression) (legal : Legal m e) where
-  -- the map of relation r has attribute i where i's subset has r
-  maps-held : (subsets : List ℕ) (i r : ℕ) → i < 16 → r < 8 → specialHolders (mapsFrom subsets) i r ≡ bit (getD subsets i 0) r
-  unfolding mapsFrom mapOf
-  maps-held subsets i r hi hr = ap (λ (x : ℕ). bit x i) (getD-tab 8 (mapOf subsets) r 0 hr) ∙ bit-pack 16 (λ i. bit (getD subsets i 0) r) i hi
-
   special-cell : (subsets : List ℕ) (i : ℕ) → i < 16 → ok plain e i (specialHolders (mapsFrom subsets) i) ≡ ok plain e i (bit (getD subsets i 0))
-  special-cell subsets i h = cell-depends plain m e legal i (specialHolders (mapsFrom subsets) i) (bit (getD subsets i 0)) (λ r below. maps-held subsets i r h (lt-of-lt-of-le below few)) .0
+  special-cell subsets i h = cell-depends plain m e legal i (specialHolders (mapsFrom subsets) i) (bit (getD subsets i 0)) (λ r below. map-bit subsets r i (lt-of-lt-of-le below few) h) .0
 
   pub fits-typed : (subsets entries : List ℕ) → getD subsets 0 0 ≡ 0 → entriesFit m e entries ≡ true → specialsFit m e subsets ≡ true → typedIn e (mapsFrom subsets) entries ≡ true
-  unfolding typedIn entriesFit specialsFit allowedBit
-  fits-typed subsets entries none fit special =
-      and-eq-true-iff (allBelow 16 (λ i. ok plain e i (specialHolders (mapsFrom subsets) i))) (allBelow (length entries) (λ i. ok plain e 0 (bit (getD entries i 0)))) .1
-      (in-all 16 (λ i. ok plain e i (specialHolders (mapsFrom subsets) i)) specials, in-all (length entries) (λ i. ok plain e 0 (bit (getD entries i 0))) listed)
+  fits-typed subsets entries none fit special = all-typed e (mapsFrom subsets) entries specials listed
     where
       specials : (i : ℕ) → i < 16 → ok plain e i (specialHolders (mapsFrom subsets) i) ≡ true
       specials zero h =
           let nobody : bit (getD subsets 0 0) ≡ (λ r. false) = ap bit none ∙ fun-ext bit-none in
           special-cell subsets 0 h ∙ rw nobody (cell-none plain refl refl m e legal .0)
-      specials (suc i) h =
-          let passes = all-in 15 (λ i. ltb (getD subsets (i + 1) 0) (2 ^ m) && ok plain e (i + 1) (bit (getD subsets (i + 1) 0))) special i (omega arith) in
-          let same : i + 1 ≡ suc i = omega arith in
-          special-cell subsets (suc i) h ∙ sym (ap (λ (j : ℕ). ok plain e j (bit (getD subsets j 0))) same) ∙ and-right (ltb (getD subsets (i + 1) 0) (2 ^ m)) (ok plain e (i + 1) (bit (getD subsets (i + 1) 0))) passes
+      specials (suc i) h = special-cell subsets (suc i) h ∙ allowed-cell m e (suc i) (getD subsets (suc i) 0) (special-fits m e subsets special (suc i) (omega arith) (omega arith))
 
       listed : (i : ℕ) → i < length entries → ok plain e 0 (bit (getD entries i 0)) ≡ true
-      listed i h =
-          let passes = all-in (length entries) (λ i. ltb 0 (subsetOf (getD entries i 0)) && (ltb (subsetOf (getD entries i 0)) (2 ^ m) && ok plain e 0 (bit (subsetOf (getD entries i 0))))) fit i h in
-          sym (entry-cell m few e legal (getD entries i 0) .0) ∙ and-right (ltb (subsetOf (getD entries i 0)) (2 ^ m)) (ok plain e 0 (bit (subsetOf (getD entries i 0)))) (and-right (ltb 0 (subsetOf (getD entries i 0))) (ltb (subsetOf (getD entries i 0)) (2 ^ m) && ok plain e 0 (bit (subsetOf (getD entries i 0)))) passes)
+      listed i h = sym (entry-cell m few e legal (getD entries i 0) .0) ∙ allowed-cell m e 0 (subsetOf (getD entries i 0)) (entry-fits m e entries fit i h .1)

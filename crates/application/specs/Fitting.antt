@@ -5,13 +5,14 @@ use mathlib.Core.Bool.{Bool, _&&_}
 use mathlib.Core.List.{List}
 use native.Mathlib.Omega.{arith}
 use lib.Dec.{ltb}
-use lib.ListN.{length, getD, take, drop}
-use lib.Seq.{getD-take, getD-drop}
+use lib.ListN.{length, getD}
 use Rattle.bits.specs.AllBelow.{allBelow}
 use Rattle.bits.specs.Bit.{bit}
 use Rattle.membership.specs.Entries.{subsetOf}
 use Rattle.formula.specs.Column.{allowedIn}
+use Rattle.formula.specs.ColumnLaws.{allowed-bit}
 use Rattle.formula.specs.Storage.{columnAt}
+use Rattle.formula.specs.StorageLaws.{column-byte}
 
 -- "The type variables are the s above 0 allowed in column 0."
 abbrev pub variableIn : List ℕ → ℕ → Bool
@@ -28,5 +29,4 @@ specialsAllowed work k subsets = allBelow 15 (λ i. allowedIn (columnAt work k (
 -- ---- the bit in the work space
 
 pub allowed-at : (work : List ℕ) (k c s : ℕ) → s < 256 → allowedIn (columnAt work k c) s ≡ bit (getD work (k * 1024 + c * 64 + s / 8) 0) (s % 8)
-unfolding allowedIn columnAt
-allowed-at work k c s h = ap (λ (x : ℕ). bit x (s % 8)) (getD-take 64 (drop (k * 1024 + c * 64) work) (s / 8) 0 (omega arith) ∙ getD-drop (k * 1024 + c * 64) work (s / 8) 0)
+allowed-at work k c s h = allowed-bit (columnAt work k c) s ∙ ap (λ (x : ℕ). bit x (s % 8)) (column-byte work k c (s / 8) (omega arith))

@@ -6,6 +6,7 @@ use mathlib.Core.List.{List}
 use lib.ListN.{length, getD, take}
 use native.Mathlib.Omega.{arith}
 use Rattle.bits.specs.AllBelow.{allBelow}
+use Rattle.bits.specs.Booleans.{is-false}
 use Rattle.bits.specs.Tab.{over}
 use Rattle.refusal.specs.declared.Refusal.{Refusal}
 use Rattle.expression.specs.declared.files.Acceptance.the-variants.{Accepted, Refused as FileRefused}
@@ -26,9 +27,24 @@ use Rattle.application.specs.Fitting.{variableIn, specialsAllowed}
 use Rattle.application.specs.Fits.{entriesFit, specialsFit, specials-stored}
 use Rattle.application.specs.Apply.{readSpace}
 use Rattle.application.specs.ApplyLaws.{Filled, entries-tested}
-use Rattle.application.specs.Recover.{fits, tableRecovered, tableInstantiation, entriesOf, readRecovered, readInstantiation, recoverAnswer, recoverSpace, recoverOut}
+use Rattle.application.specs.Recover.{fits, recoveredBytes, tableRecovered, tableInstantiation, entriesOf, readRecovered, readInstantiation, recoverAnswer, recoverSpace, recoverOut}
 use Rattle.application.specs.declared.recovering.Recovery.{Recovery}
 use Rattle.application.specs.declared.recovering.Recovery.the-variants.{Recovered, Untyped, Refused}
+
+-- ---- what a table gives: the answer and the instantiation
+
+module _ (m : ℕ) (e : Expression) (special entries : List ℕ) where
+  pub recovered-fits : (out : List ℕ) → fits m e special entries ≡ true → (tableRecovered m e special entries ≡ Recovered (length (recoveredBytes special entries))) × (tableInstantiation m e special entries out ≡ over (recoveredBytes special entries) out)
+  unfolding tableRecovered tableInstantiation
+  recovered-fits out fit = rw fit (refl, refl)
+
+  pub recovered-refused : (out : List ℕ) → fits m e special entries ≡ false → (tableRecovered m e special entries ≡ Untyped) × (tableInstantiation m e special entries out ≡ out)
+  unfolding tableRecovered tableInstantiation
+  recovered-refused out no-fit = rw no-fit (refl, refl)
+
+  -- and the other way: where it says untyped, the table does not fit
+  pub untyped-refused : tableRecovered m e special entries ≡ Untyped → fits m e special entries ≡ false
+  untyped-refused said = is-false (fits m e special entries) (λ fit. let both = sym said ∙ recovered-fits entries fit .0 in let z : _≡_ {A = ℕ} 0 1 = cc in omega arith)
 
 -- ---- over a table
 
@@ -43,8 +59,7 @@ module _ (file : List ℕ) (m k : ℕ) (work special items : List ℕ) (count : 
   Results r written = (r ≡ tableRecovered m (expressionAt file k) special (take count items)) × (written ≡ tableInstantiation m (expressionAt file k) special (take count items) out)
 
   untyped : fits m (expressionAt file k) special (take count items) ≡ false → Results Untyped out
-  unfolding tableRecovered tableInstantiation
-  untyped no-fit = rw no-fit (refl, refl)
+  untyped no-fit = let gives = recovered-refused m (expressionAt file k) special (take count items) out no-fit in (sym (gives .0), sym (gives .1))
 
   pub entry-untyped : (t : Bool) → t ≡ false → t ≡ allBelow count (λ i. variableIn (columnAt work k 0) (subsetOf (getD items i 0))) → Results Untyped out
   entry-untyped t fails is = untyped (ap (λ (b : Bool). b && specialsFit m (expressionAt file k) (subsetsFrom special)) (sym (entries-found t is) ∙ fails))
@@ -53,12 +68,10 @@ module _ (file : List ℕ) (m k : ℕ) (work special items : List ℕ) (count : 
   special-untyped subsets t fails are is = untyped (ap (λ (b : Bool). entriesFit m (expressionAt file k) (take count items) && b) (sym (specials-found subsets t are is) ∙ fails) ∙ and-false (entriesFit m (expressionAt file k) (take count items)))
 
   pub table-recovered : (t u : Bool) (subsets : List ℕ) (size : ℕ) (written : List ℕ) → t ≡ true → t ≡ allBelow count (λ i. variableIn (columnAt work k 0) (subsetOf (getD items i 0))) → subsets ≡ subsetsFrom special → u ≡ true → u ≡ specialsAllowed work k subsets → size ≡ length (instantiationBytes subsets (listsOf (take count items))) → written ≡ over (instantiationBytes subsets (listsOf (take count items))) out → Results (Recovered size) written
-  unfolding tableRecovered tableInstantiation
   table-recovered t u subsets size written holds is are holds′ is′ size-is wrote =
-      let fit : fits m (expressionAt file k) special (take count items) ≡ true = ap₂ _&&_ (sym (entries-found t is) ∙ holds) (sym (specials-found subsets u are is′) ∙ holds′) in
-      rw fit (
-        ap Recovered (size-is ∙ ap (λ (x : List ℕ). length (instantiationBytes x (listsOf (take count items)))) are),
-        wrote ∙ ap (λ (x : List ℕ). over (instantiationBytes x (listsOf (take count items))) out) are,
+      let gives = recovered-fits m (expressionAt file k) special (take count items) out (ap₂ _&&_ (sym (entries-found t is) ∙ holds) (sym (specials-found subsets u are is′) ∙ holds′)) in (
+        ap Recovered (size-is ∙ ap (λ (x : List ℕ). length (instantiationBytes x (listsOf (take count items)))) are) ∙ sym (gives .0),
+        wrote ∙ ap (λ (x : List ℕ). over (instantiationBytes x (listsOf (take count items))) out) are ∙ sym (gives .1),
       )
 
 -- the table can be written

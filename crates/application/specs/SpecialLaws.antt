@@ -35,6 +35,11 @@ module _ (subsets : List ℕ) where
   pub maps-even : getD subsets 0 0 ≡ 0 → (r : ℕ) → getD (mapsFrom subsets) r 0 % 2 ≡ 0
   maps-even none r = map-case r (λ (x : ℕ). x % 2 ≡ 0) refl (λ h. map-even none r)
 
+  -- each is of two bytes
+  pub maps-small : (r : ℕ) → getD (mapsFrom subsets) r 0 < 65536
+  unfolding mapOf
+  maps-small r = map-case r (λ (x : ℕ). x < 65536) (lit< tt) (λ h. pack-below 16 (λ i. bit (getD subsets i 0) r))
+
   map-at : (r : ℕ) → r < 8 → getD (mapsFrom subsets) r 0 ≡ mapOf subsets r
   unfolding mapsFrom
   map-at r h = getD-tab 8 (mapOf subsets) r 0 h
@@ -42,6 +47,16 @@ module _ (subsets : List ℕ) where
   pub map-bit : (r i : ℕ) → r < 8 → i < 16 → bit (getD (mapsFrom subsets) r 0) i ≡ bit (getD subsets i 0) r
   unfolding mapOf
   map-bit r i hr hi = ap (λ (x : ℕ). bit x i) (map-at r hr) ∙ bit-pack 16 (λ i. bit (getD subsets i 0) r) i hi
+
+  -- where no subset has a relation from m on, the maps from m on are empty
+  pub maps-empty : (m : ℕ) → ((i : ℕ) → i < 16 → getD subsets i 0 < 2 ^ m) → (r : ℕ) → m ≤ r → getD (mapsFrom subsets) r 0 ≡ 0
+  maps-empty m below r past = go (decLt r 8)
+    where
+      go : Dec (r < 8) → getD (mapsFrom subsets) r 0 ≡ 0
+      go (yes h) =
+          bits-once 16 (getD (mapsFrom subsets) r 0) 0 (maps-small r) (lit< tt)
+          (λ i hi. map-bit r i h hi ∙ bit-above (getD subsets i 0) r (lt-of-lt-of-le (below i hi) (pow-mono past)) ∙ sym (bit-none i))
+      go (no h) = let size = maps-length in List·getD-eq-default (mapsFrom subsets) 0 {n = r} (omega arith)
 
   -- the subsets are got back
   pub subsets-back : length subsets ≡ 16 → ((i : ℕ) → getD subsets i 0 < 256) → subsetsFrom (mapsFrom subsets) ≡ subsets

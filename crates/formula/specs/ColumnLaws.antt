@@ -111,3 +111,13 @@ column-same allowed output allowed′ output′ ea eo =
       front = λ i h. column-front allowed output i h ∙ map-same allowed allowed′ ea i h;
       back = λ i h. column-back allowed output i h ∙ map-same output output′ eo i h;
     })
+
+-- ---- where the bits stand: "bit s mod 8 of byte s div 8", and 32 bytes on
+
+pub allowed-bit : (column : List ℕ) (s : ℕ) → allowedIn column s ≡ bit (getD column (s / 8) 0) (s % 8)
+unfolding allowedIn
+allowed-bit column s = refl
+
+pub output-bit : (column : List ℕ) (s : ℕ) → outputIn column s ≡ bit (getD column (32 + s / 8) 0) (s % 8)
+unfolding outputIn
+output-bit column s = refl

@@ -1,5 +1,5 @@
 -- Laws of columns in the work space: copying one out, and the work space after one was written.
-use Prim.Native.Nat.{ℕ, _+_, _-_, _≤_, _<_}
+use Prim.Native.Nat.{ℕ, _+_, _-_, _*_, _≤_, _<_}
 use mathlib.Core.Path.{_≡_, sym, ap, _∙_}
 use mathlib.Core.List.{List, _++_, append-assoc, append-nil}
 use mathlib.Core.Logic.{_⊎_, inl, inr}
@@ -10,6 +10,7 @@ use lib.ListN.{length, getD, take, drop, set, length-drop, length-append, drop-o
 use lib.Seq.{getD-set-same, getD-set-other, ext-getD, length-take-le, getD-take, getD-drop, paste, take-add, drop-drop}
 use Rattle.bits.specs.Part.{part-from}
 use Rattle.bits.specs.Tab.{getD-right}
+use Rattle.formula.specs.Storage.{columnAt}
 
 -- ---- copying out
 
@@ -72,3 +73,9 @@ module _ (work column : List ℕ) (at n : ℕ) (fits : at + n ≤ length work) (
       getD-right (take at work ++ take n column) (drop (at + n) work) i 0 (omega arith)
       ∙ getD-drop (at + n) work (i - length (take at work ++ take n column)) 0
       ∙ ap (λ (k : ℕ). getD work k 0) back
+
+-- ---- byte i of column c of node k
+
+pub column-byte : (work : List ℕ) (k c i : ℕ) → i < 64 → getD (columnAt work k c) i 0 ≡ getD work (k * 1024 + c * 64 + i) 0
+unfolding columnAt
+column-byte work k c i h = getD-take 64 (drop (k * 1024 + c * 64) work) i 0 h ∙ getD-drop (k * 1024 + c * 64) work i 0

@@ -1,11 +1,14 @@
 -- Laws of Formula and of test 12: the answer and the work space in each case, and what stands at a node's column afterwards.
-use Prim.Native.Nat.{ℕ, _*_, _≤_, _<_}
-use mathlib.Core.Path.{_≡_, _∙_}
+use Prim.Native.Nat.{ℕ, _*_, _^_, _≤_, _<_}
+use mathlib.Core.Path.{_≡_, refl, ap, _∙_}
+use mathlib.Core.Bool.{Bool, true, false, _&&_}
 use mathlib.Core.List.{List}
 use native.Mathlib.Omega.{arith}
-use borrow.Author.Tests.{lt-ltb, le-ltb, ltb-false}
+use borrow.Author.Tests.{lt-ltb, le-ltb, ltb-true, ltb-false}
 use lib.Dec.{ltb}
 use lib.ListN.{length}
+use Rattle.bits.specs.Bit.{bit}
+use Rattle.bits.specs.Booleans.{and-left, and-right}
 use Rattle.bits.specs.Tab.{tab, length-tab, getD-tab, over, over-length, over-front, over-back}
 use Rattle.refusal.specs.declared.Refusal.{Refusal}
 use Rattle.refusal.specs.declared.Refusal.the-variants.{WorkSpace}
@@ -14,9 +17,11 @@ use Rattle.expression.specs.declared.files.Acceptance.the-variants.{Accepted, R
 use Rattle.expression.specs.ReadFile.{acceptance}
 use Rattle.expression.specs.Admission.{asked}
 use Rattle.expression.specs.AdmissionLaws.{tested-refused, tested-stops, tested-passes, passed, asked-passes, asked-passed}
+use Rattle.algebra.specs.Expression.{Expression}
+use Rattle.algebra.specs.Cell.{plain, out, ok}
 use Rattle.formula.specs.Expressions.{expressionAt}
 use Rattle.formula.specs.Storage.{columnAt}
-use Rattle.formula.specs.Stored.{cellColumn, storedByte, formulasOf, spaced, admitted, formulaAnswer, formulaSpace}
+use Rattle.formula.specs.Stored.{allowedBit, outputBit, cellColumn, storedByte, formulasOf, spaced, admitted, formulaAnswer, formulaSpace}
 use Rattle.formula.specs.Filling.{filled-column}
 
 -- ---- 12
@@ -92,3 +97,53 @@ stored-column file work m n fits k c hk hc =
     (omega arith)
     (omega arith)
     hc
+
+-- and in the formulas by themselves
+pub formulas-column : (file : List ℕ) (m n k c : ℕ) → k < n → c < 16 → columnAt (formulasOf file m n) k c ≡ cellColumn m (expressionAt file k) c
+unfolding formulasOf
+formulas-column file m n k c hk hc =
+    let size = length-tab (n * 1024) (storedByte file m) in
+    filled-column file m (n * 1024) (tab (n * 1024) (storedByte file m)) (tab (n * 1024) (storedByte file m)) k c
+    (record {
+      size = refl;
+      front = λ i h. getD-tab (n * 1024) (storedByte file m) i 0 h;
+      back = λ i h. refl;
+    })
+    (omega arith)
+    (omega arith)
+    hc
+
+-- a file that is refused is refused whatever the work space
+pub answer-refused : (file : List ℕ) (space : ℕ) (r : Refusal) → acceptance file ≡ Refused r → formulaAnswer file space ≡ Refused r
+unfolding formulaAnswer
+answer-refused file space r e = spaced-refused (acceptance file) space e
+
+-- ---- one expression, one column, one subset
+
+module _ (m : ℕ) (e : Expression) (c s : ℕ) where
+  -- of the subsets of m relations the bits are the cell's
+  pub allowed-is : s < 2 ^ m → allowedBit m e c s ≡ ok plain e c (bit s)
+  unfolding allowedBit
+  allowed-is h = ap (λ (t : Bool). t && ok plain e c (bit s)) (lt-ltb s (2 ^ m) h)
+
+  pub output-is : s < 2 ^ m → outputBit m e c s ≡ ok plain e c (bit s) && out plain e c (bit s)
+  unfolding outputBit
+  output-is h = ap (λ (t : Bool). t && out plain e c (bit s)) (allowed-is h)
+
+  -- "bits from 2^m up are zero"
+  pub allowed-above : 2 ^ m ≤ s → allowedBit m e c s ≡ false
+  unfolding allowedBit
+  allowed-above h = ap (λ (t : Bool). t && ok plain e c (bit s)) (le-ltb s (2 ^ m) h)
+
+  pub allowed-below : allowedBit m e c s ≡ true → s < 2 ^ m
+  unfolding allowedBit
+  allowed-below h = ltb-true s (2 ^ m) (and-left (ltb s (2 ^ m)) (ok plain e c (bit s)) h)
+
+  pub allowed-cell : allowedBit m e c s ≡ true → ok plain e c (bit s) ≡ true
+  unfolding allowedBit
+  allowed-cell h = and-right (ltb s (2 ^ m)) (ok plain e c (bit s)) h
+
+  -- "An output bit stands only where the allowed bit does"
+  pub output-within : outputBit m e c s ≡ true → allowedBit m e c s ≡ true
+  unfolding outputBit
+  output-within h = and-left (allowedBit m e c s) (out plain e c (bit s)) h

@@ -2,7 +2,7 @@
 use Prim.Native.Nat.{ℕ, _+_, _-_, _≤_, _<_}
 use mathlib.Core.Path.{_≡_, ap, ap₂, _∙_}
 use mathlib.Core.Bool.{Bool, cond, _&&_}
-use mathlib.Core.List.{List, [], _∷_, _++_}
+use mathlib.Core.List.{List, [], _∷_, _++_, append-nil}
 use native.Mathlib.Omega.{arith}
 use lib.Dec.{ltb}
 use Rattle.bits.specs.Bit.{bit}
@@ -29,12 +29,12 @@ use Rattle.listing.specs.Naming.{Named, named-is}
 
 module _ (m : ℕ) (e : Expression) where
   variables-list : (r : ℕ) → listText (Variables r) (cellColumn m e 0) ≡ each 256 (λ s. whenSo (ltb 0 s && allowedBit m e 0 s && bit s r) (subsetText s))
-  unfolding entryText subsetText
-  variables-list r = each-same 256 _ _ (λ s h. rw (cell-allowed m e 0 s h))
+  unfolding entryText
+  variables-list r = each-same 256 _ _ (λ s h. rw (cell-allowed m e 0 s h, append-nil))
 
   output-list : listText Output (cellColumn m e 0) ≡ each 256 (λ s. whenSo (ltb 0 s && outputBit m e 0 s) (subsetText s))
-  unfolding entryText subsetText
-  output-list = each-same 256 _ _ (λ s h. rw (cell-output m e 0 s h))
+  unfolding entryText
+  output-list = each-same 256 _ _ (λ s h. rw (cell-output m e 0 s h, append-nil))
 
   signed-list : (i : ℕ) → listText Signed (cellColumn m e i) ≡ each 256 (λ s. whenSo (allowedBit m e i s) (subsetText s ++ (cond (outputBit m e i s) 43 45 ∷ [])))
   unfolding entryText

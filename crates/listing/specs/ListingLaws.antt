@@ -19,7 +19,7 @@ use Rattle.expression.specs.ReadFile.{acceptance, nodeAt}
 use Rattle.expression.specs.Accepted.{accepted-file}
 use Rattle.formula.specs.Storage.{columnAt}
 use Rattle.formula.specs.Stored.{formulasOf, formulaAnswer, formulaSpace}
-use Rattle.formula.specs.StoredLaws.{spaced-refused, spaced-passes, answer-file, space-filled, stored-column}
+use Rattle.formula.specs.StoredLaws.{answer-refused, answer-filled, answer-file, space-filled, stored-column}
 use Rattle.listing.specs.declared.operation.Listed.{Listed}
 use Rattle.listing.specs.declared.operation.Listed.the-variants.{Text, Refused}
 use Rattle.text.specs.Characters.{decimal, newline}
@@ -34,14 +34,13 @@ use Rattle.listing.specs.LineLaws.{lines-are}
 
 -- the work space is never too short
 pub refused-file : (file : List ℕ) (size : ℕ) (r : Refusal) → 65536 ≤ size → formulaAnswer file size ≡ FileRefused r → acceptance file ≡ FileRefused r
-unfolding formulaAnswer
 refused-file file size r enough e = go (acceptance file) refl
   where
     go : (a : Acceptance) → acceptance file ≡ a → a ≡ FileRefused r
-    go (FileRefused q) is = sym (spaced-refused (acceptance file) size is) ∙ e
+    go (FileRefused q) is = sym (answer-refused file size q is) ∙ e
     go (Accepted m n) is =
         let few = accepted-file file m n is .counts .nodes .1 in
-        let filled = spaced-passes (acceptance file) size is (omega arith) in
+        let filled = answer-filled file size m n is (omega arith) in
         absurd (let z : _≡_ {A = ℕ} 0 1 = cc in omega arith)
 
 -- ---- the text

@@ -9,10 +9,11 @@ use native.Mathlib.Omega.{arith}
 use lib.Dec.{eqb}
 use lib.ListN.{length, getD, List·getD-eq-default}
 use lib.Pow.{pow-pos, pow-mono}
+use lib.Seq.{ext-getD}
 use Rattle.bits.specs.Bit.{bit, bit-above}
 use Rattle.bits.specs.Pack.{bits-once}
 use Rattle.bits.specs.Rising.{member}
-use Rattle.bits.specs.Tab.{tab, length-tab, getD-tab, tab-is}
+use Rattle.bits.specs.Tab.{tab, length-tab, getD-tab}
 use Rattle.type_record.specs.Record.{TypeRecord}
 use Rattle.type_record.specs.RecordBytes.{IsRecord}
 use Rattle.membership.specs.Entries.{attributeOf, subsetOf, holdersIn}
@@ -24,6 +25,7 @@ use Rattle.membership.specs.TableLaws.{Below}
 use Rattle.schema.specs.Schema.{recordsRead, readRecords, noRecord, schemaBytes, entriesOf, mapsOf, recordsOf}
 use Rattle.schema.specs.RecordsLaws.{AllRecords, written-records}
 use Rattle.schema.specs.EntriesLaws.{entries-rising, entries-holders}
+use Rattle.schema.specs.TableLaws.{maps-is, maps-size}
 use Rattle.round_trip.specs.Bounds.{Held, schema-held}
 
 -- a table of m relations: rising entries of two bytes, each held by some of them, at most 255; a map for each, with bit 0 clear, and empty ones from m on
@@ -112,11 +114,10 @@ module _ (m : ℕ) (few : m ≤ 8) (maps es : List ℕ) (table : IsTable m maps 
 
   -- and so are the maps
   pub image-maps : mapsOf (recordsOf m maps es) ≡ maps
-  unfolding mapsOf
-  image-maps = sym (tab-is 8 (λ r. getD (recordsOf m maps es) r noRecord .map) 0 maps (table .size) (λ r h. go r (decLt r m)))
+  image-maps = ext-getD 0 (mapsOf (recordsOf m maps es)) maps (maps-size (recordsOf m maps es) ∙ sym (table .size)) (λ r h. let size = maps-size (recordsOf m maps es) in maps-is (recordsOf m maps es) r (omega arith) ∙ go r (decLt r m))
     where
-      go : (r : ℕ) → Dec (r < m) → getD maps r 0 ≡ getD (recordsOf m maps es) r noRecord .map
-      go r (yes below) = sym (ap (λ (t : TypeRecord). t .map) (image-at r below))
+      go : (r : ℕ) → Dec (r < m) → getD (recordsOf m maps es) r noRecord .map ≡ getD maps r 0
+      go r (yes below) = ap (λ (t : TypeRecord). t .map) (image-at r below)
       go r (no above) =
           let size = image-size in
-          table .empty r (omega arith) ∙ sym (ap (λ (t : TypeRecord). t .map) (List·getD-eq-default (recordsOf m maps es) noRecord {n = r} (omega arith)))
+          ap (λ (t : TypeRecord). t .map) (List·getD-eq-default (recordsOf m maps es) noRecord {n = r} (omega arith)) ∙ sym (table .empty r (omega arith))

@@ -1,23 +1,21 @@
 -- Which tables there are: those of schemas, and those of instantiations that fit. A table fits a node exactly where it types it.
-use Prim.Native.Nat.{ℕ, zero, suc, _+_, _^_, _≤_, _<_}
-use mathlib.Core.Path.{_≡_, refl, ap, _∙_}
-use mathlib.Core.Bool.{true, false, _&&_, and-eq-true-iff}
+use Prim.Native.Nat.{ℕ, zero, suc, _^_, _≤_, _<_}
+use mathlib.Core.Path.{_≡_, ap, ap₂, _∙_}
+use mathlib.Core.Bool.{true, _&&_}
 use mathlib.Core.List.{List, [], _∷_}
 use native.Mathlib.Nat.{lt-of-lt-of-le}
 use native.Mathlib.Decide.{decLt}
 use native.Mathlib.Omega.{arith}
-use borrow.Author.Tests.{lt-ltb, ltb-true}
-use lib.Dec.{ltb, lit<}
+use lib.Dec.{lit<}
 use lib.ListN.{length, getD, List·getD-eq-default}
-use lib.Pow.{pow-mono, pow-pos}
-use Rattle.bits.specs.AllBelow.{allBelow, in-all, all-in}
-use Rattle.bits.specs.Bit.{bit, bit-above}
-use Rattle.bits.specs.Pack.{pack, pack-below, pack-same}
+use lib.Pow.{pow-pos}
+use Rattle.bits.specs.Bit.{bit}
 use Rattle.algebra.specs.Expression.{Expression, Legal}
-use Rattle.algebra.specs.Cell.{plain, ok}
+use Rattle.algebra.specs.Cell.{plain}
 use Rattle.algebra.specs.CellLaws.{cell-depends}
 use Rattle.bits.specs.Booleans.{same-test, and-left, and-right}
 use Rattle.formula.specs.Stored.{allowedBit}
+use Rattle.formula.specs.StoredLaws.{allowed-is, allowed-below}
 use Rattle.type_record.specs.Record.{TypeRecord}
 use Rattle.membership.specs.Entries.{subsetOf}
 use Rattle.membership.specs.EnterLaws.{RisingEntries}
@@ -27,11 +25,12 @@ use Rattle.schema.specs.RecordsLaws.{AllRecords}
 use Rattle.schema.specs.EntriesLaws.{entries-rising, entries-below}
 use Rattle.schema.specs.TableLaws.{maps-at, maps-is, maps-size}
 use Rattle.typing.specs.Output.{specialHolders, typedIn}
+use Rattle.typing.specs.OutputLaws.{typed-special, typed-entry}
 use Rattle.typing.specs.OutputRecord.{entry-cell}
-use Rattle.application.specs.Special.{mapOf, mapsFrom, subsetsFrom}
-use Rattle.application.specs.SpecialLaws.{maps-length, maps-even, map-case, subset-bit, subset-below, subset-zero, maps-back}
+use Rattle.application.specs.Special.{mapsFrom, subsetsFrom}
+use Rattle.application.specs.SpecialLaws.{maps-length, maps-even, maps-small as subset-maps-small, maps-empty as subset-maps-empty, subset-bit, subset-below, subset-zero, maps-back}
 use Rattle.round_trip.specs.Bounds.{Held, schema-held, held-at, at-held}
-use Rattle.application.specs.Fits.{entriesFit, specialsFit, fits-typed}
+use Rattle.application.specs.Fits.{entriesFit, specialsFit, entry-fits, fit-entries, special-fits, fit-specials, fits-typed}
 use Rattle.round_trip.specs.Image.{IsTable}
 use Rattle.application.specs.Recover.{fits}
 
@@ -73,36 +72,22 @@ schema-table m ts few size all fits =
 
 module _ (m : ℕ) (few : m ≤ 8) (e : Expression) (subsets es : List ℕ) (none : getD subsets 0 0 ≡ 0) (fit : entriesFit m e es ≡ true) (special : specialsFit m e subsets ≡ true) where
   pub subsets-below : (i : ℕ) → i < 16 → getD subsets i 0 < 2 ^ m
-  unfolding specialsFit allowedBit
   subsets-below zero h = rw none (pow-pos m)
-  subsets-below (suc i) h =
-      let passes = all-in 15 (λ i. ltb (getD subsets (i + 1) 0) (2 ^ m) && ok plain e (i + 1) (bit (getD subsets (i + 1) 0))) special i (omega arith) in
-      let same : i + 1 ≡ suc i = omega arith in
-      let less = ltb-true (getD subsets (i + 1) 0) (2 ^ m) (and-left (ltb (getD subsets (i + 1) 0) (2 ^ m)) (ok plain e (i + 1) (bit (getD subsets (i + 1) 0))) passes) in
-      rw same at less
+  subsets-below (suc i) h = allowed-below m e (suc i) (getD subsets (suc i) 0) (special-fits m e subsets special (suc i) (omega arith) (omega arith))
 
   pub held-entries : Held m es
-  unfolding entriesFit allowedBit
   held-entries =
       at-held m es
-      (λ i h. let s = subsetOf (getD es i 0) in
-      let passes = all-in (length es) (λ i. ltb 0 (subsetOf (getD es i 0)) && (ltb (subsetOf (getD es i 0)) (2 ^ m) && ok plain e 0 (bit (subsetOf (getD es i 0))))) fit i h in (
-        ltb-true 0 (subsetOf (getD es i 0)) (and-left (ltb 0 (subsetOf (getD es i 0))) (ltb (subsetOf (getD es i 0)) (2 ^ m) && ok plain e 0 (bit (subsetOf (getD es i 0)))) passes),
-        ltb-true (subsetOf (getD es i 0)) (2 ^ m) (and-left (ltb (subsetOf (getD es i 0)) (2 ^ m)) (ok plain e 0 (bit (subsetOf (getD es i 0)))) (and-right (ltb 0 (subsetOf (getD es i 0))) (ltb (subsetOf (getD es i 0)) (2 ^ m) && ok plain e 0 (bit (subsetOf (getD es i 0)))) passes)),
-      ))
-
-  map-empty : (r : ℕ) → m ≤ r → mapOf subsets r ≡ 0
-  unfolding mapOf pack
-  map-empty r h = pack-same 16 (λ i. bit (getD subsets i 0) r) (λ i. false) (λ i less. bit-above (getD subsets i 0) r (lt-of-lt-of-le (subsets-below i less) (pow-mono h)))
+      (λ i h. let fits = entry-fits m e es fit i h in
+      (fits .0, allowed-below m e 0 (subsetOf (getD es i 0)) (fits .1)))
 
   pub fit-table : length es ≤ 255 → RisingEntries 15 es → Below 16777216 es → IsTable m (mapsFrom subsets) es
-  unfolding mapOf
   fit-table fits rising below =
       record {
         size = maps-length subsets;
         even = maps-even subsets none;
-        small = λ r. map-case subsets r (λ (x : ℕ). x < 65536) (lit< tt) (λ h. pack-below 16 (λ i. bit (getD subsets i 0) r));
-        empty = λ r h. map-case subsets r (λ (x : ℕ). x ≡ 0) refl (λ k. map-empty r h);
+        small = subset-maps-small subsets;
+        empty = subset-maps-empty subsets m subsets-below;
         few = fits;
         rising = rising;
         below = below;
@@ -113,25 +98,18 @@ module _ (m : ℕ) (few : m ≤ 8) (e : Expression) (subsets es : List ℕ) (non
 
 module _ (m : ℕ) (few : m ≤ 8) (e : Expression) (legal : Legal m e) (maps es : List ℕ) (table : IsTable m maps es) where
   typed-fit : typedIn e maps es ≡ true → fits m e maps es ≡ true
-  unfolding typedIn entriesFit specialsFit allowedBit
-  typed-fit typed =
-      and-eq-true-iff (allBelow (length es) (λ i. ltb 0 (subsetOf (getD es i 0)) && (ltb (subsetOf (getD es i 0)) (2 ^ m) && ok plain e 0 (bit (subsetOf (getD es i 0)))))) (allBelow 15 (λ i. ltb (getD (subsetsFrom maps) (i + 1) 0) (2 ^ m) && ok plain e (i + 1) (bit (getD (subsetsFrom maps) (i + 1) 0)))) .1
-      (in-all (length es) _ listed, in-all 15 _ specials)
+  typed-fit typed = ap₂ _&&_ (fit-entries m e es listed) (fit-specials m e (subsetsFrom maps) specials)
     where
-      parts : (allBelow 16 (λ i. ok plain e i (specialHolders maps i)) ≡ true) × (allBelow (length es) (λ i. ok plain e 0 (bit (getD es i 0))) ≡ true)
-      parts = and-eq-true-iff (allBelow 16 (λ i. ok plain e i (specialHolders maps i))) (allBelow (length es) (λ i. ok plain e 0 (bit (getD es i 0)))) .0 typed
-
-      listed : (i : ℕ) → i < length es → ltb 0 (subsetOf (getD es i 0)) && (ltb (subsetOf (getD es i 0)) (2 ^ m) && ok plain e 0 (bit (subsetOf (getD es i 0)))) ≡ true
+      listed : (i : ℕ) → i < length es → (1 ≤ subsetOf (getD es i 0)) × (allowedBit m e 0 (subsetOf (getD es i 0)) ≡ true)
       listed i h =
           let bounds = held-at m es (table .held) i h in
-          let passes = entry-cell m few e legal (getD es i 0) .0 ∙ all-in (length es) (λ i. ok plain e 0 (bit (getD es i 0))) (parts .1) i h in
-          rw (lt-ltb 0 (subsetOf (getD es i 0)) (bounds .0), lt-ltb (subsetOf (getD es i 0)) (2 ^ m) (bounds .1)) passes
+          (bounds .0, allowed-is m e 0 (subsetOf (getD es i 0)) (bounds .1) ∙ entry-cell m few e legal (getD es i 0) .0 ∙ typed-entry e maps es typed i h)
 
-      specials : (i : ℕ) → i < 15 → ltb (getD (subsetsFrom maps) (i + 1) 0) (2 ^ m) && ok plain e (i + 1) (bit (getD (subsetsFrom maps) (i + 1) 0)) ≡ true
-      specials i h =
-          let below = subset-below maps m (i + 1) few (omega arith) (table .empty) in
-          let same = cell-depends plain m e legal (i + 1) (bit (getD (subsetsFrom maps) (i + 1) 0)) (specialHolders maps (i + 1)) (λ r less. subset-bit maps (i + 1) r (omega arith) (lt-of-lt-of-le less few)) .0 in
-          rw (lt-ltb (getD (subsetsFrom maps) (i + 1) 0) (2 ^ m) below) (same ∙ all-in 16 (λ i. ok plain e i (specialHolders maps i)) (parts .0) (i + 1) (omega arith))
+      specials : (i : ℕ) → 1 ≤ i → i ≤ 15 → allowedBit m e i (getD (subsetsFrom maps) i 0) ≡ true
+      specials i some most =
+          let below = subset-below maps m i few (omega arith) (table .empty) in
+          let same = cell-depends plain m e legal i (bit (getD (subsetsFrom maps) i 0)) (specialHolders maps i) (λ r less. subset-bit maps i r (omega arith) (lt-of-lt-of-le less few)) .0 in
+          allowed-is m e i (getD (subsetsFrom maps) i 0) below ∙ same ∙ typed-special e maps es typed i (omega arith)
 
   fit-typed : fits m e maps es ≡ true → typedIn e maps es ≡ true
   fit-typed fit =

@@ -6,13 +6,12 @@
 use Prim.Native.Nat.{ℕ, _+_, _*_, _≤_, _<_}
 use mathlib.Core.Path.{_≡_, refl, sym, ap, ap₂, _∙_}
 use mathlib.Core.Logic.{_↔_}
-use mathlib.Core.Bool.{Bool, true, false, _&&_, and-eq-true-iff}
+use mathlib.Core.Bool.{true, _&&_, and-eq-true-iff}
 use mathlib.Core.List.{List}
 use native.Mathlib.Omega.{arith}
 use lib.ListN.{length, getD, take, length-append}
 use Rattle.bits.specs.Tab.{length-tab, over, take-over}
 use Rattle.bits.specs.Word.{Bytes}
-use Rattle.refusal.specs.Chain.{refuse}
 use Rattle.algebra.specs.Expression.{Legal}
 use Rattle.expression.specs.declared.files.Acceptance.the-variants.{Accepted}
 use Rattle.expression.specs.ReadFile.{acceptance}
@@ -33,8 +32,8 @@ use Rattle.instantiation.specs.TableLaws.{ReadInstantiation, subsets-none}
 use Rattle.instantiation.specs.TableLaws as Instantiations
 use Rattle.instantiation.specs.declared.reading.Instantiation.{Instantiation}
 use Rattle.typing.specs.Output.{typedIn, outputList}
-use Rattle.typing.specs.Typing.{tableAnswer, tableOut, typingAnswer, typingOut}
-use Rattle.typing.specs.TypingLaws.{typing-records}
+use Rattle.typing.specs.Typing.{typingAnswer, typingOut}
+use Rattle.typing.specs.TypingLaws.{answer-typed, answer-untyped, out-typed, untyped-answer, typing-records}
 use Rattle.typing.specs.declared.operation.Answer.the-variants.{Typed, Untyped as TypingUntyped}
 use Rattle.application.specs.Special.{mapsFrom, subsetsFrom}
 use Rattle.application.specs.SpecialLaws.{subsets-back}
@@ -86,18 +85,18 @@ pub applies-admits : {file : List ℕ} {k : ℕ} {bytes : List ℕ} {space size 
 applies-admits {file} {k} {bytes} {space} {size} {outSize} a = Applying.apply-passed file k space size outSize (a .goes) .0
 
 apply-table : (file : List ℕ) (k : ℕ) (bytes work schema out : List ℕ) (m n : ℕ) (ls : List (List ℕ)) → Applies file k bytes (length work) (length schema) (length out) m n ls → (applyAnswer file k bytes (length work) (length schema) (length out) ≡ Applied (length (imageBytes m (subsetsOf bytes) (entriesIn ls))) (recordSize (length (outputList (expressionAt file k) (entriesIn ls))))) × ((applySchema file k bytes (length work) schema (length out) ≡ over (imageBytes m (subsetsOf bytes) (entriesIn ls)) schema) × (applyOut file k bytes (length work) (length schema) out ≡ over (outputBytes (expressionAt file k) (subsetsOf bytes) (entriesIn ls)) out))
-unfolding tableApplied tableImage tableOutput refuse
 apply-table file k bytes work schema out m n ls a =
     let r = a .read in
     let judged = ap (λ (i : Instantiation). i .judgement) (r .is) in
     let subsets = ap (λ (i : Instantiation). i .subsets) (r .is) in
     let entries = Instantiations.read-entries bytes (instantiationReading bytes) ls r in
     let table = Applying.read-goes file m n (expressionAt file k) (instantiationReading bytes) work schema out judged _ _ _ _ refl refl refl refl in
-    let goes = Applying.apply-goes file k bytes work schema out m n (a .goes) _ _ _ _ refl refl refl refl in (
-      sym (goes .0) ∙ sym (table .0) ∙ ap₂ (tableApplied m (expressionAt file k)) subsets entries ∙ rw (a .entries, a .special),
+    let goes = Applying.apply-goes file k bytes work schema out m n (a .goes) _ _ _ _ refl refl refl refl in
+    let gives = Applying.table-fits m (expressionAt file k) (subsetsOf bytes) (entriesIn ls) schema out (a .entries) (a .special) in (
+      sym (goes .0) ∙ sym (table .0) ∙ ap₂ (tableApplied m (expressionAt file k)) subsets entries ∙ gives .0,
       (
-        sym (goes .1 .1 .0) ∙ sym (table .1 .1 .0) ∙ ap₂ (λ (x y : List ℕ). tableImage m (expressionAt file k) x y schema) subsets entries ∙ rw (a .entries, a .special),
-        sym (goes .1 .1 .1) ∙ sym (table .1 .1 .1) ∙ ap₂ (λ (x y : List ℕ). tableOutput m (expressionAt file k) x y out) subsets entries ∙ rw (a .entries, a .special),
+        sym (goes .1 .1 .0) ∙ sym (table .1 .1 .0) ∙ ap₂ (λ (x y : List ℕ). tableImage m (expressionAt file k) x y schema) subsets entries ∙ gives .1 .0,
+        sym (goes .1 .1 .1) ∙ sym (table .1 .1 .1) ∙ ap₂ (λ (x y : List ℕ). tableOutput m (expressionAt file k) x y out) subsets entries ∙ gives .1 .1,
       ),
     )
 
@@ -152,24 +151,23 @@ module _ (file : List ℕ) (k : ℕ) (bytes work schema out : List ℕ) (m n : �
 
   -- recovering from the schema that was written gives the same instantiation, byte by byte
   pub apply-recover : (work′ out′ : List ℕ) → n * 1024 ≤ length work′ → 812 ≤ length out′ → (recoverAnswer file k image (length work′) (length out′) ≡ Recovered (length bytes)) × (recoverOut file k image (length work′) out′ ≡ over bytes out′)
-  unfolding tableRecovered tableInstantiation
   apply-recover work′ out′ space slice =
       let results = recover-table file k (imageBytes m (subsetsOf bytes) (entriesIn ls)) work′ out′ m n (recordsOf m (mapsFrom (subsetsOf bytes)) (entriesIn ls)) (record { accepted = applies-admits a .accepted; node = applies-admits a .node; workSpace = space; slice = slice; read = read-image .read; few = read-image .few }) in
       let same = recovered-same m few (expressionAt file k) bytes below ls (a .read .long) (a .read .read) (a .read .once) (a .read .few) (a .entries) (a .special) (list-zero m ls (lists-read bytes ls below (a .read .long) (a .read .read)) (a .read .once) (held-entries m few (expressionAt file k) (subsetsOf bytes) (entriesIn ls) (subsets-none bytes) (a .entries) (a .special))) in
+      let gives = Recovering.recovered-fits m (expressionAt file k) (mapsFrom (subsetsOf bytes)) (entriesIn ls) out′ fits-back in
       rw image-is (
-        results .0 ∙ rw (maps-are, entries-are, fits-back, same),
-        results .1 ∙ rw (maps-are, entries-are, fits-back, same),
+        results .0 ∙ rw (maps-are, entries-are) (gives .0 ∙ ap (λ (l : List ℕ). Recovered (length l)) same),
+        results .1 ∙ rw (maps-are, entries-are) (gives .1 ∙ ap (λ (l : List ℕ). over l out′) same),
       )
 
   -- Typing gives that schema the output record that Apply writes
   pub apply-typing : (out′ : List ℕ) → 513 ≤ length out′ → (typingAnswer file k image (length out′) ≡ Typed (recordSize (length (outputList (expressionAt file k) (entriesIn ls))))) × (typingOut file k image out′ ≡ over (outputBytes (expressionAt file k) (subsetsOf bytes) (entriesIn ls)) out′)
-  unfolding tableAnswer tableOut
   apply-typing out′ slice =
       let results = typing-records file k (imageBytes m (subsetsOf bytes) (entriesIn ls)) out′ m n (recordsOf m (mapsFrom (subsetsOf bytes)) (entriesIn ls)) (sliced-passes (asked file k) (length out′) 513 (asked-passes file k (applies-admits a .accepted) (applies-admits a .node)) slice) (read-image .read) (read-image .few) in
       let typed = fits-typed m few (expressionAt file k) legal (subsetsOf bytes) (entriesIn ls) (subsets-none bytes) (a .entries) (a .special) in
       rw image-is (
-        results .0 ∙ rw (maps-are, entries-are, typed),
-        results .1 ∙ rw (maps-are, entries-are, typed),
+        results .0 ∙ rw (maps-are, entries-are) (answer-typed (expressionAt file k) (mapsFrom (subsetsOf bytes)) (entriesIn ls) typed),
+        results .1 ∙ rw (maps-are, entries-are) (out-typed (expressionAt file k) (mapsFrom (subsetsOf bytes)) (entriesIn ls) out′ typed),
       )
 
 -- ---- recover, then apply; and Recover beside Typing
@@ -187,36 +185,27 @@ module _ (file : List ℕ) (k : ℕ) (schema work out : List ℕ) (m n : ℕ) (t
 
   -- Recover says untyped exactly when Typing does
   pub recover-untyped : (out′ : List ℕ) → 513 ≤ length out′ → (recoverAnswer file k schema (length work) (length out) ≡ Untyped) ↔ (typingAnswer file k schema (length out′) ≡ TypingUntyped)
-  unfolding tableRecovered tableAnswer
   recover-untyped out′ slice =
       let recovered = recover-table file k schema work out m n ts r .0 in
       let typing = typing-records file k schema out′ m n ts (sliced-passes (asked file k) (length out′) 513 (asked-passes file k (r .accepted) (r .node)) slice) (r .read) (r .few) .0 in (
-        (λ said. typing ∙ go (typedIn (expressionAt file k) (mapsOf ts) (entriesOf ts)) refl (sym recovered ∙ said)),
-        (λ said. recovered ∙ back (typedIn (expressionAt file k) (mapsOf ts) (entriesOf ts)) refl (sym typing ∙ said)),
+        (λ said. typing ∙ answer-untyped (expressionAt file k) (mapsOf ts) (entriesOf ts) (sym fits-typing ∙ Recovering.untyped-refused m (expressionAt file k) (mapsOf ts) (entriesOf ts) (sym recovered ∙ said))),
+        (λ said. recovered ∙ Recovering.recovered-refused m (expressionAt file k) (mapsOf ts) (entriesOf ts) out (fits-typing ∙ untyped-answer (expressionAt file k) (mapsOf ts) (entriesOf ts) (sym typing ∙ said)) .0),
       )
-    where
-      go : (t : Bool) → typedIn (expressionAt file k) (mapsOf ts) (entriesOf ts) ≡ t → tableRecovered m (expressionAt file k) (mapsOf ts) (entriesOf ts) ≡ Untyped → tableAnswer (expressionAt file k) (mapsOf ts) (entriesOf ts) ≡ TypingUntyped
-      go true e said = absurd (let fit = fits-typing ∙ e in let both = rw fit at said in let z : _≡_ {A = ℕ} 0 1 = cc in omega arith)
-      go false e said = rw e
-
-      back : (t : Bool) → typedIn (expressionAt file k) (mapsOf ts) (entriesOf ts) ≡ t → tableAnswer (expressionAt file k) (mapsOf ts) (entriesOf ts) ≡ TypingUntyped → tableRecovered m (expressionAt file k) (mapsOf ts) (entriesOf ts) ≡ Untyped
-      back true e said = absurd (let both = rw e at said in let z : _≡_ {A = ℕ} 0 1 = cc in omega arith)
-      back false e said = let fit = fits-typing ∙ e in rw fit
 
   -- the instantiation that Recover writes, where the schema types the node
   abbrev recoveredPart : List ℕ
   recoveredPart = take (length (recoveredBytes (mapsOf ts) (entriesOf ts))) (recoverOut file k schema (length work) out)
 
   module _ (typed : typedIn (expressionAt file k) (mapsOf ts) (entriesOf ts) ≡ true) where
+    gives : (tableRecovered m (expressionAt file k) (mapsOf ts) (entriesOf ts) ≡ Recovered (length (recoveredBytes (mapsOf ts) (entriesOf ts)))) × (tableInstantiation m (expressionAt file k) (mapsOf ts) (entriesOf ts) out ≡ over (recoveredBytes (mapsOf ts) (entriesOf ts)) out)
+    gives = Recovering.recovered-fits m (expressionAt file k) (mapsOf ts) (entriesOf ts) out (fits-typing ∙ typed)
+
     pub recover-typed : recoverAnswer file k schema (length work) (length out) ≡ Recovered (length (recoveredBytes (mapsOf ts) (entriesOf ts)))
-    unfolding tableRecovered
-    recover-typed = let fit = fits-typing ∙ typed in recover-table file k schema work out m n ts r .0 ∙ rw fit
+    recover-typed = recover-table file k schema work out m n ts r .0 ∙ gives .0
 
     part-is : recoveredPart ≡ recoveredBytes (mapsOf ts) (entriesOf ts)
-    unfolding tableInstantiation
     part-is =
-        let fit = fits-typing ∙ typed in
-        ap (take (length (recoveredBytes (mapsOf ts) (entriesOf ts)))) (recover-table file k schema work out m n ts r .1 ∙ rw fit) ∙ take-over (recoveredBytes (mapsOf ts) (entriesOf ts)) out
+        ap (take (length (recoveredBytes (mapsOf ts) (entriesOf ts)))) (recover-table file k schema work out m n ts r .1 ∙ gives .1) ∙ take-over (recoveredBytes (mapsOf ts) (entriesOf ts)) out
 
     long : 47 ≤ length (recoveredBytes (mapsOf ts) (entriesOf ts))
     unfolding instantiationBytes

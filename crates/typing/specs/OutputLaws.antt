@@ -1,7 +1,7 @@
--- Laws of the output: what the lanes of a node say about its attributes.
+-- Laws of the output: what the lanes of a node say about its attributes, and what a typed table says about each cell.
 use Prim.Native.Nat.{ℕ, _+_, _-_, _*_, _/_, _%_, _^_, _≤_, _<_}
-use mathlib.Core.Path.{_≡_, ap, _∙_}
-use mathlib.Core.Bool.{Bool, true, false, cond}
+use mathlib.Core.Path.{_≡_, ap, ap₂, _∙_}
+use mathlib.Core.Bool.{Bool, true, false, cond, _&&_}
 use mathlib.Core.List.{List}
 use native.Mathlib.Nat.{div-one, min-le-left}
 use native.Mathlib.Decide.{decLt}
@@ -10,15 +10,20 @@ use borrow.Author.Tests.{lt-ltb, le-ltb}
 use lib.Dec.{ltb, lit<}
 use lib.ListN.{length, getD, take, replicate, length-take, length-replicate, getD-replicate, List·getD-eq-default}
 use lib.Pow.{pow-mono}
+use Rattle.bits.specs.AllBelow.{allBelow, in-all, all-in}
 use Rattle.bits.specs.Bit.{bit}
+use Rattle.bits.specs.Booleans.{and-left, and-right}
 use Rattle.bits.specs.Pack.{pack}
 use Rattle.bits.specs.PackFrom.{packFrom, from-lower, from-below, bit-digit}
 use Rattle.bits.specs.Tab.{tab, length-tab, getD-tab, tab-is}
 use Rattle.bits.specs.Written.{Written}
+use Rattle.algebra.specs.Expression.{Expression}
+use Rattle.algebra.specs.Cell.{plain, ok}
 use Rattle.membership.specs.Entries.{entry, attributeOf}
 use Rattle.membership.specs.Holders.{heldBy, heldList, ItemsFit}
 use Rattle.membership.specs.HolderLaws.{held-few, held-attributes, held-fits}
 use Rattle.membership.specs.declared.holders.Held.{Held}
+use Rattle.typing.specs.Output.{specialHolders, typedIn}
 
 -- ---- as they are computed
 
@@ -100,3 +105,18 @@ module _ (items : List ℕ) (count : ℕ) (output : List ℕ) (k : ℕ) (few : c
 
   pub found-few : length (take (held .count) (held .list)) ≤ 255
   found-few = rw found-list (list-few items count output k few)
+
+-- ---- a typed table: each special attribute and each entry breaks no rule
+
+module _ (e : Expression) (special entries : List ℕ) where
+  pub typed-special : typedIn e special entries ≡ true → (i : ℕ) → i < 16 → ok plain e i (specialHolders special i) ≡ true
+  unfolding typedIn
+  typed-special typed = all-in 16 (λ i. ok plain e i (specialHolders special i)) (and-left (allBelow 16 (λ i. ok plain e i (specialHolders special i))) (allBelow (length entries) (λ i. ok plain e 0 (bit (getD entries i 0)))) typed)
+
+  pub typed-entry : typedIn e special entries ≡ true → (i : ℕ) → i < length entries → ok plain e 0 (bit (getD entries i 0)) ≡ true
+  unfolding typedIn
+  typed-entry typed = all-in (length entries) (λ i. ok plain e 0 (bit (getD entries i 0))) (and-right (allBelow 16 (λ i. ok plain e i (specialHolders special i))) (allBelow (length entries) (λ i. ok plain e 0 (bit (getD entries i 0)))) typed)
+
+  pub all-typed : ((i : ℕ) → i < 16 → ok plain e i (specialHolders special i) ≡ true) → ((i : ℕ) → i < length entries → ok plain e 0 (bit (getD entries i 0)) ≡ true) → typedIn e special entries ≡ true
+  unfolding typedIn
+  all-typed specials listed = ap₂ _&&_ (in-all 16 (λ i. ok plain e i (specialHolders special i)) specials) (in-all (length entries) (λ i. ok plain e 0 (bit (getD entries i 0))) listed)

@@ -1,12 +1,11 @@
 -- A table types an expression exactly as the typing rules do, under the assignment that the records of the schema mean.
 use Prim.Native.Nat.{ℕ, zero, suc, _≤_, _<_}
 use mathlib.Core.Path.{_≡_, refl, sym, ap, fun-ext, _∙_}
-use mathlib.Core.Bool.{Bool, true, false, and-eq-true-iff}
+use mathlib.Core.Bool.{Bool, true, false}
 use mathlib.Core.List.{List}
 use native.Mathlib.Nat.{lt-of-lt-of-le}
 use native.Mathlib.Omega.{arith}
 use lib.ListN.{length, getD}
-use Rattle.bits.specs.AllBelow.{allBelow, in-all, all-in}
 use Rattle.bits.specs.Bit.{bit, bit-first}
 use Rattle.bits.specs.Pack.{bit-pack}
 use Rattle.attribute_set.specs.AttrSet.{special}
@@ -25,6 +24,7 @@ use Rattle.schema.specs.RecordsLaws.{AllRecords}
 use Rattle.schema.specs.EntriesLaws.{entries-rising, entries-holders, entries-below}
 use Rattle.schema.specs.TableLaws.{maps-at, maps-is}
 use Rattle.typing.specs.Output.{specialHolders, typedIn, outputMap}
+use Rattle.typing.specs.OutputLaws.{typed-special, typed-entry, all-typed}
 use Rattle.typing.specs.OutputRecord.{outputRecord, output-is, output-member, holders-allowed, entries-allowed}
 
 -- a legal expression over m relations, and the records of a schema of m relations with at most 255 different ordinary attributes
@@ -64,22 +64,18 @@ module _ (m : ℕ) (few : m ≤ 8) (e : Expression) (legal : Legal m e) (ts : Li
   ordinary-output a h = rw h (output-member m few e legal 15 (entriesOf ts) (entries-rising ts eight all) a)
 
   pub table-rules : typedIn e (mapsOf ts) (entriesOf ts) ≡ true → Typed (assignmentOf ts) e output
-  unfolding typedIn
   table-rules typed = cells-typed m e legal (assignmentOf ts) output (λ a. cell a (special a) refl)
     where
-      parts : (allBelow 16 (λ i. ok plain e i (specialHolders (mapsOf ts) i)) ≡ true) × (allBelow (length (entriesOf ts)) (λ i. ok plain e 0 (bit (getD (entriesOf ts) i 0))) ≡ true)
-      parts = and-eq-true-iff (allBelow 16 (λ i. ok plain e i (specialHolders (mapsOf ts) i))) (allBelow (length (entriesOf ts)) (λ i. ok plain e 0 (bit (getD (entriesOf ts) i 0)))) .0 typed
-
       cell : (a : ℕ) (t : Bool) → special a ≡ t → CellOf (assignmentOf ts) e output a
       cell a true h =
           let range = special-range a h in
           record {
-            allowed = special-cell a h .0 ∙ all-in 16 (λ i. ok plain e i (specialHolders (mapsOf ts) i)) (parts .0) a (omega arith);
+            allowed = special-cell a h .0 ∙ typed-special e (mapsOf ts) (entriesOf ts) typed a (omega arith);
             output = special-cell a h .1 ∙ sym (special-output a h);
           }
       cell a false h =
           record {
-            allowed = ordinary-cell a h .0 ∙ holders-allowed m few e legal (entriesOf ts) (all-in (length (entriesOf ts)) (λ i. ok plain e 0 (bit (getD (entriesOf ts) i 0))) (parts .1)) a;
+            allowed = ordinary-cell a h .0 ∙ holders-allowed m few e legal (entriesOf ts) (typed-entry e (mapsOf ts) (entriesOf ts) typed) a;
             output = ordinary-cell a h .1 ∙ sym (ordinary-output a h);
           }
 
@@ -91,14 +87,10 @@ module _ (m : ℕ) (few : m ≤ 8) (e : Expression) (legal : Legal m e) (ts : Li
       rw none (cell-none plain refl refl m e legal .0)
 
   pub rules-table : (t : Attrs) → Typed (assignmentOf ts) e t → typedIn e (mapsOf ts) (entriesOf ts) ≡ true
-  unfolding typedIn
   rules-table t typed =
-      and-eq-true-iff (allBelow 16 (λ i. ok plain e i (specialHolders (mapsOf ts) i))) (allBelow (length (entriesOf ts)) (λ i. ok plain e 0 (bit (getD (entriesOf ts) i 0)))) .1 (
-        in-all 16 (λ i. ok plain e i (specialHolders (mapsOf ts) i)) specials,
-        in-all (length (entriesOf ts)) (λ i. ok plain e 0 (bit (getD (entriesOf ts) i 0)))
-            (entries-allowed m few e legal 15 (entriesOf ts) (entries-rising ts eight all)
-            (λ a above. sym (ordinary-cell a (special-above a above) .0) ∙ typed-cells m e legal (assignmentOf ts) t typed a .allowed)),
-      )
+      all-typed e (mapsOf ts) (entriesOf ts) specials
+      (entries-allowed m few e legal 15 (entriesOf ts) (entries-rising ts eight all)
+      (λ a above. sym (ordinary-cell a (special-above a above) .0) ∙ typed-cells m e legal (assignmentOf ts) t typed a .allowed))
     where
       specials : (i : ℕ) → i < 16 → ok plain e i (specialHolders (mapsOf ts) i) ≡ true
       specials zero h = none-special

@@ -32,7 +32,7 @@ use Rattle.typing.specs.Output.{typedIn, outputMap, outputList}
 use Rattle.typing.specs.OutputRecord.{outputRecord}
 use Rattle.typing.specs.TableTyped.{table-rules, rules-table, rules-output, output-record}
 use Rattle.typing.specs.Typing.{tableAnswer, tableOut, typingAnswer, typingOut}
-use Rattle.typing.specs.TypingLaws.{typing-records}
+use Rattle.typing.specs.TypingLaws.{answer-typed, answer-untyped, out-typed, typing-records}
 use Rattle.typing.specs.declared.operation.Answer.the-variants.{Typed as TypedAnswer, Untyped}
 
 -- these bytes are the type record of t
@@ -83,12 +83,10 @@ module _ (file : List ℕ) (k : ℕ) (schema out : List ℕ) (m n : ℕ) (ts : L
 
   -- what is answered and written, typed and untyped
   typed-results : typedIn (expressionAt file k) (mapsOf ts) (entriesOf ts) ≡ true → (typingAnswer file k schema (length out) ≡ TypedAnswer (recordSize (length (outputList (expressionAt file k) (entriesOf ts))))) × (typingOut file k schema out ≡ over (recordBytes (outputMap (expressionAt file k) (mapsOf ts)) (outputList (expressionAt file k) (entriesOf ts))) out)
-  unfolding tableAnswer tableOut
-  typed-results t = (results .0 ∙ rw t, results .1 ∙ rw t)
+  typed-results t = (results .0 ∙ answer-typed (expressionAt file k) (mapsOf ts) (entriesOf ts) t, results .1 ∙ out-typed (expressionAt file k) (mapsOf ts) (entriesOf ts) out t)
 
   untyped-result : typedIn (expressionAt file k) (mapsOf ts) (entriesOf ts) ≡ false → typingAnswer file k schema (length out) ≡ Untyped
-  unfolding tableAnswer
-  untyped-result t = results .0 ∙ rw t
+  untyped-result t = results .0 ∙ answer-untyped (expressionAt file k) (mapsOf ts) (entriesOf ts) t
 
   -- the record that is written, where the rules derive t
   written : (t : Attrs) → Typed (assignmentOf ts) (expressionAt file k) t → (size : ℕ) × ((typingAnswer file k schema (length out) ≡ TypedAnswer size) × RecordOf t (take size (typingOut file k schema out)))

@@ -3,9 +3,11 @@ use Prim.Native.Nat.{ℕ, _+_, _*_, _%_, _≤_}
 use mathlib.Core.Path.{_≡_, refl, sym, ap, ap₂, _∙_}
 use mathlib.Core.Bool.{Bool, true, false}
 use mathlib.Core.List.{List}
+use native.Mathlib.Omega.{arith}
 use lib.Dec.{eqb}
 use lib.ListN.{length, getD, take}
 use Rattle.bits.specs.AllBelow.{allBelow}
+use Rattle.bits.specs.Booleans.{is-false}
 use Rattle.bits.specs.Tab.{over}
 use Rattle.bits.specs.Word.{Bytes}
 use Rattle.refusal.specs.declared.Refusal.{Refusal}
@@ -19,7 +21,7 @@ use Rattle.schema.specs.TableLaws.{ReadSchema, schema-read, read-schema, read-e
 use Rattle.schema.specs.declared.reading.Judgement.the-variants.{Read, Refused as SchemaRefused}
 use Rattle.schema.specs.declared.reading.Schema.{Schema}
 use Rattle.typing.specs.Filling.{NodeLanes}
-use Rattle.typing.specs.Output.{typedIn}
+use Rattle.typing.specs.Output.{typedIn, outputMap, outputList}
 use Rattle.typing.specs.OutputLaws.{mapIn, listIn}
 use Rattle.typing.specs.Judged.{lanesOf, TableItems, typed-lanes, map-is, list-is, map-even}
 use Rattle.typing.specs.Typing.{tableAnswer, tableOut, schemaAnswer, schemaOut, typingAnswer, typingOut}
@@ -36,6 +38,28 @@ table-items t = record { size = t .writes .size; few = t .writes .few; zeros = t
 
 -- ---- over a table
 
+-- where it is typed, the output record; where it is not, nothing
+module _ (e : Expression) (special entries : List ℕ) where
+  pub answer-typed : typedIn e special entries ≡ true → tableAnswer e special entries ≡ Typed (recordSize (length (outputList e entries)))
+  unfolding tableAnswer
+  answer-typed typed = rw typed
+
+  pub answer-untyped : typedIn e special entries ≡ false → tableAnswer e special entries ≡ Untyped
+  unfolding tableAnswer
+  answer-untyped fails = rw fails
+
+  pub out-typed : (out : List ℕ) → typedIn e special entries ≡ true → tableOut e special entries out ≡ over (recordBytes (outputMap e special) (outputList e entries)) out
+  unfolding tableOut
+  out-typed out typed = rw typed
+
+  pub out-untyped : (out : List ℕ) → typedIn e special entries ≡ false → tableOut e special entries out ≡ out
+  unfolding tableOut
+  out-untyped out fails = rw fails
+
+  -- typed exactly where the answer says so
+  pub untyped-answer : tableAnswer e special entries ≡ Untyped → typedIn e special entries ≡ false
+  untyped-answer said = is-false (typedIn e special entries) (λ typed. let both = sym said ∙ answer-typed typed in let z : _≡_ {A = ℕ} 0 1 = cc in omega arith)
+
 module _ (file : List ℕ) (m k : ℕ) (legal : Legal m (expressionAt file k)) (special items : List ℕ) (count : ℕ) (allowed output : List ℕ) (table : ReadTable special items count) (lanes : NodeLanes file special items (lanesOf count) k allowed output) where
   abbrev e : Expression
   e = expressionAt file k
@@ -44,19 +68,16 @@ module _ (file : List ℕ) (m k : ℕ) (legal : Legal m (expressionAt file k)) (
   typed-is t is = is ∙ typed-lanes m e legal special items count k allowed output (table-items table) (lanes .lane)
 
   pub table-untyped : (out : List ℕ) (t : Bool) → t ≡ false → t ≡ allBelow (lanesOf count) (λ b. eqb (getD allowed (k * 48 + b) 0) 255) → (Untyped ≡ tableAnswer e special (take count items)) × (out ≡ tableOut e special (take count items) out)
-  unfolding tableAnswer tableOut
-  table-untyped out t fails is = let not-typed = sym (typed-is t is) ∙ fails in rw not-typed (refl, refl)
+  table-untyped out t fails is = let not-typed = sym (typed-is t is) ∙ fails in (sym (answer-untyped e special (take count items) not-typed), sym (out-untyped e special (take count items) out not-typed))
 
   -- the record that the lanes say is the output's
   pub table-typed : (out written : List ℕ) (t : Bool) (size : ℕ) → t ≡ true → t ≡ allBelow (lanesOf count) (λ b. eqb (getD allowed (k * 48 + b) 0) 255) → size ≡ recordSize (length (listIn items count output k)) → written ≡ over (recordBytes (mapIn output k) (listIn items count output k)) out → (Typed size ≡ tableAnswer e special (take count items)) × (written ≡ tableOut e special (take count items) out)
-  unfolding tableAnswer tableOut
   table-typed out written t size holds is size-is wrote =
       let typed = sym (typed-is t is) ∙ holds in
       let list = list-is m e legal special items count k allowed output (table-items table) (lanes .lane) typed in
-      let map = map-is m e legal special items count k allowed output (table-items table) (lanes .lane) typed in
-      rw typed (
-        ap Typed (size-is ∙ ap (λ (l : List ℕ). recordSize (length l)) list),
-        wrote ∙ ap₂ (λ (x : ℕ) (l : List ℕ). over (recordBytes x l) out) map list,
+      let map = map-is m e legal special items count k allowed output (table-items table) (lanes .lane) typed in (
+        ap Typed (size-is ∙ ap (λ (l : List ℕ). recordSize (length l)) list) ∙ sym (answer-typed e special (take count items) typed),
+        wrote ∙ ap₂ (λ (x : ℕ) (l : List ℕ). over (recordBytes x l) out) map list ∙ sym (out-typed e special (take count items) out typed),
       )
 
   -- bit 0 of its map is clear

@@ -11,6 +11,7 @@ use Rattle.bits.specs.Lowest.{lowestFrom, lowest-here, lowest-next, lowest-none
 use Rattle.bits.specs.Tab.{tab, length-tab, getD-tab, tab-is}
 use Rattle.bits.specs.Written.{Written}
 use Rattle.formula.specs.Column.{allowedIn}
+use Rattle.formula.specs.ColumnLaws.{allowed-bit}
 use Rattle.formula.specs.Storage.{columnAt}
 use Rattle.verdict.specs.Lowest.{subsetsIn}
 
@@ -33,12 +34,10 @@ module _ (end s x : ℕ) (test : ℕ → Bool) (resumed : lowestFrom (end - s) s
 -- ---- the test in code
 
 pub allowed-test : (column : List ℕ) (s : ℕ) → getD column (s / 8) 0 / 2 ^ (s % 8) % 2 ≡ 1 → allowedIn column s ≡ true
-unfolding allowedIn
-allowed-test column s h = sym (bit-test (getD column (s / 8) 0) (s % 8)) ∙ eq-eqb _ 1 h
+allowed-test column s h = allowed-bit column s ∙ sym (bit-test (getD column (s / 8) 0) (s % 8)) ∙ eq-eqb _ 1 h
 
 pub allowed-not : (column : List ℕ) (s : ℕ) → (getD column (s / 8) 0 / 2 ^ (s % 8) % 2 ≡ 1 → ⊥) → allowedIn column s ≡ false
-unfolding allowedIn
-allowed-not column s h = sym (bit-test (getD column (s / 8) 0) (s % 8)) ∙ ne-eqb _ 1 h
+allowed-not column s h = allowed-bit column s ∙ sym (bit-test (getD column (s / 8) 0) (s % 8)) ∙ ne-eqb _ 1 h
 
 -- ---- the sixteen columns
 

@@ -2,18 +2,14 @@
 use Prim.Native.Nat.{ℕ, _*_, _^_, _≤_, _<_}
 use mathlib.Core.Path.{_≡_, sym, ap, _∙_}
 use mathlib.Core.Logic.{_↔_}
-use mathlib.Core.Bool.{Bool, true, false, _&&_}
+use mathlib.Core.Bool.{true, false}
 use mathlib.Core.List.{List}
 use native.Mathlib.Nat.{lt-of-lt-of-le}
-use borrow.Author.Tests.{lt-ltb, le-ltb}
 use lib.ListN.{length}
 use lib.Pow.{pow-mono}
-use Rattle.bits.specs.Booleans.{and-left}
-use Rattle.bits.specs.Bit.{bit}
 use Rattle.bits.specs.Tab.{over}
 use Rattle.types.specs.Types.{Attrs, IsType, Assignment, IsAssignment}
 use Rattle.algebra.specs.Rules.{Typed}
-use Rattle.algebra.specs.Cell.{plain, out, ok}
 use Rattle.formulas.specs.Formula.{Formula, Fits}
 use Rattle.formulas.specs.Instantiation.{Instantiation, InImage, HasImage, HasOutput}
 use Rattle.formulas.specs.Principal.{Blocked, Choice, chosen, chosenType}
@@ -25,7 +21,7 @@ use Rattle.formula.specs.Column.{allowedIn, outputIn}
 use Rattle.formula.specs.Storage.{columnAt}
 use Rattle.formula.specs.Expressions.{expressionAt, expression-legal}
 use Rattle.formula.specs.Stored.{allowedBit, outputBit, formulasOf}
-use Rattle.formula.specs.StoredLaws.{stored-column}
+use Rattle.formula.specs.StoredLaws.{stored-column, allowed-is, allowed-above, output-is, output-within}
 use Rattle.formula.specs.NodeColumn.{cell-allowed, cell-output}
 
 -- the formula of node k that stands in a work space, for m relations: "A node's stored formula is what stands at the formula's place"
@@ -53,23 +49,20 @@ module _ (file : List ℕ) (m n : ℕ) (accepted : acceptance file ≡ Accepted 
 
   -- "bits from 2^m up are zero"
   pub stored-above : (c s : ℕ) → c < 16 → 2 ^ m ≤ s → s < 256 → allowedIn (columnAt filled k c) s ≡ false
-  unfolding allowedBit
-  stored-above c s hc above hs = stored-allowed c s hc hs ∙ ap (λ (t : Bool). t && ok plain (expressionAt file k) c (bit s)) (le-ltb s (2 ^ m) above)
+  stored-above c s hc above hs = stored-allowed c s hc hs ∙ allowed-above m (expressionAt file k) c s above
 
   -- "An output bit stands only where the allowed bit does"
   pub stored-within : (c s : ℕ) → c < 16 → s < 256 → outputIn (columnAt filled k c) s ≡ true → allowedIn (columnAt filled k c) s ≡ true
-  unfolding outputBit
-  stored-within c s hc hs h = stored-allowed c s hc hs ∙ and-left (allowedBit m (expressionAt file k) c s) (out plain (expressionAt file k) c (bit s)) (sym (stored-output c s hc hs) ∙ h)
+  stored-within c s hc hs h = stored-allowed c s hc hs ∙ output-within m (expressionAt file k) c s (sym (stored-output c s hc hs) ∙ h)
 
   subsets-few : 2 ^ m ≤ 256
   subsets-few = pow-mono {j = 8} (accepted-file file m n accepted .counts .relations .1)
 
   pub is-formula : Theorem.FormulaOf (expressionAt file k) (formulaIn filled m k)
-  unfolding allowedBit outputBit
   is-formula =
       record {
-        allowed = λ c s hc hs. stored-allowed c s hc (lt-of-lt-of-le hs subsets-few) ∙ ap (λ (t : Bool). t && ok plain (expressionAt file k) c (bit s)) (lt-ltb s (2 ^ m) hs);
-        output = λ c s hc hs. stored-output c s hc (lt-of-lt-of-le hs subsets-few) ∙ ap (λ (t : Bool). t && ok plain (expressionAt file k) c (bit s) && out plain (expressionAt file k) c (bit s)) (lt-ltb s (2 ^ m) hs);
+        allowed = λ c s hc hs. stored-allowed c s hc (lt-of-lt-of-le hs subsets-few) ∙ allowed-is m (expressionAt file k) c s hs;
+        output = λ c s hc hs. stored-output c s hc (lt-of-lt-of-le hs subsets-few) ∙ output-is m (expressionAt file k) c s hs;
       }
 
   -- the rules give the node the type t under A exactly when each attribute's subset is allowed in its column, and t has those whose output bit stands

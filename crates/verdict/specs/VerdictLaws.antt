@@ -2,21 +2,17 @@
 use Prim.Native.Nat.{ℕ, _*_, _≤_, _<_}
 use mathlib.Core.Path.{_≡_, refl, sym, ap, _∙_}
 use mathlib.Core.List.{List}
-use native.Mathlib.Omega.{arith}
 use borrow.Author.Tests.{lt-ltb, le-ltb}
 use lib.Dec.{eqb}
 use lib.ListN.{length, getD}
 use Rattle.bits.specs.Lowest.{lowestFrom}
-use Rattle.bits.specs.Tab.{tab, length-tab, getD-tab, over}
+use Rattle.bits.specs.Tab.{tab, over}
 use Rattle.refusal.specs.declared.Refusal.{Refusal}
 use Rattle.expression.specs.declared.files.Acceptance.the-variants.{Accepted, Refused as FileRefused}
 use Rattle.expression.specs.Admission.{sliced}
 use Rattle.expression.specs.AdmissionLaws.{sliced-passed}
-use Rattle.formula.specs.Expressions.{expressionAt}
-use Rattle.formula.specs.Storage.{columnAt}
-use Rattle.formula.specs.Stored.{cellColumn, storedByte, formulasOf, admitted}
-use Rattle.formula.specs.StoredLaws.{stored-column, admitted-passed}
-use Rattle.formula.specs.Filling.{filled-column}
+use Rattle.formula.specs.Stored.{formulasOf, admitted}
+use Rattle.formula.specs.StoredLaws.{stored-column, formulas-column, admitted-passed}
 use Rattle.verdict.specs.Lowest.{subsetsIn}
 use Rattle.verdict.specs.LowestLaws.{subsets-same}
 use Rattle.verdict.specs.Witness.{recordByte}
@@ -53,20 +49,6 @@ unfolding subsetIn
 witness-same work other k schema e (Typable size) = ap (λ (s : List ℕ). over (tab size (recordByte (λ i. getD s i 0))) schema) e
 witness-same work other k schema e (Untypable a) = refl
 witness-same work other k schema e (Refused r) = refl
-
-pub formulas-column : (file : List ℕ) (m n k c : ℕ) → k < n → c < 16 → columnAt (formulasOf file m n) k c ≡ cellColumn m (expressionAt file k) c
-unfolding formulasOf
-formulas-column file m n k c hk hc =
-    let size = length-tab (n * 1024) (storedByte file m) in
-    filled-column file m (n * 1024) (tab (n * 1024) (storedByte file m)) (tab (n * 1024) (storedByte file m)) k c
-    (record {
-      size = refl;
-      front = λ i h. getD-tab (n * 1024) (storedByte file m) i 0 h;
-      back = λ i h. refl;
-    })
-    (omega arith)
-    (omega arith)
-    hc
 
 module _ (file work : List ℕ) (m n k : ℕ) (fits : n * 1024 ≤ length work) (node : k < n) where
   same-subsets : subsetsIn (over (formulasOf file m n) work) k ≡ subsetsIn (formulasOf file m n) k

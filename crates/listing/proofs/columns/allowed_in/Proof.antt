@@ -1,4 +1,5 @@
-use Rattle.formula.specs.Column.{allowedIn}
+use mathlib.Core.Path.{sym, _∙_}
+use Rattle.formula.specs.ColumnLaws.{allowed-bit}
 use Rattle.bits.specs.Bit.{bit-test}
 use borrow.Author.Needs.{needs}
 use Rattle.listing.proofs.columns.allowed_in.Statement.{statement}
@@ -14,8 +15,7 @@ shr-result : tie.Need-shr-result
 shr-result c = search needs
 
 returns : tie.Need-returns
-unfolding allowedIn
-returns c = bit-test _ _
+returns c = bit-test _ _ ∙ sym (allowed-bit _ _)
 
 pub allowed-in-spec : {M : Type 1} → statement M
 allowed-in-spec = tie.close (tie.spec array-read-result cast-result shr-result returns)

@@ -1,4 +1,5 @@
-use Rattle.formula.specs.Column.{outputIn}
+use mathlib.Core.Path.{sym, _∙_}
+use Rattle.formula.specs.ColumnLaws.{output-bit}
 use Rattle.bits.specs.Bit.{bit-test}
 use borrow.Author.Needs.{needs}
 use Rattle.listing.proofs.columns.output_in.Statement.{statement}
@@ -17,8 +18,7 @@ shr-result : tie.Need-shr-result
 shr-result c = search needs
 
 returns : tie.Need-returns
-unfolding outputIn
-returns c = bit-test _ _
+returns c = bit-test _ _ ∙ sym (output-bit _ _)
 
 pub output-in-spec : {M : Type 1} → statement M
 output-in-spec = tie.close (tie.spec add-result array-read-result cast-result shr-result returns)
