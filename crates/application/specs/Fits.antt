@@ -14,7 +14,7 @@ use Rattle.bits.specs.Bit.{bit, bit-none}
 use Rattle.algebra.specs.Expression.{Expression, Legal}
 use Rattle.algebra.specs.Cell.{plain, ok}
 use Rattle.algebra.specs.CellLaws.{cell-depends, cell-none}
-use Rattle.formula.specs.Column.{allowedIn}
+use Rattle.column.specs.Column.{allowedIn}
 use Rattle.formula.specs.Storage.{columnAt}
 use Rattle.formula.specs.Stored.{allowedBit, cellColumn}
 use Rattle.formula.specs.StoredLaws.{allowed-cell}

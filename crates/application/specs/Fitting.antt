@@ -9,8 +9,8 @@ use lib.ListN.{length, getD}
 use Rattle.bits.specs.AllBelow.{allBelow}
 use Rattle.bits.specs.Bit.{bit}
 use Rattle.membership.specs.Entries.{subsetOf}
-use Rattle.formula.specs.Column.{allowedIn}
-use Rattle.formula.specs.ColumnLaws.{allowed-bit}
+use Rattle.column.specs.Column.{allowedIn}
+use Rattle.column.specs.ColumnLaws.{allowed-bit}
 use Rattle.formula.specs.Storage.{columnAt}
 use Rattle.formula.specs.StorageLaws.{column-byte}
 

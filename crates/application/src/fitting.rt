@@ -3,7 +3,7 @@ ghost use mathlib.Core.Path.{_≡_};
 ghost use Prim.Native.Nat.{_+_, _*_, _≤_, _<_};
 ghost use lib.ListN.{length, getD};
 ghost use Rattle.bits.specs.AllBelow.{allBelow};
-ghost use Rattle.formula.specs.Column.{allowedIn};
+ghost use Rattle.column.specs.Column.{allowedIn};
 ghost use Rattle.formula.specs.Storage.{columnAt};
 ghost use Rattle.membership.specs.Entries.{subsetOf};
 ghost use Rattle.application.specs.Fitting.{variableIn, entriesAllowed, specialsAllowed};

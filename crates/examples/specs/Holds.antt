@@ -14,8 +14,8 @@ use Rattle.bits.specs.Tab.{tab, over}
 use Rattle.bits.specs.Word.{word}
 use Rattle.attribute_set.specs.AttrSet.{special, hasAttribute, setOf}
 use Rattle.refusal.specs.Chain.{refuse}
-use Rattle.expression.specs.Operators.{binaryCode, setCode}
-use Rattle.expression.specs.ReadNode.{readNode, readFields, withBinary, withSet}
+use Rattle.node.specs.Operators.{binaryCode, setCode}
+use Rattle.node.specs.ReadNode.{readNode, readFields, withBinary, withSet}
 use Rattle.expression.specs.ReadFile.{acceptance, parse, header, readNodes, entryAt, entriesOf as nodeEntries}
 use Rattle.expression.specs.Admission.{asked, sliced}
 use Rattle.expression.specs.AdmissionLaws.{sliced-passes, asked-passes}

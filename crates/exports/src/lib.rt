@@ -1,7 +1,7 @@
 // The operations for callers in C and Rust: numbers and byte slices only. A `&[u8]` is a pointer and then a length.
 ghost use mathlib.Core.Path.{_≡_};
 ghost use lib.ListN.{length};
-ghost use Rattle.expression.specs.ReadNode.{readNode};
+ghost use Rattle.node.specs.ReadNode.{readNode};
 ghost use Rattle.expression.specs.ReadFile.{acceptance};
 ghost use Rattle.expression.specs.Record.{placeOf, recordOf};
 ghost use Rattle.exports.specs.Numbers.{acceptanceNumber, relationsOr, nodesOr, readingNumber};
@@ -9,10 +9,9 @@ ghost use Rattle.exports.specs.Numbers.{acceptanceNumber, relationsOr, n
 mod formulas;
 mod instantiations;
 mod schemas;
-mod words;
 
 use expression::Acceptance;
-use expression::Reading;
+use node::Reading;
 
 // 0 with the counts m and n written, or the number of the first refusal of 1 to 10 with nothing written.
 #[no_mangle]
@@ -48,8 +47,8 @@ pub extern "C" fn type_formula_record(file: &[u8], node: usize, start: &mut usiz
 pub extern "C" fn type_formula_read_node(relations: u8, number: u8, bytes: &[u8]) -> u64
     ensures { λ r. ⌜ r ≡ readingNumber (readNode relations number (now (bytes .entry))) ⌝ }
 {
-    match expression::read_node(relations, number, bytes) {
-        Reading::Read(node, size) => words::read_word(node, (size % 256) as u8),
+    match node::read_node(relations, number, bytes) {
+        Reading::Read(node, size) => node_word::read_word(node, (size % 256) as u8),
         Reading::Refused(r) => r.number() as u64,
     }
 }

@@ -10,13 +10,13 @@ use Rattle.expression.specs.Enough.{answer-precede}
 use Rattle.bits.specs.Part.{part-from}
 use Rattle.refusal.specs.declared.Refusal.{Refusal}
 use Rattle.refusal.specs.declared.Refusal.the-variants.{NodesFollowed}
-use Rattle.expression.specs.declared.nodes.Node.{Node}
-use Rattle.expression.specs.declared.reader.Reading.{Reading}
-use Rattle.expression.specs.declared.reader.Reading.the-variants.{Read, Refused as NodeRefused}
+use Rattle.node.specs.declared.nodes.Node.{Node}
+use Rattle.node.specs.declared.reader.Reading.{Reading}
+use Rattle.node.specs.declared.reader.Reading.the-variants.{Read, Refused as NodeRefused}
 use Rattle.expression.specs.declared.files.Acceptance.{Acceptance}
 use Rattle.expression.specs.declared.files.Acceptance.the-variants.{Accepted, Refused}
-use Rattle.expression.specs.ReadNode.{readNode}
-use Rattle.expression.specs.Legal.{node-legal}
+use Rattle.node.specs.ReadNode.{readNode}
+use Rattle.node.specs.Legal.{node-legal}
 use Rattle.expression.specs.ReadFile.{Nodes, follow, atEnd, readNodes, collect, answer}
 
 abbrev pub resumed : List ℕ → ℕ → ℕ → ℕ → ℕ → Acceptance

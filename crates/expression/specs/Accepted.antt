@@ -12,14 +12,14 @@ use Rattle.bits.specs.Range.{inRange, in-range}
 use Rattle.refusal.specs.declared.Refusal.{Refusal}
 use Rattle.refusal.specs.Chain.{refuse, refuse-has, refuse-past}
 use Rattle.refusal.specs.Number.{numberOf}
-use Rattle.expression.specs.declared.nodes.Node.{Node}
-use Rattle.expression.specs.declared.reader.Reading.{Reading}
-use Rattle.expression.specs.declared.reader.Reading.the-variants.{Read, Refused as NodeRefused}
+use Rattle.node.specs.declared.nodes.Node.{Node}
+use Rattle.node.specs.declared.reader.Reading.{Reading}
+use Rattle.node.specs.declared.reader.Reading.the-variants.{Read, Refused as NodeRefused}
 use Rattle.expression.specs.declared.files.Acceptance.{Acceptance}
 use Rattle.expression.specs.declared.files.Acceptance.the-variants.{Accepted, Refused}
-use Rattle.expression.specs.ReadNode.{readNode}
+use Rattle.node.specs.ReadNode.{readNode}
 use Rattle.expression.specs.ReadFile.{Entry, Nodes, nodesRefused, nodesRead, precede, follow, readNodes, collect, afterHeader, header, parse, answer, acceptance, entriesIn, entriesOf}
-use Rattle.expression.specs.Legal.{node-legal, node-refused}
+use Rattle.node.specs.Legal.{node-legal, node-refused}
 
 -- ---- the counts
 

@@ -11,13 +11,13 @@ use lib.Seq.{length-take-le, take-all, drop-append-le}
 use Rattle.bits.specs.Range.{inRange}
 use Rattle.refusal.specs.Chain.{refuse, refuse-stops, refuse-passes}
 use Rattle.refusal.specs.declared.Refusal.the-variants.{HeaderTruncated, RelationCount, NodeCount, NodeTruncated, NodeMap}
-use Rattle.expression.specs.declared.reader.Reading.{Reading}
-use Rattle.expression.specs.declared.reader.Reading.the-variants.{Read, Refused as NodeRefused}
+use Rattle.node.specs.declared.reader.Reading.{Reading}
+use Rattle.node.specs.declared.reader.Reading.the-variants.{Read, Refused as NodeRefused}
 use Rattle.expression.specs.declared.files.Acceptance.{Acceptance}
 use Rattle.expression.specs.declared.files.Acceptance.the-variants.{Accepted, Refused}
-use Rattle.expression.specs.ReadNode.{fieldsOf, valueOf, judge, legal, nodeWith, readFields, readNode}
+use Rattle.node.specs.ReadNode.{fieldsOf, valueOf, judge, legal, nodeWith, readFields, readNode}
 use Rattle.expression.specs.ReadFile.{Entry, Nodes, nodesRead, nodesRefused, precede, follow, readNodes, header, collect, afterHeader, parse, answer, acceptance}
-use Rattle.expression.specs.Legal.{legal-cases, node-legal}
+use Rattle.node.specs.Legal.{legal-cases, node-legal}
 use Rattle.expression.specs.Accepted.{header-counts}
 
 -- ---- a node: five bytes are enough

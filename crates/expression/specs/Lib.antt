@@ -1,9 +1,6 @@
-pub mod Operators
-pub mod ReadNode
 pub mod ReadFile
 pub mod Admission
 pub mod Record
-pub mod Legal
 pub mod Accepted
 pub mod AdmissionLaws
 pub mod Walk

@@ -8,13 +8,13 @@ use Rattle.bits.specs.Range.{inRange}
 use Rattle.refusal.specs.Chain.{refuse}
 use Rattle.refusal.specs.declared.Refusal.{Refusal}
 use Rattle.refusal.specs.declared.Refusal.the-variants.{HeaderTruncated, RelationCount, NodeCount, NodesFollowed}
-use Rattle.expression.specs.declared.nodes.Node.{Node}
-use Rattle.expression.specs.declared.nodes.Node.the-variants.{Relation}
-use Rattle.expression.specs.declared.reader.Reading.{Reading}
-use Rattle.expression.specs.declared.reader.Reading.the-variants.{Read, Refused as NodeRefused}
+use Rattle.node.specs.declared.nodes.Node.{Node}
+use Rattle.node.specs.declared.nodes.Node.the-variants.{Relation}
+use Rattle.node.specs.declared.reader.Reading.{Reading}
+use Rattle.node.specs.declared.reader.Reading.the-variants.{Read, Refused as NodeRefused}
 use Rattle.expression.specs.declared.files.Acceptance.{Acceptance}
 use Rattle.expression.specs.declared.files.Acceptance.the-variants.{Accepted, Refused}
-use Rattle.expression.specs.ReadNode.{readNode}
+use Rattle.node.specs.ReadNode.{readNode}
 
 -- a node of a file and the bytes that hold it
 pub record Entry : Type 0 where

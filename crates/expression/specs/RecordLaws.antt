@@ -9,9 +9,9 @@ use Rattle.refusal.specs.declared.Refusal.{Refusal}
 use Rattle.refusal.specs.Number.{numberOf}
 use Rattle.expression.specs.declared.files.Acceptance.{Acceptance}
 use Rattle.expression.specs.declared.files.Acceptance.the-variants.{Accepted, Refused}
-use Rattle.expression.specs.declared.nodes.Node.{Node}
-use Rattle.expression.specs.declared.reader.Reading.the-variants.{Read}
-use Rattle.expression.specs.ReadNode.{readNode}
+use Rattle.node.specs.declared.nodes.Node.{Node}
+use Rattle.node.specs.declared.reader.Reading.the-variants.{Read}
+use Rattle.node.specs.ReadNode.{readNode}
 use Rattle.expression.specs.ReadFile.{entryAt, sizeAt, startAt}
 use Rattle.expression.specs.Admission.{asked}
 use Rattle.expression.specs.AdmissionLaws.{asked-passed, asked-number}

@@ -9,13 +9,13 @@ use lib.ListN.{length, getD, take, drop, length-drop}
 use lib.Seq.{drop-drop}
 use Rattle.bits.specs.Part.{part-from, At, at-head}
 use Rattle.refusal.specs.declared.Refusal.{Refusal}
-use Rattle.expression.specs.declared.nodes.Node.{Node}
-use Rattle.expression.specs.declared.nodes.Node.the-variants.{Relation}
-use Rattle.expression.specs.declared.reader.Reading.the-variants.{Read, Refused as NodeRefused}
+use Rattle.node.specs.declared.nodes.Node.{Node}
+use Rattle.node.specs.declared.nodes.Node.the-variants.{Relation}
+use Rattle.node.specs.declared.reader.Reading.the-variants.{Read, Refused as NodeRefused}
 use Rattle.expression.specs.declared.files.Acceptance.the-variants.{Accepted}
-use Rattle.expression.specs.ReadNode.{readNode}
+use Rattle.node.specs.ReadNode.{readNode}
 use Rattle.expression.specs.ReadFile.{Entry, nodesRead, atEnd, readNodes, acceptance, entriesOf, entryAt, nodeAt, sizeAt, total, startAt}
-use Rattle.expression.specs.Legal.{LegalNode, node-legal}
+use Rattle.node.specs.Legal.{LegalNode, node-legal}
 use Rattle.expression.specs.Accepted.{FirstNode, first-node, accepted-file}
 
 -- past the last node

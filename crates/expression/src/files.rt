@@ -3,8 +3,8 @@ ghost use mathlib.Core.Path.{_≡_};
 ghost use Prim.Native.Nat.{_≤_};
 ghost use lib.ListN.{length, drop};
 ghost use Rattle.expression.specs.ReadFile.{header, acceptance, answer, collect, readNodes};
-use crate::reader::Reading;
-use crate::reader::read_node;
+use node::Reading;
+use node::read_node;
 use refusal::Refusal;
 
 // The counts m and n of a file in which nothing is refused, or the first refusal.

@@ -3,8 +3,8 @@ ghost use mathlib.Core.Path.{_≡_};
 ghost use Rattle.expression.specs.Record.{placeOf, recordOf};
 use crate::admission::ask;
 use crate::files::Acceptance;
-use crate::reader::Reading;
-use crate::reader::read_node;
+use node::Reading;
+use node::read_node;
 
 // A part of a file: its first byte and the number of its bytes.
 pub struct Place {

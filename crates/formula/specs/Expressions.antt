@@ -13,15 +13,15 @@ use Rattle.attribute_set.specs.AttrSet.{special, hasAttribute}
 use Rattle.attribute_set.specs.declared.AttrSet.{AttrSet}
 use Rattle.types.specs.Types.{Attrs}
 use Rattle.algebra.specs.Expression.{Operator, union, difference, join, product, SetOperator, selection, projection, Expression, relation, binary, withSet, renaming, projectingOut, Legal}
-use Rattle.expression.specs.declared.nodes.BinaryOp.{BinaryOp}
-use Rattle.expression.specs.declared.nodes.BinaryOp.the-variants.{Union, Difference, Join, Product}
-use Rattle.expression.specs.declared.nodes.SetOp.{SetOp}
-use Rattle.expression.specs.declared.nodes.SetOp.the-variants.{Selection, Projection}
-use Rattle.expression.specs.declared.nodes.Node.{Node}
-use Rattle.expression.specs.declared.nodes.Node.the-variants.{Relation, Binary, WithSet, Renaming, ProjectingOut}
+use Rattle.node.specs.declared.nodes.BinaryOp.{BinaryOp}
+use Rattle.node.specs.declared.nodes.BinaryOp.the-variants.{Union, Difference, Join, Product}
+use Rattle.node.specs.declared.nodes.SetOp.{SetOp}
+use Rattle.node.specs.declared.nodes.SetOp.the-variants.{Selection, Projection}
+use Rattle.node.specs.declared.nodes.Node.{Node}
+use Rattle.node.specs.declared.nodes.Node.the-variants.{Relation, Binary, WithSet, Renaming, ProjectingOut}
 use Rattle.expression.specs.ReadFile.{nodeAt, acceptance}
 use Rattle.expression.specs.declared.files.Acceptance.the-variants.{Accepted}
-use Rattle.expression.specs.Legal.{LegalNode}
+use Rattle.node.specs.Legal.{LegalNode}
 use Rattle.expression.specs.Walk.{nodes-legal}
 
 abbrev pub operatorOf : BinaryOp → Operator

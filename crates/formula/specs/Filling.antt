@@ -10,11 +10,11 @@ use lib.ListN.{length, getD, take, drop, length-drop}
 use lib.Seq.{paste, length-paste, ext-getD, length-take-le, getD-take, getD-drop}
 use Rattle.bits.specs.Tab.{over}
 use Rattle.bits.specs.Written.{Written, written-all}
-use Rattle.expression.specs.Legal.{LegalNode}
+use Rattle.node.specs.Legal.{LegalNode}
 use Rattle.expression.specs.ReadFile.{nodeAt, sizeAt, acceptance}
-use Rattle.expression.specs.ReadNode.{readNode}
-use Rattle.expression.specs.declared.reader.Reading.the-variants.{Read, Refused as NodeRefused}
-use Rattle.expression.specs.declared.nodes.Node.{Node}
+use Rattle.node.specs.ReadNode.{readNode}
+use Rattle.node.specs.declared.reader.Reading.the-variants.{Read, Refused as NodeRefused}
+use Rattle.node.specs.declared.nodes.Node.{Node}
 use Rattle.expression.specs.declared.files.Acceptance.the-variants.{Accepted}
 use Rattle.expression.specs.Accepted.{accepted-file}
 use Rattle.expression.specs.Walk.{Walk, walk-next}
@@ -22,7 +22,7 @@ use Rattle.refusal.specs.declared.Refusal.{Refusal}
 use Rattle.algebra.specs.Expression.{Expression}
 use Rattle.formula.specs.Storage.{columnAt}
 use Rattle.formula.specs.StorageLaws.{lent-paste, paste-inside, paste-outside}
-use Rattle.formula.specs.ColumnLaws.{column-length}
+use Rattle.column.specs.ColumnLaws.{column-length}
 use Rattle.formula.specs.Expressions.{expressionAt, expression-is}
 use Rattle.formula.specs.NodeColumn.{ownColumn, nodeColumn, node-cells}
 use Rattle.formula.specs.Stored.{cellColumn, storedByte, formulasOf}

@@ -1,10 +1,3 @@
-pub mod Tables
-pub mod TableLaws
-pub mod Steps
-pub mod StepLaws
-pub mod Column
-pub mod ColumnLaws
-pub mod ColumnBytes
 pub mod Storage
 pub mod StorageLaws
 pub mod Expressions

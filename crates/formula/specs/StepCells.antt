@@ -8,12 +8,12 @@ use Rattle.attribute_set.specs.AttrSet.{special, hasAttribute}
 use Rattle.attribute_set.specs.declared.AttrSet.{AttrSet}
 use Rattle.attribute_set.specs.Laws.{Clear, clear-lacks, special-in}
 use Rattle.algebra.specs.Cell.{plain, breaks, yields, breaksSet, yieldsSet, breaksRenaming, yieldsRenaming, breaksOut, yieldsOut}
-use Rattle.expression.specs.declared.nodes.BinaryOp.{BinaryOp}
-use Rattle.expression.specs.declared.nodes.BinaryOp.the-variants.{Union, Difference, Join, Product}
-use Rattle.expression.specs.declared.nodes.SetOp.{SetOp}
-use Rattle.expression.specs.declared.nodes.SetOp.the-variants.{Selection, Projection}
-use Rattle.formula.specs.declared.steps.Unary.{Unary}
-use Rattle.formula.specs.Steps.{unaryAllowed, unaryOutput, setStep, renamingStep, projectingOutStep, combinationOf, combinedAllowed, combinedOutput}
+use Rattle.node.specs.declared.nodes.BinaryOp.{BinaryOp}
+use Rattle.node.specs.declared.nodes.BinaryOp.the-variants.{Union, Difference, Join, Product}
+use Rattle.node.specs.declared.nodes.SetOp.{SetOp}
+use Rattle.node.specs.declared.nodes.SetOp.the-variants.{Selection, Projection}
+use Rattle.column.specs.declared.steps.Unary.{Unary}
+use Rattle.column.specs.Steps.{unaryAllowed, unaryOutput, setStep, renamingStep, projectingOutStep, combinationOf, combinedAllowed, combinedOutput}
 use Rattle.formula.specs.Expressions.{operatorOf, setOperatorOf, named}
 
 combined-is : (op : BinaryOp) (l r : Bool) → (not (differs l r && combinationOf op .agree || l && r && combinationOf op .disjoint) ≡ not (breaks plain (operatorOf op) l r)) × (l || r && combinationOf op .merge ≡ yields plain (operatorOf op) l r)

@@ -13,7 +13,7 @@ use Rattle.expression.specs.Admission.{tested, after, asked}
 use Rattle.algebra.specs.Expression.{Expression}
 use Rattle.algebra.specs.Cell.{plain, out, ok}
 use Rattle.formula.specs.Expressions.{expressionAt}
-use Rattle.formula.specs.Column.{columnOf}
+use Rattle.column.specs.Column.{columnOf}
 
 -- ---- one expression, one column, one subset
 

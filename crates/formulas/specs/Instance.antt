@@ -7,11 +7,11 @@ use native.Mathlib.Omega.{arith}
 use lib.Dec.{T, eqb, eqb→eq, eqb-refl, lt→ltb}
 use Rattle.bits.specs.Bit.{bit, bit-none}
 use Rattle.types.specs.Types.{Attrs, Assignment, IsAssignment, Finite, ordinary, column, holders}
-use Rattle.types.specs.Laws.{finite-by, finite-prop}
+use Rattle.types.specs.Laws.{finite-by, finite-prop, holders-bit, holders-below}
 use Rattle.formulas.specs.Formula.{Formula, Fits, Grounded, isVariable}
 use Rattle.formulas.specs.Instantiation.{Instantiation, InImage, InOutput, HasImage, HasOutput}
 use Rattle.formulas.specs.Truth.{is-false, by-true, by-false, test-same, both, left, right}
-use Rattle.formulas.specs.States.{Kind, isSpecial, isOrdinary, isZero, kind, special-ordinary, zero-other, column-special, column-other, holders-bit, holders-below, holders-none, bounded, variable, fits-at}
+use Rattle.formulas.specs.States.{Kind, isSpecial, isOrdinary, isZero, kind, special-ordinary, zero-other, column-special, column-other, holders-none, bounded, variable, fits-at}
 
 -- the ordinary attributes that exactly the relations of s have
 abbrev heldBy : ℕ → Assignment → ℕ → Attrs

@@ -5,6 +5,7 @@ use mathlib.Core.Logic.{_↔_, _⊎_, inl, inr}
 use mathlib.Core.Bool.{Bool, true, false, not, _&&_}
 use native.Mathlib.Omega.{arith}
 use lib.Dec.{T, T-not}
+use Rattle.types.specs.Laws.{holders-below}
 use Rattle.bits.specs.Bit.{bit}
 use Rattle.attribute_set.specs.AttrSet.{special}
 use Rattle.types.specs.Types.{Attrs, IsType, Assignment, IsAssignment, holders}
@@ -12,7 +13,7 @@ use Rattle.formulas.specs.Formula.{Formula, Fits, Grounded}
 use Rattle.formulas.specs.Instantiation.{Instantiation, InImage, HasImage, HasOutput}
 use Rattle.formulas.specs.Truth.{is-true, is-false, by-true, by-false, decided, not-not, both, left, right}
 use Rattle.formulas.specs.Search.{Below, found, missing, search-below, taken, isFound, found-taken, found-none}
-use Rattle.formulas.specs.States.{special-bounds, special-type, column-special, column-other, holders-is, holders-below, holders-none, fits-at}
+use Rattle.formulas.specs.States.{special-bounds, special-type, column-special, column-other, holders-is, holders-none, fits-at}
 use Rattle.formulas.specs.Members.{place}
 use Rattle.formulas.specs.Instance.{instance, instance-image, instance-output}
 use Rattle.formulas.specs.ImageFits.{fits}

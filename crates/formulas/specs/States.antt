@@ -12,7 +12,7 @@ use Rattle.bits.specs.Pack.{bits-once}
 use Rattle.attribute_set.specs.AttrSet.{special}
 use Rattle.attribute_set.specs.Laws.{special-range, special-in}
 use Rattle.types.specs.Types.{Attrs, IsType, Assignment, IsAssignment, ordinary, column, holders}
-use Rattle.types.specs.Laws.{finite-by, finite-bound, column-of-special, column-of-other, holder-bit, holders-few}
+use Rattle.types.specs.Laws.{finite-by, finite-bound, column-of-special, column-of-other, holders-bit, holders-below}
 use Rattle.formulas.specs.Formula.{Formula, Fits, isVariable}
 use Rattle.formulas.specs.Truth.{is-true, is-false, by-true, decided, both, left, right}
 use Rattle.formulas.specs.Search.{Below, found, missing, search-below}
@@ -68,12 +68,6 @@ column-below a = go (decided (special a))
     go (inr h) = rw (column-other a h) (omega arith)
 
 -- ---- holders
-
-pub holders-bit : (m : ℕ) (A : Assignment) (a r : ℕ) → r < m → bit (holders m A a) r ≡ A r a
-holders-bit = holder-bit
-
-pub holders-below : (m : ℕ) (A : Assignment) (a : ℕ) → holders m A a < 2 ^ m
-holders-below = holders-few
 
 pub holders-is : (m : ℕ) (A : Assignment) (a s : ℕ) → s < 2 ^ m → ((r : ℕ) → r < m → A r a ≡ bit s r) → holders m A a ≡ s
 holders-is m A a s h e = bits-once m (holders m A a) s (holders-below m A a) h (λ r below. holders-bit m A a r below ∙ e r below)

@@ -7,8 +7,8 @@ use Rattle.bits.specs.Lowest.{lowestFrom}
 use Rattle.bits.specs.Range.{inRange}
 use Rattle.attribute_set.specs.AttrSet.{hasAttribute, special, setOf}
 use Rattle.refusal.specs.Chain.{refuse}
-use Rattle.expression.specs.Operators.{binaryCode, setCode}
-use Rattle.expression.specs.ReadNode.{readNode, readFields, withBinary, withSet}
+use Rattle.node.specs.Operators.{binaryCode, setCode}
+use Rattle.node.specs.ReadNode.{readNode, readFields, withBinary, withSet}
 use Rattle.expression.specs.ReadFile.{acceptance, parse, header, readNodes, entryAt, entriesOf}
 use Rattle.formula.specs.Expressions.{expressionAt, earlier}
 use Rattle.formula.specs.Stored.{allowedBit, outputBit}

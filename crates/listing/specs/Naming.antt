@@ -12,7 +12,7 @@ use lib.Dec.{eqb, ltb}
 use Rattle.attribute_set.specs.declared.AttrSet.{AttrSet}
 use Rattle.attribute_set.specs.AttrSet.{special, hasAttribute, emptySet, withAttribute}
 use Rattle.attribute_set.specs.Laws.{special-in, has-empty, has-with}
-use Rattle.expression.specs.declared.nodes.Node.{Node}
+use Rattle.node.specs.declared.nodes.Node.{Node}
 use Rattle.listing.specs.Text.{names, namedBelow}
 
 -- the set and what passes the test

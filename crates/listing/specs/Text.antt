@@ -9,8 +9,8 @@ use Rattle.text.specs.Each.{each}
 use Rattle.attribute_set.specs.AttrSet.{hasAttribute}
 use Rattle.refusal.specs.Number.{numberOf}
 use Rattle.algebra.specs.Expression.{Expression}
-use Rattle.expression.specs.declared.nodes.Node.{Node}
-use Rattle.expression.specs.declared.nodes.Node.the-variants.{Relation, Binary, WithSet, Renaming, ProjectingOut}
+use Rattle.node.specs.declared.nodes.Node.{Node}
+use Rattle.node.specs.declared.nodes.Node.the-variants.{Relation, Binary, WithSet, Renaming, ProjectingOut}
 use Rattle.expression.specs.declared.files.Acceptance.{Acceptance}
 use Rattle.expression.specs.declared.files.Acceptance.the-variants.{Accepted, Refused}
 use Rattle.expression.specs.ReadFile.{acceptance, nodeAt}

@@ -3,7 +3,7 @@ ghost use mathlib.Core.Path.{_≡_};
 ghost use Prim.Native.Nat.{_+_, _*_, _≤_, _<_};
 ghost use lib.Dec.{ltb};
 ghost use lib.ListN.{length};
-ghost use Rattle.formula.specs.Column.{allowedIn, outputIn};
+ghost use Rattle.column.specs.Column.{allowedIn, outputIn};
 ghost use Rattle.verdict.specs.Verdict.{blockedIn};
 use verdict::first_blocked;
 use verdict::lowest_subsets;

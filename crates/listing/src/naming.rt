@@ -6,9 +6,9 @@ ghost use Rattle.expression.specs.declared.files.Acceptance.the-variants.{Accep
 ghost use Rattle.listing.specs.Text.{names};
 ghost use Rattle.listing.specs.Naming.{Joined, Named};
 use attribute_set::AttrSet;
-use expression::Node;
-use expression::Reading;
-use expression::read_node;
+use node::Node;
+use node::Reading;
+use node::read_node;
 
 // The attributes of both sets.
 fn join(set: AttrSet, other: AttrSet) -> AttrSet

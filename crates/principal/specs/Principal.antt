@@ -5,6 +5,7 @@ use mathlib.Core.Logic.{_↔_}
 use mathlib.Core.Bool.{true, false, _&&_}
 use lib.Dec.{lit<}
 use lib.Pow.{pow-pos}
+use Rattle.types.specs.Laws.{holders-bit, holders-below}
 use Rattle.bits.specs.Bit.{bit, bit-none}
 use Rattle.types.specs.Types.{Attrs, IsType, Assignment, IsAssignment, column, holders}
 use Rattle.algebra.specs.Expression.{Expression, Legal}
@@ -14,7 +15,7 @@ use Rattle.algebra.specs.CellLaws.{cell-depends, cell-none}
 use Rattle.algebra.specs.ByAttribute.{CellOf, typed-cells, cells-typed}
 use Rattle.formulas.specs.Formula.{Formula, Fits, Grounded}
 use Rattle.formulas.specs.Instantiation.{Instantiation, InImage, HasImage, HasOutput}
-use Rattle.formulas.specs.States.{holders-bit, holders-below, column-below}
+use Rattle.formulas.specs.States.{column-below}
 use Rattle.formulas.specs.Principal.{instantiate, image-fits, image-once, Blocked, Fitting, Choice, chosen, chosenType, choice-fits, blocked-none, none-blocked}
 
 -- F is a formula of e: its bits are the cells of e, at the columns and subsets that there are

@@ -32,10 +32,10 @@ unfolding column
 column-of-other a e = ap (λ (b : Bool). cond b a 0) e
 
 -- relation r holds an attribute if bit r stands
-pub holder-bit : (m : ℕ) (A : Assignment) (a r : ℕ) → r < m → bit (holders m A a) r ≡ A r a
+pub holders-bit : (m : ℕ) (A : Assignment) (a r : ℕ) → r < m → bit (holders m A a) r ≡ A r a
 unfolding holders
-holder-bit m A a r h = bit-pack m (λ r. A r a) r h
+holders-bit m A a r h = bit-pack m (λ r. A r a) r h
 
-pub holders-few : (m : ℕ) (A : Assignment) (a : ℕ) → holders m A a < 2 ^ m
+pub holders-below : (m : ℕ) (A : Assignment) (a : ℕ) → holders m A a < 2 ^ m
 unfolding holders
-holders-few m A a = pack-below m (λ r. A r a)
+holders-below m A a = pack-below m (λ r. A r a)

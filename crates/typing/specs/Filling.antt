@@ -12,11 +12,11 @@ use lib.ListN.{length, set}
 use lib.Seq.{getD-set-same, getD-set-other}
 use Rattle.bits.specs.Pack.{pack}
 use Rattle.algebra.specs.Expression.{Expression}
-use Rattle.expression.specs.declared.nodes.Node.{Node}
-use Rattle.expression.specs.declared.nodes.Node.the-variants.{Relation, Binary, WithSet, Renaming, ProjectingOut}
-use Rattle.expression.specs.Legal.{LegalNode}
+use Rattle.node.specs.declared.nodes.Node.{Node}
+use Rattle.node.specs.declared.nodes.Node.the-variants.{Relation, Binary, WithSet, Renaming, ProjectingOut}
+use Rattle.node.specs.Legal.{LegalNode}
 use Rattle.expression.specs.ReadFile.{nodeAt}
-use Rattle.formula.specs.declared.steps.Bytes.{Bytes}
+use Rattle.column.specs.declared.steps.Bytes.{Bytes}
 use Rattle.formula.specs.Expressions.{expressionAt, expression-is}
 use Rattle.typing.specs.Lanes.{laneColumn, heldIn, cellLane, nodeLane, laneAt, OperandsFit}
 use Rattle.typing.specs.LaneCells.{node-lane}

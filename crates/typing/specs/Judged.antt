@@ -19,7 +19,7 @@ use Rattle.algebra.specs.Expression.{Expression, Legal}
 use Rattle.algebra.specs.Cell.{plain, out, ok}
 use Rattle.algebra.specs.CellLaws.{cell-none}
 use Rattle.bits.specs.Booleans.{same-test}
-use Rattle.formula.specs.declared.steps.Bytes.{Bytes}
+use Rattle.column.specs.declared.steps.Bytes.{Bytes}
 use Rattle.membership.specs.Entries.{entry, attributeOf}
 use Rattle.membership.specs.EnterLaws.{entry-attribute}
 use Rattle.membership.specs.Holders.{heldBy}

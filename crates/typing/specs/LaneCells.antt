@@ -7,13 +7,13 @@ use Rattle.bits.specs.Bit.{bit}
 use Rattle.bits.specs.Pack.{pack, bit-pack, pack-same}
 use Rattle.algebra.specs.Expression.{Expression, relation, binary, withSet, renaming, projectingOut}
 use Rattle.algebra.specs.Cell.{plain, out, ok}
-use Rattle.expression.specs.declared.nodes.BinaryOp.{BinaryOp}
-use Rattle.expression.specs.declared.nodes.Node.{Node}
-use Rattle.expression.specs.declared.nodes.Node.the-variants.{Relation, Binary, WithSet, Renaming, ProjectingOut}
-use Rattle.expression.specs.Legal.{LegalNode}
-use Rattle.formula.specs.declared.steps.Bytes.{Bytes}
-use Rattle.formula.specs.declared.steps.Unary.{Unary}
-use Rattle.formula.specs.Steps.{setStep, renamingStep, projectingOutStep, combinationOf}
+use Rattle.node.specs.declared.nodes.BinaryOp.{BinaryOp}
+use Rattle.node.specs.declared.nodes.Node.{Node}
+use Rattle.node.specs.declared.nodes.Node.the-variants.{Relation, Binary, WithSet, Renaming, ProjectingOut}
+use Rattle.node.specs.Legal.{LegalNode}
+use Rattle.column.specs.declared.steps.Bytes.{Bytes}
+use Rattle.column.specs.declared.steps.Unary.{Unary}
+use Rattle.column.specs.Steps.{setStep, renamingStep, projectingOutStep, combinationOf}
 use Rattle.formula.specs.StepCells.{StepIs, set-is, renaming-is, projecting-out-is, unary-bits, binary-bits, named-is}
 use Rattle.formula.specs.Expressions.{operatorOf, setOperatorOf, named, ofNode}
 use Rattle.typing.specs.Lanes.{cellLane, unaryLane, combinedLane, nodeLane}

@@ -10,11 +10,11 @@ use native.Mathlib.Omega.{arith}
 use Rattle.bits.specs.Bit.{bit}
 use Rattle.bits.specs.Pack.{pack}
 use Rattle.bits.specs.PackFrom.{packFrom, from-lower, from-below, bit-digit}
-use Rattle.formula.specs.declared.steps.Bytes.{Bytes}
-use Rattle.formula.specs.declared.steps.Unary.{Unary}
-use Rattle.formula.specs.declared.steps.Combination.{Combination}
-use Rattle.formula.specs.Steps.{unaryAllowed, unaryOutput}
-use Rattle.formula.specs.StepLaws.{MadeBy}
+use Rattle.column.specs.declared.steps.Bytes.{Bytes}
+use Rattle.column.specs.declared.steps.Unary.{Unary}
+use Rattle.column.specs.declared.steps.Combination.{Combination}
+use Rattle.column.specs.Steps.{unaryAllowed, unaryOutput}
+use Rattle.column.specs.StepLaws.{MadeBy}
 use Rattle.typing.specs.Lanes.{heldIn, unaryLane, combinedLane}
 
 -- whether relation r holds each of the attributes of eight entries, from the j-th up

@@ -9,12 +9,12 @@ use Rattle.bits.specs.Pack.{pack}
 use Rattle.attribute_set.specs.AttrSet.{hasAttribute}
 use Rattle.algebra.specs.Expression.{Expression}
 use Rattle.algebra.specs.Cell.{plain, out, ok}
-use Rattle.expression.specs.declared.nodes.Node.{Node}
-use Rattle.expression.specs.declared.nodes.Node.the-variants.{Relation, Binary, WithSet, Renaming, ProjectingOut}
-use Rattle.formula.specs.declared.steps.Bytes.{Bytes}
-use Rattle.formula.specs.declared.steps.Unary.{Unary}
-use Rattle.formula.specs.declared.steps.Combination.{Combination}
-use Rattle.formula.specs.Steps.{unaryAllowed, unaryOutput, setStep, renamingStep, projectingOutStep, combinationOf, combinedAllowed, combinedOutput}
+use Rattle.node.specs.declared.nodes.Node.{Node}
+use Rattle.node.specs.declared.nodes.Node.the-variants.{Relation, Binary, WithSet, Renaming, ProjectingOut}
+use Rattle.column.specs.declared.steps.Bytes.{Bytes}
+use Rattle.column.specs.declared.steps.Unary.{Unary}
+use Rattle.column.specs.declared.steps.Combination.{Combination}
+use Rattle.column.specs.Steps.{unaryAllowed, unaryOutput, setStep, renamingStep, projectingOutStep, combinationOf, combinedAllowed, combinedOutput}
 
 -- ---- which attributes
 

@@ -7,8 +7,8 @@ ghost use Rattle.expression.specs.ReadFile.{acceptance, sizeAt};
 ghost use Rattle.formula.specs.Filling.{Here};
 ghost use Rattle.typing.specs.Filling.{NodeLanes, Filled};
 use crate::lanes::node_lane;
-use expression::Reading;
-use expression::read_node;
+use node::Reading;
+use node::read_node;
 
 // Reads node k at byte `at` of the file, fills its lanes, and gives the byte after it.
 fn fill_node(

@@ -5,14 +5,14 @@ ghost use lib.ListN.{length, getD};
 ghost use Rattle.bits.specs.Bit.{bit};
 ghost use Rattle.bits.specs.Pack.{pack};
 ghost use Rattle.typing.specs.Lanes.{laneColumn, heldIn, laneAt, nodeLane, OperandsFit};
-use expression::Node;
-use formula::Bytes;
-use formula::combination_of;
-use formula::combined_bytes;
-use formula::projecting_out_step;
-use formula::renaming_step;
-use formula::set_step;
-use formula::unary_bytes;
+use column::Bytes;
+use column::combination_of;
+use column::combined_bytes;
+use column::projecting_out_step;
+use column::renaming_step;
+use column::set_step;
+use column::unary_bytes;
+use node::Node;
 
 // The column of a lane's attributes.
 pub fn lane_column(b: usize) -> u8

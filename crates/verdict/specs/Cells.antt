@@ -13,7 +13,7 @@ use Rattle.algebra.specs.Expression.{Expression}
 use Rattle.expression.specs.declared.files.Acceptance.the-variants.{Accepted}
 use Rattle.expression.specs.Admission.{sliced}
 use Rattle.expression.specs.AdmissionLaws.{sliced-passed}
-use Rattle.formula.specs.Column.{allowedIn}
+use Rattle.column.specs.Column.{allowedIn}
 use Rattle.formula.specs.Expressions.{expressionAt}
 use Rattle.formula.specs.Storage.{columnAt}
 use Rattle.formula.specs.Stored.{allowedBit, cellColumn, formulasOf, admitted}

@@ -23,7 +23,7 @@ use Rattle.algebra.specs.Rules.{Typed}
 use Rattle.formulas.specs.Truth.{is-true, by-true}
 use Rattle.formulas.specs.Principal.{Blocked, Choice, chosen, chosenType, choice-types, choice-type}
 use Rattle.principal.specs.Principal as Theorem
-use Rattle.formula.specs.Column.{allowedIn}
+use Rattle.column.specs.Column.{allowedIn}
 use Rattle.formula.specs.Storage.{columnAt}
 use Rattle.verdict.specs.Lowest.{subsetsIn}
 use Rattle.verdict.specs.Witness.{recordWord, recordByte}

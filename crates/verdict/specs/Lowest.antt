@@ -3,7 +3,7 @@ use Prim.Native.Nat.{ℕ}
 use mathlib.Core.List.{List}
 use Rattle.bits.specs.Lowest.{lowestFrom}
 use Rattle.bits.specs.Tab.{tab}
-use Rattle.formula.specs.Column.{allowedIn}
+use Rattle.column.specs.Column.{allowedIn}
 use Rattle.formula.specs.Storage.{columnAt}
 
 -- as read off the work space; 256 where a column allows nothing

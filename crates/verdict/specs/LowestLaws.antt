@@ -10,8 +10,8 @@ use Rattle.bits.specs.Bit.{bit-test}
 use Rattle.bits.specs.Lowest.{lowestFrom, lowest-here, lowest-next, lowest-none}
 use Rattle.bits.specs.Tab.{tab, length-tab, getD-tab, tab-is}
 use Rattle.bits.specs.Written.{Written}
-use Rattle.formula.specs.Column.{allowedIn}
-use Rattle.formula.specs.ColumnLaws.{allowed-bit}
+use Rattle.column.specs.Column.{allowedIn}
+use Rattle.column.specs.ColumnLaws.{allowed-bit}
 use Rattle.formula.specs.Storage.{columnAt}
 use Rattle.verdict.specs.Lowest.{subsetsIn}
 

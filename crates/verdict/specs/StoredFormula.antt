@@ -17,7 +17,7 @@ use Rattle.principal.specs.Principal as Theorem
 use Rattle.expression.specs.declared.files.Acceptance.the-variants.{Accepted}
 use Rattle.expression.specs.ReadFile.{acceptance}
 use Rattle.expression.specs.Accepted.{accepted-file}
-use Rattle.formula.specs.Column.{allowedIn, outputIn}
+use Rattle.column.specs.Column.{allowedIn, outputIn}
 use Rattle.formula.specs.Storage.{columnAt}
 use Rattle.formula.specs.Expressions.{expressionAt, expression-legal}
 use Rattle.formula.specs.Stored.{allowedBit, outputBit, formulasOf}

@@ -4,7 +4,7 @@ ghost use Prim.Native.Nat.{_+_, _*_, _≤_};
 ghost use lib.Dec.{eqb};
 ghost use lib.ListN.{length, getD};
 ghost use Rattle.bits.specs.Lowest.{lowestFrom};
-ghost use Rattle.formula.specs.Column.{allowedIn};
+ghost use Rattle.column.specs.Column.{allowedIn};
 ghost use Rattle.verdict.specs.Lowest.{subsetsIn};
 use formula::read_column;
 

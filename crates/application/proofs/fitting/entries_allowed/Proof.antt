@@ -5,7 +5,7 @@ use native.Mathlib.Omega.{arith}
 use borrow.Author.Tests.{not-true, not-false}
 use lib.ListN.{getD}
 use Rattle.bits.specs.AllBelow.{allBelow, all-next, not-all}
-use Rattle.formula.specs.Column.{allowedIn}
+use Rattle.column.specs.Column.{allowedIn}
 use Rattle.formula.specs.Storage.{columnAt}
 use Rattle.membership.specs.Entries.{subsetOf}
 use Rattle.application.specs.Fitting.{variableIn, specialsAllowed}

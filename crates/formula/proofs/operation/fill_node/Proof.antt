@@ -5,7 +5,7 @@ use native.Mathlib.Nat.{add-zero, le-refl}
 use native.Mathlib.Omega.{arith}
 use borrow.Rule.Slice.PartMut.{mid-len}
 use lib.ListN.{length}
-use Rattle.expression.specs.declared.nodes.Node.{Node}
+use Rattle.node.specs.declared.nodes.Node.{Node}
 use Rattle.expression.specs.ReadFile.{nodeAt, sizeAt}
 use Rattle.formula.specs.Filling.{FilledTo, here-read, here-reads, next-column, filled-part}
 use Rattle.formula.specs.NodeColumn.{HasMap, has-map, OperandsFit, operands-fit, ownColumn, nodeColumn}

@@ -2,10 +2,10 @@ use Prim.Native.Nat.{ℕ}
 use mathlib.Core.Path.{_≡_, sym, ap, ap₂, subst, _∙_}
 use native.Mathlib.Omega.{arith}
 use lib.ListN.{length}
-use Rattle.expression.specs.declared.nodes.Node.{Node}
-use Rattle.formula.specs.declared.steps.Combination.{Combination}
-use Rattle.formula.specs.Steps.{setStep}
-use Rattle.formula.specs.Column.{unaryColumn, combinedColumn}
+use Rattle.node.specs.declared.nodes.Node.{Node}
+use Rattle.column.specs.declared.steps.Combination.{Combination}
+use Rattle.column.specs.Steps.{setStep}
+use Rattle.column.specs.Column.{unaryColumn, combinedColumn}
 use Rattle.formula.specs.Storage.{columnAt}
 use Rattle.formula.specs.NodeColumn.{OperandsFit, nodeColumn}
 use borrow.Author.Needs.{needs}

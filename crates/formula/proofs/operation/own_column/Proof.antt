@@ -2,7 +2,7 @@ use Prim.Native.Nat.{ℕ, _^_}
 use mathlib.Core.Path.{sym, ap, subst, _∙_}
 use native.Mathlib.Omega.{arith}
 use Rattle.bits.specs.Bit.{shifted-one}
-use Rattle.formula.specs.Column.{relationColumn}
+use Rattle.column.specs.Column.{relationColumn}
 use Rattle.formula.specs.NodeColumn.{HasMap, ownColumn}
 use borrow.Author.Needs.{needs}
 use Rattle.formula.proofs.operation.own_column.Statement.{statement}

@@ -1,5 +1,5 @@
 use mathlib.Core.Path.{sym, _∙_}
-use Rattle.formula.specs.ColumnLaws.{allowed-bit}
+use Rattle.column.specs.ColumnLaws.{allowed-bit}
 use Rattle.bits.specs.Bit.{bit-test}
 use borrow.Author.Needs.{needs}
 use Rattle.listing.proofs.columns.allowed_in.Statement.{statement}

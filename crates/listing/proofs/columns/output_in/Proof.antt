@@ -1,5 +1,5 @@
 use mathlib.Core.Path.{sym, _∙_}
-use Rattle.formula.specs.ColumnLaws.{output-bit}
+use Rattle.column.specs.ColumnLaws.{output-bit}
 use Rattle.bits.specs.Bit.{bit-test}
 use borrow.Author.Needs.{needs}
 use Rattle.listing.proofs.columns.output_in.Statement.{statement}

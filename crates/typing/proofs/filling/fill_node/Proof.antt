@@ -3,7 +3,7 @@ use mathlib.Core.Path.{_≡_, refl, sym, ap, subst, _∙_}
 use native.Mathlib.Omega.{arith}
 use lib.ListN.{length, length-set}
 use Rattle.bits.specs.Pack.{pack}
-use Rattle.expression.specs.declared.nodes.Node.{Node}
+use Rattle.node.specs.declared.nodes.Node.{Node}
 use Rattle.expression.specs.ReadFile.{nodeAt, sizeAt}
 use Rattle.formula.specs.Filling.{here-read, here-reads}
 use Rattle.typing.specs.Lanes.{laneColumn, heldIn, laneAt, nodeLane, OperandsFit}

@@ -4,9 +4,9 @@ use lib.Dec.{eqb}
 use lib.ListN.{length}
 use Rattle.bits.specs.Pack.{pack}
 use Rattle.attribute_set.specs.AttrSet.{hasAttribute}
-use Rattle.expression.specs.declared.nodes.Node.{Node}
-use Rattle.formula.specs.declared.steps.Combination.{Combination}
-use Rattle.formula.specs.Steps.{setStep, renamingStep, projectingOutStep}
+use Rattle.node.specs.declared.nodes.Node.{Node}
+use Rattle.column.specs.declared.steps.Combination.{Combination}
+use Rattle.column.specs.Steps.{setStep, renamingStep, projectingOutStep}
 use Rattle.typing.specs.Lanes.{laneColumn, heldIn, laneAt, unaryLane, combinedLane, nodeLane, OperandsFit}
 use Rattle.typing.specs.LaneLaws.{combined-of, unary-of}
 use borrow.Author.Needs.{needs}

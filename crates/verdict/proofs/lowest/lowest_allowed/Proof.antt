@@ -2,7 +2,7 @@ use Prim.Native.Nat.{_-_, _≤_}
 use mathlib.Core.Path.{_≡_, refl}
 use native.Mathlib.Omega.{arith}
 use Rattle.bits.specs.Lowest.{lowestFrom}
-use Rattle.formula.specs.Column.{allowedIn}
+use Rattle.column.specs.Column.{allowedIn}
 use Rattle.verdict.specs.LowestLaws.{search-found, search-next, search-ended, allowed-test, allowed-not}
 use borrow.Author.Needs.{needs}
 use Rattle.verdict.proofs.lowest.lowest_allowed.Statement.{statement}

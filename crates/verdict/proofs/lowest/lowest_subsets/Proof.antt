@@ -5,7 +5,7 @@ use native.Mathlib.Omega.{arith}
 use lib.ListN.{length, length-set}
 use Rattle.bits.specs.Lowest.{lowestFrom}
 use Rattle.bits.specs.Written.{Written, written-none, written-more}
-use Rattle.formula.specs.Column.{allowedIn}
+use Rattle.column.specs.Column.{allowedIn}
 use Rattle.verdict.specs.LowestLaws.{lowestAt, subsets-done}
 use borrow.Author.Needs.{needs}
 use Rattle.verdict.proofs.lowest.lowest_subsets.Statement.{statement}

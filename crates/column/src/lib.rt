@@ -1,0 +1,17 @@
+// A column of a formula, and what an operator makes of its operands' columns, eight subsets at a time.
+mod columns;
+mod steps;
+mod tables;
+
+pub use columns::combined_column;
+pub use columns::relation_column;
+pub use columns::unary_column;
+pub use steps::Bytes;
+pub use steps::Combination;
+pub use steps::Unary;
+pub use steps::combination_of;
+pub use steps::combined_bytes;
+pub use steps::projecting_out_step;
+pub use steps::renaming_step;
+pub use steps::set_step;
+pub use steps::unary_bytes;

@@ -1,0 +1,35 @@
+-- A node as a machine word, for callers in C and Rust.
+use Prim.Native.Nat.{ℕ, _+_, _*_, _/_, _%_}
+use Rattle.attribute_set.specs.AttrSet.{bitsOf}
+use Rattle.node.specs.declared.nodes.BinaryOp.{BinaryOp}
+use Rattle.node.specs.declared.nodes.BinaryOp.the-variants.{Union, Difference, Join, Product}
+use Rattle.node.specs.declared.nodes.SetOp.{SetOp}
+use Rattle.node.specs.declared.nodes.SetOp.the-variants.{Selection, Projection}
+use Rattle.node.specs.declared.nodes.Node.{Node}
+use Rattle.node.specs.declared.nodes.Node.the-variants.{Relation, Binary, WithSet, Renaming, ProjectingOut}
+
+abbrev pub binaryNumber : BinaryOp → ℕ
+binaryNumber Union = 1
+binaryNumber Difference = 2
+binaryNumber Join = 3
+binaryNumber Product = 4
+
+abbrev pub setNumber : SetOp → ℕ
+setNumber Selection = 5
+setNumber Projection = 6
+
+-- five bytes, low first
+unfoldable pub wordOf : ℕ → ℕ → ℕ → ℕ → ℕ → ℕ
+wordOf a b c d e = a + b * 256 + c * 65536 + d * 16777216 + e * 4294967296
+
+-- a node's map and its fields in bit order
+unfoldable pub nodeWord : Node → ℕ
+nodeWord (Relation r) = wordOf 1 r 0 0 0
+nodeWord (Binary op l r) = wordOf 14 l r (binaryNumber op) 0
+nodeWord (WithSet op e s) = wordOf 26 e (setNumber op) (bitsOf s % 256) (bitsOf s / 256)
+nodeWord (Renaming e old new) = wordOf 98 e old new 0
+nodeWord (ProjectingOut e old) = wordOf 34 e old 0 0
+
+-- 0, the number of the node's bytes, and the node
+unfoldable pub readWord : Node → ℕ → ℕ
+readWord node size = (size + nodeWord node * 256) * 256
