@@ -75,3 +75,9 @@ pack-bits n x h = bits-once n (pack n (bit x)) x (pack-below n (bit x)) h (λ j 
 -- a byte with these bits
 pub byte-is : (x : ℕ) (f : ℕ → Bool) → x < 256 → ((j : ℕ) → j < 8 → bit x j ≡ f j) → x ≡ pack 8 f
 byte-is x f h e = bits-once 8 x (pack 8 f) h (pack-below 8 f) (λ j below. e j below ∙ sym (bit-pack 8 f j below))
+
+-- eight times one bit
+pub byte-same : (b : Bool) → pack 8 (λ j. b) ≡ cond b 255 0
+unfolding pack
+byte-same true = refl
+byte-same false = refl
