@@ -1,7 +1,7 @@
 -- The type that a record stands for: two records of one type are one.
 use Prim.Native.Nat.{ℕ, zero, suc, _-_, _≤_, _<_}
 use mathlib.Core.Path.{_≡_, sym, ap, ap₂, _∙_}
-use mathlib.Core.Bool.{false}
+use mathlib.Core.Bool.{Bool, true, false, cond}
 use mathlib.Core.List.{List}
 use native.Mathlib.Decide.{decLe}
 use native.Mathlib.Omega.{arith}
@@ -9,19 +9,27 @@ use lib.Dec.{eqb}
 use Rattle.bits.specs.Bit.{bit, bit-first}
 use Rattle.bits.specs.Pack.{bits-once}
 use Rattle.bits.specs.Rising.{member, rising-above, member-below, rising-once}
+use Rattle.attribute_set.specs.AttrSet.{special}
 use Rattle.attribute_set.specs.Laws.{special-in, special-above, special-zero}
 use Rattle.types.specs.Types.{IsType}
 use Rattle.types.specs.Laws.{finite-by}
 use Rattle.type_record.specs.Record.{TypeRecord, typeOf}
 use Rattle.type_record.specs.RecordBytes.{IsRecord}
 
-type-special : (t : TypeRecord) (a : ℕ) → 1 ≤ a → a ≤ 15 → typeOf t a ≡ bit (t .map) a
+-- the map says the special attributes, the list the others
+pub type-of-special : (t : TypeRecord) (a : ℕ) → special a ≡ true → typeOf t a ≡ bit (t .map) a
 unfolding typeOf
-type-special t a least most = rw (special-in a least most)
+type-of-special t a e = ap (λ (b : Bool). cond b (bit (t .map) a) (member a (t .ordinary))) e
+
+pub type-of-other : (t : TypeRecord) (a : ℕ) → special a ≡ false → typeOf t a ≡ member a (t .ordinary)
+unfolding typeOf
+type-of-other t a e = ap (λ (b : Bool). cond b (bit (t .map) a) (member a (t .ordinary))) e
+
+type-special : (t : TypeRecord) (a : ℕ) → 1 ≤ a → a ≤ 15 → typeOf t a ≡ bit (t .map) a
+type-special t a least most = type-of-special t a (special-in a least most)
 
 type-ordinary : (t : TypeRecord) (a : ℕ) → 16 ≤ a → typeOf t a ≡ member a (t .ordinary)
-unfolding typeOf
-type-ordinary t a least = rw (special-above a least)
+type-ordinary t a least = type-of-other t a (special-above a least)
 
 clear-first : (t : TypeRecord) → IsRecord t → bit (t .map) 0 ≡ false
 clear-first t is = bit-first (t .map) ∙ ap (λ (d : ℕ). eqb d 1) (is .even)
@@ -47,8 +55,7 @@ type-once t u t-is u-is same =
     ap₂ (λ (map : ℕ) (ordinary : List ℕ). record { map = map; ordinary = ordinary }) (map-once t u t-is u-is same) (ordinary-once t u t-is u-is same)
 
 type-zero : (t : TypeRecord) → IsRecord t → typeOf t 0 ≡ false
-unfolding typeOf
-type-zero t is = rw special-zero (rising-above 15 (t .ordinary) 0 (is .rising) (omega arith))
+type-zero t is = type-of-other t 0 special-zero ∙ rising-above 15 (t .ordinary) 0 (is .rising) (omega arith)
 
 -- a record's type is a type
 pub record-type : (t : TypeRecord) → IsRecord t → IsType (typeOf t)
