@@ -11,7 +11,7 @@ use lib.ListN.{length, getD, replicate}
 use lib.Pow.{pow-lt}
 use Rattle.bits.specs.Bit.{bit, bit-none, bit-power}
 use Rattle.bits.specs.Rising.{member, rising-once}
-use Rattle.bits.specs.Tab.{tab-same, getD-tab, tab-is}
+use Rattle.bits.specs.Tab.{tab, tab-none, tab-next, tab-same, length-tab, getD-tab, tab-is}
 use Rattle.type_record.specs.Record.{TypeRecord}
 use Rattle.type_record.specs.RecordBytes.{IsRecord}
 use Rattle.membership.specs.Entries.{holdersIn, enter}
@@ -25,6 +25,17 @@ use Rattle.schema.specs.RecordsLaws.{AllRecords}
 -- one relation alone is a subset of eight
 pub single-below : (r : ℕ) → r < 8 → 2 ^ r < 256
 single-below r h = pow-lt {i = r} {j = 8} h
+
+-- ---- in general
+
+has-from : (P : List ℕ → Type 0) (m r : ℕ) (ts : List TypeRecord) (es : List ℕ) → r + length ts ≤ m → ((q : ℕ) (t : TypeRecord) (fs : List ℕ) → q < m → P fs → P (enter (2 ^ q) (t .ordinary) fs)) → P es → P (entriesFrom r ts es)
+has-from P m r [] es fits each h = h
+has-from P m r (t ∷ ts) es fits each h = has-from P m (r + 1) ts (enter (2 ^ r) (t .ordinary) es) (omega arith) each (each r t es (omega arith) h)
+
+-- what no entries have, and entering one relation's list keeps, the entries of m relations have
+pub entries-has : (P : List ℕ → Type 0) (m : ℕ) (ts : List TypeRecord) → length ts ≤ m → P [] → ((r : ℕ) (t : TypeRecord) (es : List ℕ) → r < m → P es → P (enter (2 ^ r) (t .ordinary) es)) → P (entriesOf ts)
+unfolding entriesOf
+entries-has P m ts fits none each = has-from P m 0 ts [] (omega arith) each none
 
 -- ---- order
 
@@ -79,6 +90,24 @@ unfolding entriesOf
 entries-holders ts fits all a r h =
     holders-from 0 ts [] (omega arith) all tt a r h
     ∙ rw (le-leb 0 r (omega arith), sub-zero r, bit-none r) (or-false (member a (getD ts r noRecord .ordinary)))
+
+-- ---- the records that a table says
+
+pub records-size : (m : ℕ) (special entries : List ℕ) → length (recordsOf m special entries) ≡ m
+unfolding recordsOf
+records-size m special entries = length-tab m (λ r. record { map = getD special r 0; ordinary = heldBy r entries })
+
+pub record-of : (m : ℕ) (special entries : List ℕ) (r : ℕ) → r < m → getD (recordsOf m special entries) r noRecord ≡ record { map = getD special r 0; ordinary = heldBy r entries }
+unfolding recordsOf
+record-of m special entries r h = getD-tab m (λ r. record { map = getD special r 0; ordinary = heldBy r entries }) r noRecord h
+
+all-tab : (n : ℕ) (f : ℕ → TypeRecord) → ((i : ℕ) → i < n → IsRecord (f i)) → AllRecords (tab n f)
+all-tab zero f h = rw (tab-none f) tt
+all-tab (suc n) f h = rw (tab-next n f) (h 0 (omega arith), all-tab n (λ i. f (suc i)) (λ i less. h (suc i) (omega arith)))
+
+pub records-all : (m : ℕ) (special entries : List ℕ) → ((r : ℕ) → r < m → IsRecord (record { map = getD special r 0; ordinary = heldBy r entries })) → AllRecords (recordsOf m special entries)
+unfolding recordsOf
+records-all m special entries each = all-tab m (λ r. record { map = getD special r 0; ordinary = heldBy r entries }) each
 
 -- ---- the records that a table was made of
 
