@@ -22,6 +22,11 @@ use Rattle.instantiation.specs.Apart.{Apart, once-apart, apart-once, tab
 use Rattle.instantiation.specs.SubsetLaws.{subset-member, member-holders, subset-rising, subset-none, subset-few, subset-below, lists-few}
 use Rattle.instantiation.specs.Owners.{lists-holders}
 
+-- the first list is entered first
+pub entries-first : (l : List ℕ) (ls : List (List ℕ)) → entriesIn (l ∷ ls) ≡ entriesFrom 1 ls (enter 0 l [])
+unfolding entriesIn
+entries-first l ls = refl
+
 -- ---- order and bounds
 
 rising-from : (s : ℕ) (ls : List (List ℕ)) (es : List ℕ) → s + length ls ≤ 256 → ((i : ℕ) → Rising 15 (getD ls i [])) → RisingEntries 15 es → RisingEntries 15 (entriesFrom s ls es)

@@ -6,7 +6,7 @@ use mathlib.Core.List.{List, [], _++_}
 use native.Mathlib.Omega.{arith}
 use borrow.Author.Tests.{ne-eqb}
 use lib.Dec.{eqb}
-use lib.ListN.{length, getD, take, drop, length-drop, take-append-drop, List·getD-append}
+use lib.ListN.{length, getD, take, drop, length-append, length-drop, take-append-drop, List·getD-append}
 use lib.Seq.{getD-take, getD-drop, getD-append-add, drop-drop, drop-at, length-take-le}
 use Rattle.bits.specs.Bit.{bit}
 use Rattle.bits.specs.Pack.{bit-pack, byte-is}
@@ -74,6 +74,14 @@ module _ (bytes : List ℕ) (ls : List (List ℕ)) (below : Bytes bytes) (enough
 module _ (subsets : List ℕ) (ls : List (List ℕ)) where
   abbrev front : List ℕ
   front = tab 15 (λ i. getD subsets (i + 1) 0)
+
+  -- the subsets and the map, at least
+  pub written-long : 47 ≤ length (instantiationBytes subsets ls)
+  unfolding instantiationBytes
+  written-long =
+      let size = length-tab 15 (λ i. getD subsets (i + 1) 0) in
+      let all = length-tab 32 (mapByte ls) in
+      rw (length-append, length-append) (omega arith)
 
   written-after : drop 47 (instantiationBytes subsets ls) ≡ listsBytes ls
   unfolding instantiationBytes
