@@ -11,7 +11,7 @@ use lib.Pow.{pow-mono}
 use lib.ListN.{length, set, length-set}
 use Rattle.bits.specs.Bit.{bit}
 use Rattle.bits.specs.Pack.{pack-same, pack-below}
-use Rattle.bits.specs.PackFrom.{packFrom, from-none, from-lower, from-below, pack-step, bit-digit}
+use Rattle.bits.specs.PackFrom.{packFrom, from-with, from-none, from-lower, from-below, pack-step, bit-digit}
 use Rattle.bits.specs.Written.{Written, written-more}
 use Rattle.verdict.specs.Witness.{recordWord, recordByte}
 
@@ -36,10 +36,11 @@ bits-below subset r i some =
 
 -- bit 0 is clear
 pub bits-word : (subset : ℕ → ℕ) (r : ℕ) → bitsFrom subset r 1 * 2 ≡ recordWord subset r
-unfolding packFrom recordWord
+unfolding recordWord
 bits-word subset r =
     let rest = pack-same 15 (λ j. leb 1 (suc j) && bit (subset (suc j)) r) (λ j. bit (subset (1 + j)) r) (λ j h. above j (le-leb 1 (suc j) (omega arith)) (omega arith)) in
-    sym (pack-step 15 (λ j. leb 1 j && bit (subset j) r) ∙ ap (λ (x : ℕ). 0 + x * 2) rest ∙ zero-add _)
+    ap (λ (x : ℕ). x * 2) (from-with 16 (λ i. bit (subset i) r) 1)
+    ∙ sym (pack-step 15 (λ j. leb 1 j && bit (subset j) r) ∙ ap (λ (x : ℕ). 0 + x * 2) rest ∙ zero-add _)
   where
     above : (j : ℕ) → leb 1 (suc j) ≡ true → suc j ≡ 1 + j → leb 1 (suc j) && bit (subset (suc j)) r ≡ bit (subset (1 + j)) r
     above j t e = ap₂ (λ (b : Bool) (k : ℕ). b && bit (subset k) r) t e
