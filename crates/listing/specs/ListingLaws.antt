@@ -1,14 +1,14 @@
 -- Laws of the listing: what was written is the text, and the answer in each case.
 use Prim.Native.Nat.{ℕ, _-_, _≤_, _<_}
 use mathlib.Core.Path.{_≡_, refl, sym, ap, _∙_}
-use mathlib.Core.Bool.{Bool, true, false}
+use mathlib.Core.Bool.{false}
 use mathlib.Core.List.{List, [], _∷_, _++_}
 use native.Mathlib.Omega.{arith}
 use borrow.Author.Tests.{lt-ltb, le-ltb}
 use lib.Dec.{ltb, lit≤}
 use lib.ListN.{length, drop, length-append}
-use Rattle.bits.specs.Tab.{over}
-use Rattle.refusal.specs.Chain.{refuse}
+use Rattle.bits.specs.Tab.{over, over-with}
+use Rattle.refusal.specs.Chain.{refuse, refuse-stops, refuse-passes, refuse-past}
 use Rattle.refusal.specs.Number.{numberOf}
 use Rattle.refusal.specs.declared.Refusal.{Refusal}
 use Rattle.refusal.specs.declared.Refusal.the-variants.{HeaderTruncated, RelationCount, NodeCount, NodeTruncated, NodeMap, OperatorCode, RelationNumber, Operand, Attribute, NodesFollowed, NodeNumber, WorkSpace, ResultSlice, InputTruncated, CountZero, ListedAttribute, InputFollowed, TooManyAttributes, RepeatedAttribute, TypeVariable, SpecialSubset}
@@ -24,7 +24,7 @@ use Rattle.listing.specs.declared.operation.Listed.{Listed}
 use Rattle.listing.specs.declared.operation.Listed.the-variants.{Text, Refused}
 use Rattle.text.specs.Characters.{decimal, newline}
 use Rattle.listing.specs.Text.{listing, textAfter, textOf}
-use Rattle.listing.specs.Listing.{listedAnswer, listedText, listedSpace}
+use Rattle.listing.specs.Listing.{checked, listedAnswer, listedText, listedSpace}
 use Rattle.text.specs.Put.{Wrote, wrote-as, wrote-front}
 use Rattle.listing.specs.Lines.{linesText}
 use Rattle.listing.specs.Naming.{Named}
@@ -107,30 +107,54 @@ Outcome file work text r work′ text′ =
     (r ≡ listedAnswer file (length work) (length text))
     × ((text′ ≡ listedText file (length work) text) × (work′ ≡ listedSpace file work (length text)))
 
+-- after each outcome of the two tests
+module _ {A : Type 0} (space size : ℕ) (stop : Refusal → A) (go : A) where
+  checked-work : space < 65536 → checked space size stop go ≡ stop WorkSpace
+  checked-work h = refuse-stops stop (ltb space 65536) WorkSpace (refuse stop (ltb size 32768) ResultSlice go) (lt-ltb space 65536 h)
+
+  checked-text : 65536 ≤ space → size < 32768 → checked space size stop go ≡ stop ResultSlice
+  checked-text h k =
+      refuse-passes stop (ltb space 65536) WorkSpace (refuse stop (ltb size 32768) ResultSlice go) (le-ltb space 65536 h)
+      ∙ refuse-stops stop (ltb size 32768) ResultSlice go (lt-ltb size 32768 k)
+
+  checked-goes : ltb space 65536 ≡ false → ltb size 32768 ≡ false → checked space size stop go ≡ go
+  checked-goes h k =
+      refuse-passes stop (ltb space 65536) WorkSpace (refuse stop (ltb size 32768) ResultSlice go) h
+      ∙ refuse-passes stop (ltb size 32768) ResultSlice go k
+
 module _ (file work text : List ℕ) where
   pub listed-work : length work < 65536 → Outcome file work text (Refused WorkSpace) work text
-  unfolding listedAnswer listedText listedSpace refuse
-  listed-work h = rw (lt-ltb (length work) 65536 h) (refl, (refl, refl))
+  unfolding listedAnswer listedText listedSpace
+  listed-work h =
+      (sym (checked-work (length work) (length text) Refused _ h), (sym (checked-work (length work) (length text) (λ r. text) _ h), sym (checked-work (length work) (length text) (λ r. work) _ h)))
 
   pub listed-text : 65536 ≤ length work → length text < 32768 → Outcome file work text (Refused ResultSlice) work text
-  unfolding listedAnswer listedText listedSpace refuse
-  listed-text h k = rw (le-ltb (length work) 65536 h, lt-ltb (length text) 32768 k) (refl, (refl, refl))
+  unfolding listedAnswer listedText listedSpace
+  listed-text h k =
+      (sym (checked-text (length work) (length text) Refused _ h k), (sym (checked-text (length work) (length text) (λ r. text) _ h k), sym (checked-text (length work) (length text) (λ r. work) _ h k)))
 
   pub listed-done : (work′ text′ : List ℕ) (end : ℕ) → 65536 ≤ length work → 32768 ≤ length text → work′ ≡ formulaSpace file work → Wrote 0 (textOf file) text text′ end → Outcome file work text (Text end) work′ text′
-  unfolding listedAnswer listedText listedSpace refuse
+  unfolding listedAnswer listedText listedSpace
   listed-done work′ text′ end h k space wrote =
       let front = wrote-front wrote in
-      rw (le-ltb (length work) 65536 h, le-ltb (length text) 32768 k) (ap Text (front .1), (front .0, space))
+      let enough = le-ltb (length work) 65536 h in
+      let room = le-ltb (length text) 32768 k in (
+        ap Text (front .1) ∙ sym (checked-goes (length work) (length text) Refused _ enough room),
+        (front .0 ∙ sym (checked-goes (length work) (length text) (λ r. text) _ enough room), space ∙ sym (checked-goes (length work) (length text) (λ r. work) _ enough room)),
+      )
 
 -- the text fits its slice
 pub listed-fits : (file : List ℕ) (space : ℕ) (text text′ : List ℕ) (n : ℕ) → text′ ≡ listedText file space text → listedAnswer file space (length text) ≡ Text n → n ≤ length text′
-unfolding listedAnswer listedText refuse over
-listed-fits file space text text′ n = go (ltb space 65536) (ltb (length text) 32768)
+unfolding listedAnswer listedText
+listed-fits file space text text′ n t e =
+    let work = refuse-past Refused (ltb space 65536) WorkSpace (refuse Refused (ltb (length text) 32768) ResultSlice (Text (length (textOf file)))) (never WorkSpace) e in
+    let room = refuse-past Refused (ltb (length text) 32768) ResultSlice (Text (length (textOf file))) (never ResultSlice) (work .1) in
+    let is : length (textOf file) ≡ n = sized (room .1) in
+    let whole = ap length (t ∙ checked-goes space (length text) (λ r. text) (over (textOf file) text) (work .0) (room .0) ∙ over-with (textOf file) text) ∙ length-append (textOf file) (drop (length (textOf file)) text) in
+    omega arith
   where
-    go : (a b : Bool) → text′ ≡ refuse (λ r. text) a WorkSpace (refuse (λ r. text) b ResultSlice (over (textOf file) text)) → refuse Refused a WorkSpace (refuse Refused b ResultSlice (Text (length (textOf file)))) ≡ Text n → n ≤ length text′
-    go true b t e = absurd (let z : _≡_ {A = ℕ} 0 1 = cc in omega arith)
-    go false true t e = absurd (let z : _≡_ {A = ℕ} 0 1 = cc in omega arith)
-    go false false t e =
-        let is : length (textOf file) ≡ n = cc in
-        let whole = ap length t ∙ length-append (textOf file) (drop (length (textOf file)) text) in
-        omega arith
+    never : (r : Refusal) → Refused r ≡ Text n → ⊥
+    never r q = let z : _≡_ {A = ℕ} 0 1 = cc in omega arith
+
+    sized : {a b : ℕ} → Text a ≡ Text b → a ≡ b
+    sized q = cc
