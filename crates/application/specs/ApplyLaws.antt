@@ -1,7 +1,7 @@
 -- Laws of Apply: what the code finds is what the definitions say, the results after each refusal, and after none.
 use Prim.Native.Nat.{ℕ, _+_, _*_, _≤_, _<_}
 use mathlib.Core.Path.{_≡_, refl, sym, ap, ap₂, _∙_}
-use mathlib.Core.Bool.{Bool, true, false}
+use mathlib.Core.Bool.{Bool, true, false, not}
 use mathlib.Core.List.{List}
 use native.Mathlib.Omega.{arith}
 use lib.ListN.{length, getD, take}
@@ -9,7 +9,7 @@ use lib.Seq.{length-take-le, getD-take}
 use Rattle.bits.specs.AllBelow.{allBelow, all-same}
 use Rattle.bits.specs.Tab.{over}
 use Rattle.bits.specs.Word.{Bytes}
-use Rattle.refusal.specs.Chain.{refuse}
+use Rattle.refusal.specs.Chain.{refuse, refuse-stops, refuse-passes}
 use Rattle.refusal.specs.declared.Refusal.{Refusal}
 use Rattle.refusal.specs.declared.Refusal.the-variants.{TypeVariable, SpecialSubset}
 use Rattle.expression.specs.declared.files.Acceptance.{Acceptance}
@@ -41,7 +41,7 @@ use Rattle.application.specs.Special.{mapsFrom}
 use Rattle.application.specs.SpecialLaws.{maps-length, maps-even}
 use Rattle.application.specs.Fitting.{variableIn, entriesAllowed, specialsAllowed}
 use Rattle.application.specs.Fits.{entriesFit, specialsFit, entries-stored, specials-stored, fits-typed}
-use Rattle.application.specs.Apply.{imageBytes, outputBytes, tableApplied, tableImage, tableOutput, entriesOf, readApplied, readImage, readOutput, readSpace, applyAnswer, applySpace, applySchema, applyOut}
+use Rattle.application.specs.Apply.{afterFit, imageBytes, outputBytes, tableApplied, tableImage, tableOutput, entriesOf, readApplied, readImage, readOutput, readSpace, applyAnswer, applySpace, applySchema, applyOut}
 use Rattle.application.specs.declared.applying.Application.{Application}
 use Rattle.application.specs.declared.applying.Application.the-variants.{Applied, Refused}
 
@@ -78,20 +78,34 @@ module _ (m : ℕ) (e : Expression) (subsets entries : List ℕ) where
       × ((tableImage m e subsets entries schema ≡ image)
       × (tableOutput m e subsets entries out ≡ written))
 
+  -- after each outcome of the two tests
+  fit-goes : {A : Type 0} (stop : Refusal → A) (go : A) → entriesFit m e entries ≡ true → specialsFit m e subsets ≡ true → afterFit m e subsets entries stop go ≡ go
+  fit-goes stop go fit special =
+      refuse-passes stop (not (entriesFit m e entries)) TypeVariable (refuse stop (not (specialsFit m e subsets)) SpecialSubset go) (ap not fit)
+      ∙ refuse-passes stop (not (specialsFit m e subsets)) SpecialSubset go (ap not special)
+
+  fit-variable : {A : Type 0} (stop : Refusal → A) (go : A) → entriesFit m e entries ≡ false → afterFit m e subsets entries stop go ≡ stop TypeVariable
+  fit-variable stop go fails = refuse-stops stop (not (entriesFit m e entries)) TypeVariable (refuse stop (not (specialsFit m e subsets)) SpecialSubset go) (ap not fails)
+
+  fit-special : {A : Type 0} (stop : Refusal → A) (go : A) → entriesFit m e entries ≡ true → specialsFit m e subsets ≡ false → afterFit m e subsets entries stop go ≡ stop SpecialSubset
+  fit-special stop go fit fails =
+      refuse-passes stop (not (entriesFit m e entries)) TypeVariable (refuse stop (not (specialsFit m e subsets)) SpecialSubset go) (ap not fit)
+      ∙ refuse-stops stop (not (specialsFit m e subsets)) SpecialSubset go (ap not fails)
+
   -- both tests hold
   pub table-fits : (schema out : List ℕ) → entriesFit m e entries ≡ true → specialsFit m e subsets ≡ true → TableGives schema out (Applied (length (imageBytes m subsets entries)) (recordSize (length (outputList e entries)))) (over (imageBytes m subsets entries) schema) (over (outputBytes e subsets entries) out)
-  unfolding tableApplied tableImage tableOutput refuse
-  table-fits schema out fit special = rw (fit, special) (refl, (refl, refl))
+  unfolding tableApplied tableImage tableOutput
+  table-fits schema out fit special = (fit-goes Refused _ fit special, (fit-goes (λ r. schema) _ fit special, fit-goes (λ r. out) _ fit special))
 
   -- the first fails
   pub entries-refused : (schema out : List ℕ) → entriesFit m e entries ≡ false → TableGives schema out (Refused TypeVariable) schema out
-  unfolding tableApplied tableImage tableOutput refuse
-  entries-refused schema out fails = rw fails (refl, (refl, refl))
+  unfolding tableApplied tableImage tableOutput
+  entries-refused schema out fails = (fit-variable Refused _ fails, (fit-variable (λ r. schema) _ fails, fit-variable (λ r. out) _ fails))
 
   -- the first holds and the second fails
   pub specials-refused : (schema out : List ℕ) → entriesFit m e entries ≡ true → specialsFit m e subsets ≡ false → TableGives schema out (Refused SpecialSubset) schema out
-  unfolding tableApplied tableImage tableOutput refuse
-  specials-refused schema out fit fails = rw (fit, fails) (refl, (refl, refl))
+  unfolding tableApplied tableImage tableOutput
+  specials-refused schema out fit fails = (fit-special Refused _ fit fails, (fit-special (λ r. schema) _ fit fails, fit-special (λ r. out) _ fit fails))
 
   -- and the other way: where it was applied, both hold
   pub applied-fits : (size width : ℕ) → tableApplied m e subsets entries ≡ Applied size width → (entriesFit m e entries ≡ true) × (specialsFit m e subsets ≡ true)
