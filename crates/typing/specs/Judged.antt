@@ -14,7 +14,7 @@ use Rattle.bits.specs.AllBelow.{allBelow, in-all, all-in}
 use Rattle.bits.specs.Bit.{bit, bit-first, bit-none, bit-ones, digit-clear}
 use Rattle.bits.specs.Pack.{pack, pack-same, bit-pack}
 use Rattle.bits.specs.PackFrom.{bit-digit}
-use Rattle.bits.specs.Tab.{tab, length-tab, getD-tab, tab-is}
+use Rattle.bits.specs.Tab.{tab, tab-none, tab-next, length-tab, getD-tab, tab-is}
 use Rattle.algebra.specs.Expression.{Expression, Legal}
 use Rattle.algebra.specs.Cell.{plain, out, ok}
 use Rattle.algebra.specs.CellLaws.{cell-none}
@@ -61,11 +61,10 @@ mark-attribute a true = entry-attribute a 1 (lit< tt)
 mark-attribute a false = entry-attribute a 0 (lit< tt)
 
 held-outputs : (e : Expression) (n : ℕ) (g h : ℕ → ℕ) → ((i : ℕ) → i < n → g i ≡ entry (attributeOf (h i)) (cond (out plain e 0 (bit (h i))) 1 0)) → heldBy 0 (tab n g) ≡ outputList e (tab n h)
-unfolding tab
-held-outputs e zero g h is = refl
+held-outputs e zero g h is = rw (tab-none g, tab-none h)
 held-outputs e (suc n) g h is =
     let rest = held-outputs e n (λ i. g (suc i)) (λ i. h (suc i)) (λ i less. is (suc i) (omega arith)) in
-    rw (is 0 (omega arith), mark-bit (attributeOf (h 0)) (out plain e 0 (bit (h 0))), mark-attribute (attributeOf (h 0)) (out plain e 0 (bit (h 0))), rest)
+    rw (tab-next n g, tab-next n h, is 0 (omega arith), mark-bit (attributeOf (h 0)) (out plain e 0 (bit (h 0))), mark-attribute (attributeOf (h 0)) (out plain e 0 (bit (h 0))), rest)
 
 module _ (m : ℕ) (e : Expression) (legal : Legal m e) where
   -- an attribute that no relation has

@@ -1,10 +1,10 @@
 -- Over operands' lanes of cells, a node's lane is that of its cells.
 use Prim.Native.Nat.{ℕ, _<_}
-use mathlib.Core.Path.{_≡_, refl, ap₂, _∙_}
+use mathlib.Core.Path.{_≡_, refl, sym, ap₂, _∙_}
 use mathlib.Core.Bool.{Bool, true, not, _&&_}
 use lib.Dec.{eqb}
 use Rattle.bits.specs.Bit.{bit}
-use Rattle.bits.specs.Pack.{pack, bit-pack, pack-same}
+use Rattle.bits.specs.Pack.{pack, bit-pack, pack-same, byte-same}
 use Rattle.algebra.specs.Expression.{Expression, relation, binary, withSet, renaming, projectingOut}
 use Rattle.algebra.specs.Cell.{plain, out, ok}
 use Rattle.node.specs.declared.nodes.BinaryOp.{BinaryOp}
@@ -42,8 +42,8 @@ cells-are g c held = refl
 
 module _ (c : ℕ) (held : ℕ → ℕ → Bool) where
   relation-lane : (r member : ℕ) → member ≡ pack 8 (λ j. held j r) → lane 255 member ≡ cellLane (relation r) c held
-  unfolding cellLane pack
-  relation-lane r member is = lane-is refl is
+  unfolding cellLane
+  relation-lane r member is = lane-is (sym (byte-same true)) is
 
   binary-lane : (op : BinaryOp) (e f : Expression) → combinedLane (combinationOf op) (cellLane e c held) (cellLane f c held) ≡ cellLane (binary (operatorOf op) e f) c held
   unfolding combinedLane

@@ -8,7 +8,7 @@ use lib.ListN.{getD}
 use lib.Pow.{pow-mono}
 use native.Mathlib.Omega.{arith}
 use Rattle.bits.specs.Bit.{bit}
-use Rattle.bits.specs.Pack.{pack}
+use Rattle.bits.specs.Pack.{pack, byte-same}
 use Rattle.bits.specs.PackFrom.{packFrom, from-lower, from-below, bit-digit}
 use Rattle.column.specs.declared.steps.Bytes.{Bytes}
 use Rattle.column.specs.declared.steps.Unary.{Unary}
@@ -34,9 +34,7 @@ members-below items at r j some =
 
 -- eight times one bit
 pub eight : (b : Bool) → pack 8 (λ j. b) ≡ cond b 255 0
-unfolding pack
-eight true = refl
-eight false = refl
+eight = byte-same
 
 -- a lane by its two bytes
 pub lane-of : {x : Bytes} {a o : ℕ} → x .allowed ≡ a → x .output ≡ o → x ≡ record { allowed = a; output = o }

@@ -11,6 +11,7 @@ use Rattle.bits.specs.Pack.{bit-pack}
 use Rattle.attribute_set.specs.AttrSet.{special}
 use Rattle.attribute_set.specs.Laws.{special-range, special-in, special-above}
 use Rattle.types.specs.Types.{Attrs, column}
+use Rattle.types.specs.Laws.{column-of-special, column-of-other}
 use Rattle.algebra.specs.Expression.{Expression, Legal}
 use Rattle.algebra.specs.Rules.{Typed}
 use Rattle.algebra.specs.Cell.{plain, out, ok}
@@ -18,8 +19,9 @@ use Rattle.algebra.specs.CellLaws.{cell-depends, cell-none}
 use Rattle.algebra.specs.ByAttribute.{CellOf, typed-cells, cells-typed, typed-once}
 use Rattle.type_record.specs.Record.{TypeRecord, typeOf}
 use Rattle.type_record.specs.RecordBytes.{IsRecord}
+use Rattle.type_record.specs.RecordTypes.{type-of-special, type-of-other}
 use Rattle.membership.specs.Entries.{holdersIn}
-use Rattle.schema.specs.Schema.{assignmentOf, entriesOf, mapsOf}
+use Rattle.schema.specs.Schema.{noRecord, assignmentOf, entriesOf, mapsOf}
 use Rattle.schema.specs.RecordsLaws.{AllRecords}
 use Rattle.schema.specs.EntriesLaws.{entries-rising, entries-holders, entries-below}
 use Rattle.schema.specs.TableLaws.{maps-at, maps-is}
@@ -35,20 +37,16 @@ module _ (m : ℕ) (few : m ≤ 8) (e : Expression) (legal : Legal m e) (ts : Li
   -- ---- the cell of each attribute, by the table
 
   special-held : (a r : ℕ) → special a ≡ true → r < m → assignmentOf ts r a ≡ specialHolders (mapsOf ts) a r
-  unfolding typeOf
-  special-held a r h below = rw h (ap (λ (x : ℕ). bit x a) (sym (maps-is ts r (lt-of-lt-of-le below few))))
+  special-held a r h below = type-of-special (getD ts r noRecord) a h ∙ ap (λ (x : ℕ). bit x a) (sym (maps-is ts r (lt-of-lt-of-le below few)))
 
   ordinary-held : (a r : ℕ) → special a ≡ false → r < m → assignmentOf ts r a ≡ bit (holdersIn (entriesOf ts) a) r
-  unfolding typeOf
-  ordinary-held a r h below = rw h (sym (entries-holders ts eight all a r (lt-of-lt-of-le below few)))
+  ordinary-held a r h below = type-of-other (getD ts r noRecord) a h ∙ sym (entries-holders ts eight all a r (lt-of-lt-of-le below few))
 
   special-cell : (a : ℕ) → special a ≡ true → (ok plain e (column a) (λ r. assignmentOf ts r a) ≡ ok plain e a (specialHolders (mapsOf ts) a)) × (out plain e (column a) (λ r. assignmentOf ts r a) ≡ out plain e a (specialHolders (mapsOf ts) a))
-  unfolding column
-  special-cell a h = rw h (cell-depends plain m e legal a (λ r. assignmentOf ts r a) (specialHolders (mapsOf ts) a) (λ r below. special-held a r h below))
+  special-cell a h = rw (column-of-special a h) (cell-depends plain m e legal a (λ r. assignmentOf ts r a) (specialHolders (mapsOf ts) a) (λ r below. special-held a r h below))
 
   ordinary-cell : (a : ℕ) → special a ≡ false → (ok plain e (column a) (λ r. assignmentOf ts r a) ≡ ok plain e 0 (bit (holdersIn (entriesOf ts) a))) × (out plain e (column a) (λ r. assignmentOf ts r a) ≡ out plain e 0 (bit (holdersIn (entriesOf ts) a)))
-  unfolding column
-  ordinary-cell a h = rw h (cell-depends plain m e legal 0 (λ r. assignmentOf ts r a) (bit (holdersIn (entriesOf ts) a)) (λ r below. ordinary-held a r h below))
+  ordinary-cell a h = rw (column-of-other a h) (cell-depends plain m e legal 0 (λ r. assignmentOf ts r a) (bit (holdersIn (entriesOf ts) a)) (λ r below. ordinary-held a r h below))
 
   -- ---- typed over the table, then by the rules
 
@@ -56,12 +54,14 @@ module _ (m : ℕ) (few : m ≤ 8) (e : Expression) (legal : Legal m e) (ts : Li
   output = typeOf (outputRecord e (mapsOf ts) (entriesOf ts))
 
   special-output : (a : ℕ) → special a ≡ true → output a ≡ out plain e a (specialHolders (mapsOf ts) a)
-  unfolding typeOf outputRecord outputMap
-  special-output a h = let range = special-range a h in rw h (bit-pack 16 (λ i. out plain e i (specialHolders (mapsOf ts) i)) a (omega arith))
+  unfolding outputRecord outputMap
+  special-output a h =
+      let range = special-range a h in
+      type-of-special (outputRecord e (mapsOf ts) (entriesOf ts)) a h ∙ bit-pack 16 (λ i. out plain e i (specialHolders (mapsOf ts) i)) a (omega arith)
 
   ordinary-output : (a : ℕ) → special a ≡ false → output a ≡ out plain e 0 (bit (holdersIn (entriesOf ts) a))
-  unfolding typeOf outputRecord
-  ordinary-output a h = rw h (output-member m few e legal 15 (entriesOf ts) (entries-rising ts eight all) a)
+  unfolding outputRecord
+  ordinary-output a h = type-of-other (outputRecord e (mapsOf ts) (entriesOf ts)) a h ∙ output-member m few e legal 15 (entriesOf ts) (entries-rising ts eight all) a
 
   pub table-rules : typedIn e (mapsOf ts) (entriesOf ts) ≡ true → Typed (assignmentOf ts) e output
   table-rules typed = cells-typed m e legal (assignmentOf ts) output (λ a. cell a (special a) refl)
