@@ -1,17 +1,17 @@
 -- The subsets of a schema's table: none is empty, and each has relations below m alone.
-use Prim.Native.Nat.{ℕ, zero, suc, _+_, _*_, _/_, _%_, _^_, _≤_, _<_}
-use mathlib.Core.Path.{_≡_, refl, sym, ap, _∙_}
-use mathlib.Core.Bool.{Bool, true, false}
+use Prim.Native.Nat.{ℕ, zero, suc, _^_, _≤_, _<_}
+use mathlib.Core.Path.{_≡_, ap, _∙_}
 use mathlib.Core.List.{List, [], _∷_}
 use native.Mathlib.Nat.{lt-of-lt-of-le, mod-eq-of-lt}
 use native.Mathlib.Omega.{arith}
-use lib.Bits.{bitOr, bitAnd, or-mod, or-lt, or-add-and, and-le-l}
+use lib.Bits.{bitOr, or-mod, or-lt, or-add-and, and-le-l}
 use lib.ListN.{length, getD}
 use lib.Pow.{pow-lt, pow-pos, pow-mono}
 use Rattle.type_record.specs.Record.{TypeRecord}
 use Rattle.membership.specs.Entries.{attributeOf, subsetOf, enter}
-use Rattle.membership.specs.EnterLaws.{Order, lower, higher, equal, order, enter-lower, enter-higher, enter-equal, entry-subset}
-use Rattle.schema.specs.Schema.{entriesFrom, entriesOf}
+use Rattle.membership.specs.EnterLaws.{Order, lower, higher, equal, order, enter-none, enter-first, enter-lower, enter-higher, enter-equal, entry-subset}
+use Rattle.schema.specs.Schema.{entriesOf}
+use Rattle.schema.specs.EntriesLaws.{entries-has}
 
 -- each entry is held by one or more of m relations, and by no other
 abbrev pub Held : ℕ → List ℕ → Type 0
@@ -25,9 +25,8 @@ joined-some : (x s : ℕ) → 1 ≤ s → 1 ≤ bitOr x s
 joined-some x s h = let sum = or-add-and x s in let less = and-le-l x s in omega arith
 
 enter-held : (m s : ℕ) (more es : List ℕ) → 1 ≤ s → s < 2 ^ m → s < 256 → Held m es → Held m (enter s more es)
-unfolding enter
-enter-held m s [] es some below small h = h
-enter-held m s (a ∷ more) [] some below small h = rw (entry-subset a s small) (some, below, enter-held m s more [] some below small tt)
+enter-held m s [] es some below small h = rw (enter-none s es) h
+enter-held m s (a ∷ more) [] some below small h = rw (enter-first s a more, entry-subset a s small) (some, below, enter-held m s more [] some below small tt)
 enter-held m s (a ∷ more) (e ∷ es) some below small h =
     go (order a (attributeOf e)) (enter-held m s more (e ∷ es) some below small h) (enter-held m s (a ∷ more) es some below small (h .2)) (enter-held m s more es some below small (h .2))
   where
@@ -36,16 +35,10 @@ enter-held m s (a ∷ more) (e ∷ es) some below small h =
     go (higher l) one two three = rw (enter-higher s a more e es l) (h .0, h .1, two)
     go (equal l) one two three = rw (enter-equal s a more e es l, joined-subset e s small) (joined-some (subsetOf e) s some, or-lt m (subsetOf e) s (h .1) below, three)
 
-held-from : (m r : ℕ) (ts : List TypeRecord) (es : List ℕ) → m ≤ 8 → r + length ts ≤ m → Held m es → Held m (entriesFrom r ts es)
-held-from m r [] es few fits h = h
-held-from m r (t ∷ ts) es few fits h =
-    let single = pow-lt {i = r} {j = m} (omega arith) in
-    held-from m (r + 1) ts (enter (2 ^ r) (t .ordinary) es) few (omega arith)
-    (enter-held m (2 ^ r) (t .ordinary) es (pow-pos r) single (lt-of-lt-of-le single (pow-mono {j = 8} few)) h)
-
 pub schema-held : (m : ℕ) (ts : List TypeRecord) → m ≤ 8 → length ts ≤ m → Held m (entriesOf ts)
-unfolding entriesOf
-schema-held m ts few fits = held-from m 0 ts [] few (omega arith) tt
+schema-held m ts few fits =
+    entries-has (Held m) m ts fits tt
+    (λ r t es less h. let single = pow-lt {i = r} {j = m} less in enter-held m (2 ^ r) (t .ordinary) es (pow-pos r) single (lt-of-lt-of-le single (pow-mono {j = 8} few)) h)
 
 -- ---- by place
 

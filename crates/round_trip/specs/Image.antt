@@ -1,5 +1,5 @@
 -- The image of a table is a schema, and reading it gives the table back.
-use Prim.Native.Nat.{ℕ, zero, suc, _%_, _^_, _≤_, _<_}
+use Prim.Native.Nat.{ℕ, _%_, _^_, _≤_, _<_}
 use mathlib.Core.Path.{_≡_, sym, ap, _∙_}
 use mathlib.Core.Bool.{Bool, true, false, cond}
 use mathlib.Core.List.{List, [], _∷_}
@@ -13,9 +13,7 @@ use lib.Seq.{ext-getD}
 use Rattle.bits.specs.Bit.{bit, bit-above}
 use Rattle.bits.specs.Pack.{bits-once}
 use Rattle.bits.specs.Rising.{member}
-use Rattle.bits.specs.Tab.{tab, length-tab, getD-tab}
 use Rattle.type_record.specs.Record.{TypeRecord}
-use Rattle.type_record.specs.RecordBytes.{IsRecord}
 use Rattle.membership.specs.Entries.{attributeOf, subsetOf, holdersIn}
 use Rattle.membership.specs.EnterLaws.{RisingEntries}
 use Rattle.membership.specs.EntriesOnce.{Positive, entries-once}
@@ -24,7 +22,7 @@ use Rattle.membership.specs.HolderLaws.{held-member, held-rising, held-few, hel
 use Rattle.membership.specs.TableLaws.{Below}
 use Rattle.schema.specs.Schema.{recordsRead, readRecords, noRecord, schemaBytes, entriesOf, mapsOf, recordsOf}
 use Rattle.schema.specs.RecordsLaws.{AllRecords, written-records}
-use Rattle.schema.specs.EntriesLaws.{entries-rising, entries-holders}
+use Rattle.schema.specs.EntriesLaws.{entries-rising, entries-holders, records-size, record-of, records-all}
 use Rattle.schema.specs.TableLaws.{maps-is, maps-size}
 use Rattle.round_trip.specs.Bounds.{Held, schema-held}
 
@@ -40,11 +38,6 @@ pub record IsTable (m : ℕ) (maps es : List ℕ) : Type 0 where
   pub held : Held m es
 
 -- ---- general facts
-
-all-tab : (n : ℕ) (f : ℕ → TypeRecord) → ((i : ℕ) → i < n → IsRecord (f i)) → AllRecords (tab n f)
-unfolding tab
-all-tab zero f h = tt
-all-tab (suc n) f h = (h 0 (omega arith), all-tab n (λ i. f (suc i)) (λ i less. h (suc i) (omega arith)))
 
 pub held-positive : (m : ℕ) (es : List ℕ) → Held m es → Positive es
 held-positive m [] h = tt
@@ -65,17 +58,14 @@ module _ (m : ℕ) (few : m ≤ 8) (maps es : List ℕ) (table : IsTable m maps 
   records = recordsOf m maps es
 
   pub image-size : length (recordsOf m maps es) ≡ m
-  unfolding recordsOf
-  image-size = length-tab m _
+  image-size = records-size m maps es
 
   pub image-at : (r : ℕ) → r < m → getD (recordsOf m maps es) r noRecord ≡ record { map = getD maps r 0; ordinary = heldBy r es }
-  unfolding recordsOf
-  image-at r h = getD-tab m (λ r. record { map = getD maps r 0; ordinary = heldBy r es }) r noRecord h
+  image-at r h = record-of m maps es r h
 
   pub image-records : AllRecords (recordsOf m maps es)
-  unfolding recordsOf
   image-records =
-      all-tab m (λ r. record { map = getD maps r 0; ordinary = heldBy r es })
+      records-all m maps es
       (λ r h. let most = held-few r es in
       let fits = table .few in
       record {

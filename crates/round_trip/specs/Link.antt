@@ -29,7 +29,7 @@ use Rattle.formula.specs.Stored.{formulaSpace}
 use Rattle.verdict.specs.StoredFormula.{formulaIn}
 use Rattle.verdict.specs.Theorems.{principal}
 use Rattle.type_record.specs.Record.{TypeRecord, typeOf}
-use Rattle.type_record.specs.RecordTypes.{record-type}
+use Rattle.type_record.specs.RecordTypes.{type-of-special, type-of-other, record-type}
 use Rattle.membership.specs.Entries.{holdersIn}
 use Rattle.membership.specs.HolderLaws.{held-member}
 use Rattle.schema.specs.Schema.{noRecord, assignmentOf, recordsOf}
@@ -95,15 +95,15 @@ module _ (file : List ℕ) (k : ℕ) (bytes work schema out : List ℕ) (m n : �
   -- ---- the assignment, by the bytes
 
   special-has : (i r : ℕ) → special i ≡ true → r < m → A r i ≡ bit (getD (subsetsOf bytes) i 0) r
-  unfolding typeOf
   special-has i r h less =
       let range = special-range i h in
-      rw (image-at m few (mapsFrom (subsetsOf bytes)) (entriesIn ls) table r less, h) (map-bit (subsetsOf bytes) r i (lt-of-lt-of-le less few) (omega arith))
+      type-of-special (getD image r noRecord) i h
+      ∙ rw (image-at m few (mapsFrom (subsetsOf bytes)) (entriesIn ls) table r less) (map-bit (subsetsOf bytes) r i (lt-of-lt-of-le less few) (omega arith))
 
   ordinary-has : (x r : ℕ) → special x ≡ false → r < m → A r x ≡ bit (holdersIn (entriesIn ls) x) r
-  unfolding typeOf
   ordinary-has x r h less =
-      rw (image-at m few (mapsFrom (subsetsOf bytes)) (entriesIn ls) table r less, h) (held-member 15 r (entriesIn ls) (lt-of-lt-of-le less few) (table .rising) x)
+      type-of-other (getD image r noRecord) x h
+      ∙ rw (image-at m few (mapsFrom (subsetsOf bytes)) (entriesIn ls) table r less) (held-member 15 r (entriesIn ls) (lt-of-lt-of-le less few) (table .rising) x)
 
   -- ---- the lists of the bytes
 

@@ -10,12 +10,13 @@ use lib.ListN.{length, getD}
 use Rattle.bits.specs.Booleans.{clash}
 use Rattle.bits.specs.Rising.{member}
 use Rattle.membership.specs.Entries.{attributeOf, subsetOf, holdersIn, enter}
-use Rattle.membership.specs.EnterLaws.{Order, lower, higher, equal, order, enter-lower, enter-higher, enter-equal, joined-attribute}
+use Rattle.membership.specs.EnterLaws.{Order, lower, higher, equal, order, enter-none, enter-first, enter-lower, enter-higher, enter-equal, joined-attribute}
 use Rattle.instantiation.specs.Seen.{nothingSeen, repeatedIn}
 use Rattle.instantiation.specs.Instantiation.{entriesFrom, entriesIn, allListed}
 use Rattle.instantiation.specs.ReadLaws.{IsLists}
 use Rattle.instantiation.specs.Apart.{listed-none, once-apart}
 use Rattle.instantiation.specs.Owners.{lists-holders}
+use Rattle.instantiation.specs.EntriesLaws.{entries-first}
 use Rattle.round_trip.specs.Bounds.{Held}
 
 -- a is the attribute of an entry
@@ -25,8 +26,7 @@ entered a (e ∷ es) = eqb a (attributeOf e) || entered a es
 
 -- an entry of a stays, whatever is entered
 enter-stays : (s a : ℕ) (more es : List ℕ) → s < 256 → entered a es ≡ true → entered a (enter s more es) ≡ true
-unfolding enter
-enter-stays s a [] es small h = h
+enter-stays s a [] es small h = rw (enter-none s es) h
 enter-stays s a (x ∷ more) [] small h = absurd (let z : _≡_ {A = ℕ} 0 1 = cc in omega arith)
 enter-stays s a (x ∷ more) (e ∷ es) small h =
     go (order x (attributeOf e)) (enter-stays s a more (e ∷ es) small h) (enter-stays s a (x ∷ more) es small) (enter-stays s a more es small)
@@ -58,10 +58,10 @@ entered-held m a (e ∷ es) held h = go (eqb a (attributeOf e)) h (entered-held 
     go false q rest = rest q
 
 entered-first : (x : ℕ) (l : List ℕ) (ls : List (List ℕ)) → 1 + length ls ≤ 256 → entered x (entriesIn ((x ∷ l) ∷ ls)) ≡ true
-unfolding entriesIn enter
 entered-first x l ls fits =
-    stays-from 1 x ls ((x * 256 + 0) ∷ enter 0 l []) fits
-    (ap (λ (t : Bool). t || entered x (enter 0 l [])) (eq-eqb x ((x * 256 + 0) / 256) (omega arith)))
+    rw (entries-first (x ∷ l) ls, enter-first 0 x l)
+    (stays-from 1 x ls ((x * 256 + 0) ∷ enter 0 l []) fits
+    (ap (λ (t : Bool). t || entered x (enter 0 l [])) (eq-eqb x ((x * 256 + 0) / 256) (omega arith))))
 
 -- an attribute of list 0 would be in the list of its holders too
 pub list-zero : (m : ℕ) (ls : List (List ℕ)) → IsLists ls → repeatedIn nothingSeen (allListed ls) ≡ false → Held m (entriesIn ls) → getD ls 0 [] ≡ []

@@ -3,14 +3,14 @@
 --   recoverAnswer, recoverOut             what Recover leaves, by its contract   (Recover)
 --   typingAnswer, typingOut               what Typing leaves, by its contract    (crate typing, Typing)
 --   admitted, sliced                      refusals 1 to 12, and 13               (crate formula, Stored; crate expression, Admission)
-use Prim.Native.Nat.{ℕ, _+_, _*_, _≤_, _<_}
+use Prim.Native.Nat.{ℕ, _*_, _≤_, _<_}
 use mathlib.Core.Path.{_≡_, refl, sym, ap, ap₂, _∙_}
 use mathlib.Core.Logic.{_↔_}
 use mathlib.Core.Bool.{true, _&&_, and-eq-true-iff}
 use mathlib.Core.List.{List}
 use native.Mathlib.Omega.{arith}
-use lib.ListN.{length, getD, take, length-append}
-use Rattle.bits.specs.Tab.{length-tab, over, take-over}
+use lib.ListN.{length, take}
+use Rattle.bits.specs.Tab.{over, take-over}
 use Rattle.bits.specs.Word.{Bytes}
 use Rattle.algebra.specs.Expression.{Legal}
 use Rattle.expression.specs.declared.files.Acceptance.the-variants.{Accepted}
@@ -26,8 +26,8 @@ use Rattle.schema.specs.Schema.{recordsRead, readRecords, recordsOf, entriesOf,
 use Rattle.schema.specs.RecordsLaws.{schema-most}
 use Rattle.schema.specs.TableLaws.{ReadSchema, read-schema, read-entries}
 use Rattle.schema.specs.declared.reading.Schema.{Schema}
-use Rattle.instantiation.specs.Instantiation.{entriesIn, subsetsOf, listsOf, mapByte, instantiationBytes, instantiationReading}
-use Rattle.instantiation.specs.ReadLaws.{lists-read}
+use Rattle.instantiation.specs.Instantiation.{entriesIn, subsetsOf, listsOf, instantiationReading}
+use Rattle.instantiation.specs.ReadLaws.{lists-read, written-long}
 use Rattle.instantiation.specs.TableLaws.{ReadInstantiation, subsets-none}
 use Rattle.instantiation.specs.TableLaws as Instantiations
 use Rattle.instantiation.specs.declared.reading.Instantiation.{Instantiation}
@@ -208,11 +208,7 @@ module _ (file : List ℕ) (k : ℕ) (schema work out : List ℕ) (m n : ℕ) (t
         ap (take (length (recoveredBytes (mapsOf ts) (entriesOf ts)))) (recover-table file k schema work out m n ts r .1 ∙ gives .1) ∙ take-over (recoveredBytes (mapsOf ts) (entriesOf ts)) out
 
     long : 47 ≤ length (recoveredBytes (mapsOf ts) (entriesOf ts))
-    unfolding instantiationBytes
-    long =
-        let head = length-tab 15 (λ i. getD (subsetsFrom (mapsOf ts)) (i + 1) 0) in
-        let map = length-tab 32 (mapByte (listsOf (entriesOf ts))) in
-        rw (length-append, length-append) (omega arith)
+    long = written-long (subsetsFrom (mapsOf ts)) (listsOf (entriesOf ts))
 
     -- applying what was recovered gives the same schema, byte by byte
     pub recover-apply : (work′ schema′ out′ : List ℕ) → n * 1024 ≤ length work′ → 4104 ≤ length schema′ → 513 ≤ length out′ → (applyAnswer file k recoveredPart (length work′) (length schema′) (length out′) ≡ Applied (length schema) (recordSize (length (outputList (expressionAt file k) (entriesOf ts))))) × (applySchema file k recoveredPart (length work′) schema′ (length out′) ≡ over schema schema′)
