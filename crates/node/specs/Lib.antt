@@ -1,3 +1,4 @@
 pub mod Operators
 pub mod ReadNode
 pub mod Legal
+pub mod Enough
