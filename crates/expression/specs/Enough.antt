@@ -1,7 +1,7 @@
 -- How much of a file its acceptance depends on: its first 323 bytes.
 use Prim.Native.Nat.{ℕ, zero, suc, _+_, _*_, _≤_, _<_}
 use mathlib.Core.Path.{_≡_, refl, sym, ap, _∙_}
-use mathlib.Core.Bool.{Bool, true, false, not}
+use mathlib.Core.Bool.{Bool, not}
 use mathlib.Core.List.{List, [], _∷_, _++_}
 use native.Mathlib.Decide.{decLe}
 use native.Mathlib.Omega.{arith}
@@ -9,47 +9,17 @@ use borrow.Author.Tests.{le-ltb}
 use lib.ListN.{length, take, drop, length-drop, take-append-drop}
 use lib.Seq.{length-take-le, take-all, drop-append-le}
 use Rattle.bits.specs.Range.{inRange}
-use Rattle.refusal.specs.Chain.{refuse, refuse-stops, refuse-passes}
-use Rattle.refusal.specs.declared.Refusal.the-variants.{HeaderTruncated, RelationCount, NodeCount, NodeTruncated, NodeMap}
+use Rattle.refusal.specs.Chain.{refuse}
+use Rattle.refusal.specs.declared.Refusal.the-variants.{HeaderTruncated, RelationCount, NodeCount}
 use Rattle.node.specs.declared.reader.Reading.{Reading}
 use Rattle.node.specs.declared.reader.Reading.the-variants.{Read, Refused as NodeRefused}
 use Rattle.expression.specs.declared.files.Acceptance.{Acceptance}
 use Rattle.expression.specs.declared.files.Acceptance.the-variants.{Accepted, Refused}
-use Rattle.node.specs.ReadNode.{fieldsOf, valueOf, judge, legal, nodeWith, readFields, readNode}
+use Rattle.node.specs.ReadNode.{readNode}
 use Rattle.expression.specs.ReadFile.{Entry, Nodes, nodesRead, nodesRefused, precede, follow, readNodes, header, collect, afterHeader, parse, answer, acceptance}
-use Rattle.node.specs.Legal.{legal-cases, node-legal}
+use Rattle.node.specs.Legal.{node-legal}
+use Rattle.node.specs.Enough.{node-enough}
 use Rattle.expression.specs.Accepted.{header-counts}
-
--- ---- a node: five bytes are enough
-
-five-fields : (m k map x y z u v : ℕ) (r : List ℕ) → legal map ≡ true → readFields m k map (x ∷ y ∷ z ∷ u ∷ v ∷ r) ≡ readFields m k map (x ∷ y ∷ z ∷ u ∷ v ∷ [])
-unfolding readFields
-five-fields m k map x y z u v r =
-    legal-cases map (λ (c : ℕ). readFields m k c (x ∷ y ∷ z ∷ u ∷ v ∷ r) ≡ readFields m k c (x ∷ y ∷ z ∷ u ∷ v ∷ []))
-    (ap (λ (t : Bool). refuse NodeRefused t NodeTruncated (judge m k 1 (x ∷ y ∷ z ∷ u ∷ v ∷ []) (fieldsOf 1) (nodeWith 1 (valueOf 1 (x ∷ y ∷ z ∷ u ∷ v ∷ [])) 2))) (le-ltb (length (x ∷ y ∷ z ∷ u ∷ v ∷ r)) 2 (omega arith)))
-    (ap (λ (t : Bool). refuse NodeRefused t NodeTruncated (judge m k 14 (x ∷ y ∷ z ∷ u ∷ v ∷ []) (fieldsOf 14) (nodeWith 14 (valueOf 14 (x ∷ y ∷ z ∷ u ∷ v ∷ [])) 4))) (le-ltb (length (x ∷ y ∷ z ∷ u ∷ v ∷ r)) 4 (omega arith)))
-    (ap (λ (t : Bool). refuse NodeRefused t NodeTruncated (judge m k 26 (x ∷ y ∷ z ∷ u ∷ v ∷ []) (fieldsOf 26) (nodeWith 26 (valueOf 26 (x ∷ y ∷ z ∷ u ∷ v ∷ [])) 5))) (le-ltb (length (x ∷ y ∷ z ∷ u ∷ v ∷ r)) 5 (omega arith)))
-    (ap (λ (t : Bool). refuse NodeRefused t NodeTruncated (judge m k 98 (x ∷ y ∷ z ∷ u ∷ v ∷ []) (fieldsOf 98) (nodeWith 98 (valueOf 98 (x ∷ y ∷ z ∷ u ∷ v ∷ [])) 4))) (le-ltb (length (x ∷ y ∷ z ∷ u ∷ v ∷ r)) 4 (omega arith)))
-    (ap (λ (t : Bool). refuse NodeRefused t NodeTruncated (judge m k 34 (x ∷ y ∷ z ∷ u ∷ v ∷ []) (fieldsOf 34) (nodeWith 34 (valueOf 34 (x ∷ y ∷ z ∷ u ∷ v ∷ [])) 3))) (le-ltb (length (x ∷ y ∷ z ∷ u ∷ v ∷ r)) 3 (omega arith)))
-
-five-bytes : (m k x y z u v : ℕ) (r : List ℕ) → readNode m k (x ∷ y ∷ z ∷ u ∷ v ∷ r) ≡ readNode m k (x ∷ y ∷ z ∷ u ∷ v ∷ [])
-unfolding readNode
-five-bytes m k x y z u v r =
-    refuse-passes _ _ _ _ (le-ltb (length (x ∷ y ∷ z ∷ u ∷ v ∷ r)) 1 (omega arith))
-    ∙ go (legal x) refl
-    ∙ sym (refuse-passes _ _ _ _ (le-ltb (length (x ∷ y ∷ z ∷ u ∷ v ∷ [])) 1 (omega arith)))
-  where
-    go : (t : Bool) → legal x ≡ t → refuse NodeRefused (not (legal x)) NodeMap (readFields m k x (x ∷ y ∷ z ∷ u ∷ v ∷ r)) ≡ refuse NodeRefused (not (legal x)) NodeMap (readFields m k x (x ∷ y ∷ z ∷ u ∷ v ∷ []))
-    go true e = ap (λ (n : Reading). refuse NodeRefused (not (legal x)) NodeMap n) (five-fields m k x x y z u v r e)
-    go false e = refuse-stops _ _ _ _ (ap not e) ∙ sym (refuse-stops _ _ _ _ (ap not e))
-
-node-enough : (m k : ℕ) (a b : List ℕ) → 5 ≤ length a → readNode m k (a ++ b) ≡ readNode m k a
-node-enough m k (x ∷ y ∷ z ∷ u ∷ v ∷ r) b h = five-bytes m k x y z u v (r ++ b) ∙ sym (five-bytes m k x y z u v r)
-node-enough m k [] b h = absurd (omega arith)
-node-enough m k (x ∷ []) b h = absurd (omega arith)
-node-enough m k (x ∷ y ∷ []) b h = absurd (omega arith)
-node-enough m k (x ∷ y ∷ z ∷ []) b h = absurd (omega arith)
-node-enough m k (x ∷ y ∷ z ∷ u ∷ []) b h = absurd (omega arith)
 
 -- ---- so many nodes: more than five bytes each are enough
 
