@@ -1,7 +1,7 @@
 -- Laws of columns: what stands in one, and how a loop over 32 bytes fills it.
 use Prim.Native.Nat.{ℕ, _+_, _-_, _*_, _/_, _%_, _≤_, _<_}
 use mathlib.Core.Path.{_≡_, refl, sym, ap, ap₂, _∙_}
-use mathlib.Core.Bool.{Bool, true, false, cond}
+use mathlib.Core.Bool.{Bool, true, false, cond, _&&_}
 use mathlib.Core.List.{List}
 use mathlib.Core.Logic.{_⊎_, inl, inr}
 use native.Mathlib.Omega.{arith}
@@ -13,7 +13,10 @@ use lib.Seq.{getD-set-same, getD-set-other}
 use Rattle.bits.specs.Bit.{bit}
 use Rattle.bits.specs.Pack.{bit-pack, pack-same}
 use Rattle.bits.specs.Tab.{length-tab, getD-tab, tab-is}
-use Rattle.column.specs.Column.{mapByte, columnOf, allowedIn, outputIn}
+use Rattle.column.specs.Column.{mapByte, columnOf, allowedIn, outputIn, relationColumn, unaryColumn, combinedColumn}
+use Rattle.column.specs.Steps.{unaryAllowed, unaryOutput, combinedAllowed, combinedOutput}
+use Rattle.column.specs.declared.steps.Unary.{Unary}
+use Rattle.column.specs.declared.steps.Combination.{Combination}
 
 module _ (allowed output : ℕ → Bool) where
   pub column-length : length (columnOf allowed output) ≡ 64
@@ -111,6 +114,23 @@ column-same allowed output allowed′ output′ ea eo =
       front = λ i h. column-front allowed output i h ∙ map-same allowed allowed′ ea i h;
       back = λ i h. column-back allowed output i h ∙ map-same output output′ eo i h;
     })
+
+-- ---- the columns that operators make, by tests that agree with theirs on the 256 subsets
+
+module _ (allowed output : ℕ → Bool) where
+  pub relation-is : (count r : ℕ) → ((s : ℕ) → s < 256 → ltb s count ≡ allowed s) → ((s : ℕ) → s < 256 → ltb s count && bit s r ≡ output s) → relationColumn count r ≡ columnOf allowed output
+  unfolding relationColumn
+  relation-is count r = column-same (λ s. ltb s count) (λ s. ltb s count && bit s r) allowed output
+
+  pub unary-is : (u : Unary) (column : List ℕ) → ((s : ℕ) → s < 256 → unaryAllowed u (allowedIn column s) (outputIn column s) ≡ allowed s) → ((s : ℕ) → s < 256 → unaryOutput u (allowedIn column s) (outputIn column s) ≡ output s) → unaryColumn u column ≡ columnOf allowed output
+  unfolding unaryColumn
+  unary-is u column = column-same (λ s. unaryAllowed u (allowedIn column s) (outputIn column s)) (λ s. unaryOutput u (allowedIn column s) (outputIn column s)) allowed output
+
+  pub combined-is : (c : Combination) (left right : List ℕ) → ((s : ℕ) → s < 256 → combinedAllowed c (allowedIn left s) (outputIn left s) (allowedIn right s) (outputIn right s) ≡ allowed s) → ((s : ℕ) → s < 256 → combinedOutput c (allowedIn left s) (outputIn left s) (allowedIn right s) (outputIn right s) ≡ output s) → combinedColumn c left right ≡ columnOf allowed output
+  unfolding combinedColumn
+  combined-is c left right =
+      column-same (λ s. combinedAllowed c (allowedIn left s) (outputIn left s) (allowedIn right s) (outputIn right s))
+      (λ s. combinedOutput c (allowedIn left s) (outputIn left s) (allowedIn right s) (outputIn right s)) allowed output
 
 -- ---- where the bits stand: "bit s mod 8 of byte s div 8", and 32 bytes on
 
