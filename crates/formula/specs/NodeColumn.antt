@@ -18,7 +18,7 @@ use Rattle.column.specs.declared.steps.Unary.{Unary}
 use Rattle.column.specs.Steps.{setStep, renamingStep, projectingOutStep, combinationOf}
 use Rattle.formula.specs.StepCells.{StepIs, set-is, renaming-is, projecting-out-is, unary-bits, binary-bits, relation-bit, named-is}
 use Rattle.column.specs.Column.{columnOf, allowedIn, outputIn, relationColumn, unaryColumn, combinedColumn}
-use Rattle.column.specs.ColumnLaws.{allowed-in, output-in, column-same}
+use Rattle.column.specs.ColumnLaws.{allowed-in, output-in, relation-is, unary-is, combined-is}
 use Rattle.formula.specs.Expressions.{operatorOf, setOperatorOf, named, ofNode}
 use Rattle.formula.specs.Stored.{allowedBit, outputBit, cellColumn}
 
@@ -80,9 +80,9 @@ unfolding cellColumn
 cell-output m e c s h = output-in (allowedBit m e c) (outputBit m e c) s h
 
 relation-cells : (m r c : ℕ) → relationColumn (2 ^ m) r ≡ cellColumn m (relation r) c
-unfolding relationColumn cellColumn allowedBit outputBit
+unfolding cellColumn allowedBit outputBit
 relation-cells m r c =
-    column-same (λ s. ltb s (2 ^ m)) (λ s. ltb s (2 ^ m) && bit s r) (allowedBit m (relation r) c) (outputBit m (relation r) c)
+    relation-is (allowedBit m (relation r) c) (outputBit m (relation r) c) (2 ^ m) r
     (λ s h. relation-bit (ltb s (2 ^ m)) (bit s r) .0)
     (λ s h. relation-bit (ltb s (2 ^ m)) (bit s r) .1)
 
@@ -91,17 +91,17 @@ unfolding cellColumn
 cells-are m e c = refl
 
 binary-cells : (m : ℕ) (op : BinaryOp) (e f : Expression) (c : ℕ) → combinedColumn (combinationOf op) (cellColumn m e c) (cellColumn m f c) ≡ cellColumn m (binary (operatorOf op) e f) c
-unfolding combinedColumn allowedBit outputBit
+unfolding allowedBit outputBit
 binary-cells m op e f c =
-    column-same _ _ (allowedBit m (binary (operatorOf op) e f) c) (outputBit m (binary (operatorOf op) e f) c)
+    combined-is (allowedBit m (binary (operatorOf op) e f) c) (outputBit m (binary (operatorOf op) e f) c) (combinationOf op) (cellColumn m e c) (cellColumn m f c)
     (λ s h. rw (cell-allowed m e c s h, cell-output m e c s h, cell-allowed m f c s h, cell-output m f c s h) (binary-bits op (ltb s (2 ^ m)) (ok plain e c (bit s)) (out plain e c (bit s)) (ok plain f c (bit s)) (out plain f c (bit s)) .0))
     (λ s h. rw (cell-allowed m e c s h, cell-output m e c s h, cell-allowed m f c s h, cell-output m f c s h) (binary-bits op (ltb s (2 ^ m)) (ok plain e c (bit s)) (out plain e c (bit s)) (ok plain f c (bit s)) (out plain f c (bit s)) .1))
     ∙ cells-are m (binary (operatorOf op) e f) c
 
 unary-cells : (m : ℕ) (e g : Expression) (c : ℕ) (u : Unary) (broken given : Bool → Bool) → StepIs u broken given → ((held : ℕ → Bool) → ok plain g c held ≡ ok plain e c held && not (broken (out plain e c held))) → ((held : ℕ → Bool) → out plain g c held ≡ given (out plain e c held)) → unaryColumn u (cellColumn m e c) ≡ cellColumn m g c
-unfolding unaryColumn allowedBit outputBit
+unfolding allowedBit outputBit
 unary-cells m e g c u broken given step isOk isOut =
-    column-same _ _ (allowedBit m g c) (outputBit m g c)
+    unary-is (allowedBit m g c) (outputBit m g c) u (cellColumn m e c)
     (λ s h. rw (cell-allowed m e c s h, cell-output m e c s h, isOk (bit s)) (unary-bits u broken given step (ltb s (2 ^ m)) (ok plain e c (bit s)) (out plain e c (bit s)) .0))
     (λ s h. rw (cell-allowed m e c s h, cell-output m e c s h, isOk (bit s), isOut (bit s)) (unary-bits u broken given step (ltb s (2 ^ m)) (ok plain e c (bit s)) (out plain e c (bit s)) .1))
     ∙ cells-are m g c
