@@ -1,63 +1,45 @@
 -- Whole bytes do what their bits do: the bytes of a step are packed from the step of each bit.
 use Prim.Native.Nat.{ℕ, _-_, _<_}
-use mathlib.Core.Path.{_≡_, ap, ap₂, _∙_}
-use mathlib.Core.Bool.{Bool, true, false, cond, not, _&&_, _||_}
+use mathlib.Core.Path.{_≡_, refl, ap, ap₂, _∙_}
+use mathlib.Core.Bool.{Bool, false, not, _&&_, _||_}
 use native.Mathlib.Nat.{lt-of-le-of-lt}
+use native.Mathlib.Omega.{arith}
 use lib.Bits.{bitAnd, bitOr, bitXor, and-le-l, or-lt, xor-lt}
-use lib.Dec.{lit<}
-use Rattle.bits.specs.Bit.{bit, differs, bit-and, bit-or, bit-xor, bit-not, bit-ones, bit-none}
+use Rattle.bits.specs.Bit.{bit, differs, bit-and, bit-or, bit-xor, bit-not}
 use Rattle.bits.specs.Pack.{pack, byte-is}
-use Rattle.column.specs.declared.steps.Unary.{Unary}
 use Rattle.column.specs.declared.steps.Combination.{Combination}
-use Rattle.column.specs.Steps.{unaryAllowed, unaryOutput, combinedAllowed, combinedOutput}
+use Rattle.column.specs.declared.steps.Combination.the-variants.{Agreeing, Merging, Disjoint}
+use Rattle.column.specs.Steps.{combinedAllowed, combinedOutput}
 
--- ---- bits of bytes
+-- a byte whose bit i is f i
+pub record ByteOf (x : ℕ) (f : ℕ → Bool) : Type 0 where
+  pub below : x < 256
+  pub bits : (i : ℕ) → i < 8 → bit x i ≡ f i
 
-mask-below : (b : Bool) → cond b 255 0 < 256
-mask-below true = lit< tt
-mask-below false = lit< tt
+pub byte-of : {x : ℕ} {f : ℕ → Bool} → ByteOf x f → x ≡ pack 8 f
+byte-of {x} {f} b = byte-is x f (b .below) (b .bits)
 
-mask-bit : (b : Bool) (i : ℕ) → i < 8 → bit (cond b 255 0) i ≡ b
-mask-bit true i h = bit-ones 8 i h
-mask-bit false i h = bit-none i
+-- ---- the operations of code on bytes
 
-and-below : (x y : ℕ) → x < 256 → bitAnd x y < 256
-and-below x y h = lt-of-le-of-lt (and-le-l x y) h
+pub own-bits : (x : ℕ) → x < 256 → ByteOf x (bit x)
+own-bits x h = record { below = h; bits = λ i below. refl }
 
-not-and : (x y i : ℕ) → x < 256 → i < 8 → bit (255 - bitAnd x y) i ≡ not (bit x i && bit y i)
-not-and x y i hx h = bit-not (bitAnd x y) i (and-below x y hx) h ∙ ap not (bit-and x y i)
+pub no-bits : 0 ≡ pack 8 (λ i. false)
+unfolding pack
+no-bits = refl
 
--- ---- operators of one operand
+module _ {x y : ℕ} {f g : ℕ → Bool} (b : ByteOf x f) (d : ByteOf y g) where
+  pub and-bits : ByteOf (bitAnd x y) (λ i. f i && g i)
+  and-bits = record { below = lt-of-le-of-lt (and-le-l x y) (b .below); bits = λ i h. bit-and x y i ∙ ap₂ _&&_ (b .bits i h) (d .bits i h) }
 
-abbrev pub unaryByte : Unary → ℕ → ℕ → ℕ
-unaryByte u a o = bitAnd (bitAnd a (bitOr o (255 - cond (u .need) 255 0))) (255 - bitAnd o (cond (u .forbid) 255 0))
+  pub or-bits : ByteOf (bitOr x y) (λ i. f i || g i)
+  or-bits = record { below = or-lt 8 x y (b .below) (d .below); bits = λ i h. bit-or x y i ∙ ap₂ _||_ (b .bits i h) (d .bits i h) }
 
-unary-bit : (u : Unary) (a o i : ℕ) → a < 256 → o < 256 → i < 8 → bit (unaryByte u a o) i ≡ unaryAllowed u (bit a i) (bit o i)
-unary-bit u a o i ha ho h =
-    bit-and (bitAnd a (bitOr o (255 - cond (u .need) 255 0))) (255 - bitAnd o (cond (u .forbid) 255 0)) i
-    ∙ ap₂ _&&_
-    (bit-and a (bitOr o (255 - cond (u .need) 255 0)) i
-    ∙ ap (λ (t : Bool). bit a i && t)
-    (bit-or o (255 - cond (u .need) 255 0) i
-    ∙ ap (λ (t : Bool). bit o i || t) (bit-not (cond (u .need) 255 0) i (mask-below (u .need)) h ∙ ap not (mask-bit (u .need) i h))))
-    (not-and o (cond (u .forbid) 255 0) i ho h ∙ ap (λ (t : Bool). not (bit o i && t)) (mask-bit (u .forbid) i h))
+  pub xor-bits : ByteOf (bitXor x y) (λ i. differs (f i) (g i))
+  xor-bits = record { below = xor-lt 8 x y (b .below) (d .below); bits = λ i h. bit-xor x y i ∙ ap₂ differs (b .bits i h) (d .bits i h) }
 
-unary-below : (u : Unary) (a o : ℕ) → a < 256 → unaryByte u a o < 256
-unary-below u a o ha = and-below (bitAnd a (bitOr o (255 - cond (u .need) 255 0))) _ (and-below a _ ha)
-
-pub unary-allowed : (u : Unary) (a o : ℕ) → a < 256 → o < 256 → unaryByte u a o ≡ pack 8 (λ i. unaryAllowed u (bit a i) (bit o i))
-unary-allowed u a o ha ho = byte-is (unaryByte u a o) (λ i. unaryAllowed u (bit a i) (bit o i)) (unary-below u a o ha) (λ i h. unary-bit u a o i ha ho h)
-
-pub unary-output : (u : Unary) (a o : ℕ) → a < 256 → o < 256 → bitAnd (unaryByte u a o) (bitOr (bitAnd o (cond (u .keep) 255 0)) (cond (u .give) 255 0)) ≡ pack 8 (λ i. unaryOutput u (bit a i) (bit o i))
-unary-output u a o ha ho =
-    byte-is (bitAnd (unaryByte u a o) (bitOr (bitAnd o (cond (u .keep) 255 0)) (cond (u .give) 255 0))) (λ i. unaryOutput u (bit a i) (bit o i))
-    (and-below (unaryByte u a o) _ (unary-below u a o ha))
-    (λ i h. bit-and (unaryByte u a o) (bitOr (bitAnd o (cond (u .keep) 255 0)) (cond (u .give) 255 0)) i
-    ∙ ap₂ _&&_ (unary-bit u a o i ha ho h)
-    (bit-or (bitAnd o (cond (u .keep) 255 0)) (cond (u .give) 255 0) i
-    ∙ ap₂ _||_
-    (bit-and o (cond (u .keep) 255 0) i ∙ ap (λ (t : Bool). bit o i && t) (mask-bit (u .keep) i h))
-    (mask-bit (u .give) i h)))
+pub not-bits : {x : ℕ} {f : ℕ → Bool} → ByteOf x f → ByteOf (255 - x) (λ i. not (f i))
+not-bits {x} {f} b = record { below = omega arith; bits = λ i h. bit-not x i (b .below) h ∙ ap not (b .bits i h) }
 
 -- ---- operators of two operands
 
@@ -66,37 +48,24 @@ pub record MadeBy (c : Combination) (la lo ra ro x y : ℕ) : Type 0 where
   pub allowed : x ≡ pack 8 (λ i. combinedAllowed c (bit la i) (bit lo i) (bit ra i) (bit ro i))
   pub output : y ≡ pack 8 (λ i. combinedOutput c (bit la i) (bit lo i) (bit ra i) (bit ro i))
 
-abbrev broken : Combination → ℕ → ℕ → ℕ
-broken c lo ro = bitOr (bitAnd (bitXor lo ro) (cond (c .agree) 255 0)) (bitAnd (bitAnd lo ro) (cond (c .disjoint) 255 0))
+module _ (la lo ra ro : ℕ) (ha : la < 256) (hl : lo < 256) (hb : ra < 256) (hr : ro < 256) where
+  both : ByteOf (bitAnd la ra) (λ i. bit la i && bit ra i)
+  both = and-bits (own-bits la ha) (own-bits ra hb)
 
-module _ (c : Combination) (la lo ra ro : ℕ) (ha : la < 256) (hl : lo < 256) (hr : ro < 256) where
-  broken-below : broken c lo ro < 256
-  broken-below = or-lt 8 (bitAnd (bitXor lo ro) (cond (c .agree) 255 0)) (bitAnd (bitAnd lo ro) (cond (c .disjoint) 255 0)) (and-below (bitXor lo ro) _ (xor-lt 8 lo ro hl hr)) (and-below (bitAnd lo ro) _ (and-below lo ro hl))
+  either : ByteOf (bitOr lo ro) (λ i. bit lo i || bit ro i)
+  either = or-bits (own-bits lo hl) (own-bits ro hr)
 
-  broken-bit : (i : ℕ) → i < 8 → bit (broken c lo ro) i ≡ differs (bit lo i) (bit ro i) && c .agree || bit lo i && bit ro i && c .disjoint
-  broken-bit i h =
-      bit-or (bitAnd (bitXor lo ro) (cond (c .agree) 255 0)) (bitAnd (bitAnd lo ro) (cond (c .disjoint) 255 0)) i
-      ∙ ap₂ _||_
-      (bit-and (bitXor lo ro) (cond (c .agree) 255 0) i ∙ ap₂ _&&_ (bit-xor lo ro i) (mask-bit (c .agree) i h))
-      (bit-and (bitAnd lo ro) (cond (c .disjoint) 255 0) i ∙ ap₂ _&&_ (bit-and lo ro i) (mask-bit (c .disjoint) i h))
+  agreeing : ByteOf (bitAnd (bitAnd la ra) (255 - bitXor lo ro)) (λ i. bit la i && bit ra i && not (differs (bit lo i) (bit ro i)))
+  agreeing = and-bits both (not-bits (xor-bits (own-bits lo hl) (own-bits ro hr)))
 
-  allowed-bit : (i : ℕ) → i < 8 → bit (bitAnd (bitAnd la ra) (255 - broken c lo ro)) i ≡ combinedAllowed c (bit la i) (bit lo i) (bit ra i) (bit ro i)
-  allowed-bit i h =
-      bit-and (bitAnd la ra) (255 - broken c lo ro) i
-      ∙ ap₂ _&&_ (bit-and la ra i) (bit-not (broken c lo ro) i broken-below h ∙ ap not (broken-bit i h))
+  disjoint : ByteOf (bitAnd (bitAnd la ra) (255 - bitAnd lo ro)) (λ i. bit la i && bit ra i && not (bit lo i && bit ro i))
+  disjoint = and-bits both (not-bits (and-bits (own-bits lo hl) (own-bits ro hr)))
 
-  small : bitAnd (bitAnd la ra) (255 - broken c lo ro) < 256
-  small = and-below (bitAnd la ra) _ (and-below la ra ha)
+  pub made-agreeing : MadeBy Agreeing la lo ra ro (bitAnd (bitAnd la ra) (255 - bitXor lo ro)) (bitAnd (bitAnd (bitAnd la ra) (255 - bitXor lo ro)) lo)
+  made-agreeing = record { allowed = byte-of agreeing; output = byte-of (and-bits agreeing (own-bits lo hl)) }
 
-  pub combined-bytes : MadeBy c la lo ra ro (bitAnd (bitAnd la ra) (255 - broken c lo ro)) (bitAnd (bitAnd (bitAnd la ra) (255 - broken c lo ro)) (bitOr lo (bitAnd ro (cond (c .merge) 255 0))))
-  combined-bytes =
-      record {
-        allowed = byte-is (bitAnd (bitAnd la ra) (255 - broken c lo ro)) (λ i. combinedAllowed c (bit la i) (bit lo i) (bit ra i) (bit ro i)) small allowed-bit;
-        output =
-            byte-is (bitAnd (bitAnd (bitAnd la ra) (255 - broken c lo ro)) (bitOr lo (bitAnd ro (cond (c .merge) 255 0)))) (λ i. combinedOutput c (bit la i) (bit lo i) (bit ra i) (bit ro i))
-            (and-below (bitAnd (bitAnd la ra) (255 - broken c lo ro)) _ small)
-            (λ i h. bit-and (bitAnd (bitAnd la ra) (255 - broken c lo ro)) (bitOr lo (bitAnd ro (cond (c .merge) 255 0))) i
-            ∙ ap₂ _&&_ (allowed-bit i h)
-            (bit-or lo (bitAnd ro (cond (c .merge) 255 0)) i
-            ∙ ap (λ (t : Bool). bit lo i || t) (bit-and ro (cond (c .merge) 255 0) i ∙ ap (λ (t : Bool). bit ro i && t) (mask-bit (c .merge) i h))));
-      }
+  pub made-merging : MadeBy Merging la lo ra ro (bitAnd la ra) (bitAnd (bitAnd la ra) (bitOr lo ro))
+  made-merging = record { allowed = byte-of both; output = byte-of (and-bits both either) }
+
+  pub made-disjoint : MadeBy Disjoint la lo ra ro (bitAnd (bitAnd la ra) (255 - bitAnd lo ro)) (bitAnd (bitAnd (bitAnd la ra) (255 - bitAnd lo ro)) (bitOr lo ro))
+  made-disjoint = record { allowed = byte-of disjoint; output = byte-of (and-bits disjoint either) }

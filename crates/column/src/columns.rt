@@ -1,11 +1,14 @@
 // A whole column, from the columns of the operands.
 ghost use mathlib.Core.Path.{_≡_};
 ghost use Prim.Native.Nat.{_<_};
+ghost use Rattle.column.specs.Steps.{renamingStep};
 ghost use Rattle.column.specs.Column.{relationColumn, unaryColumn, combinedColumn};
 use crate::steps::Bytes;
 use crate::steps::Combination;
 use crate::steps::Unary;
 use crate::steps::combined_bytes;
+use crate::steps::introducing_step;
+use crate::steps::projecting_out_step;
 use crate::steps::unary_bytes;
 use crate::tables::member_map;
 use crate::tables::subset_byte;
@@ -39,6 +42,16 @@ pub fn unary_column(u: Unary, operand: [u8; 64]) -> [u8; 64]
         j += 1;
     }
     column
+}
+
+// A renaming's column; `is_old`, `is_new`: the attribute is the old one, the new one.
+pub fn renaming_column(is_old: bool, is_new: bool, operand: [u8; 64]) -> [u8; 64]
+    ensures { λ c. ⌜ c ≡ unaryColumn (renamingStep «is_old» «is_new») operand ⌝ }
+{
+    if is_new {
+        return unary_column(introducing_step(is_old), operand);
+    }
+    unary_column(projecting_out_step(is_old), operand)
 }
 
 pub fn combined_column(c: Combination, left: [u8; 64], right: [u8; 64]) -> [u8; 64]

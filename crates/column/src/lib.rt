@@ -5,13 +5,14 @@ mod tables;
 
 pub use columns::combined_column;
 pub use columns::relation_column;
+pub use columns::renaming_column;
 pub use columns::unary_column;
 pub use steps::Bytes;
 pub use steps::Combination;
 pub use steps::Unary;
 pub use steps::combination_of;
 pub use steps::combined_bytes;
+pub use steps::introducing_step;
 pub use steps::projecting_out_step;
-pub use steps::renaming_step;
 pub use steps::set_step;
 pub use steps::unary_bytes;

@@ -1,13 +1,12 @@
--- How the work space is filled, column by column, from the front.
+-- How the work space is filled, node by node, from the front.
 use Prim.Native.Nat.{ℕ, _+_, _-_, _*_, _/_, _%_, _^_, _≤_, _<_}
 use mathlib.Core.Path.{_≡_, sym, ap, _∙_}
 use mathlib.Core.List.{List}
 use mathlib.Core.Logic.{inl, inr}
 use native.Mathlib.Decide.{decLe}
 use native.Mathlib.Omega.{arith}
-use borrow.Rule.Slice.PartMut.{putMid, midOf}
 use lib.ListN.{length, getD, take, drop, length-drop}
-use lib.Seq.{paste, length-paste, ext-getD, length-take-le, getD-take, getD-drop}
+use lib.Seq.{ext-getD, length-take-le, getD-take, getD-drop}
 use Rattle.bits.specs.Tab.{over}
 use Rattle.bits.specs.Written.{Written, written-all}
 use Rattle.node.specs.Legal.{LegalNode}
@@ -21,10 +20,10 @@ use Rattle.expression.specs.Walk.{Walk, walk-next}
 use Rattle.refusal.specs.declared.Refusal.{Refusal}
 use Rattle.algebra.specs.Expression.{Expression}
 use Rattle.formula.specs.Storage.{columnAt}
-use Rattle.formula.specs.StorageLaws.{lent-paste, paste-inside, paste-outside}
+use Rattle.formula.specs.Columns.{Columns}
 use Rattle.column.specs.ColumnLaws.{column-length}
 use Rattle.formula.specs.Expressions.{expressionAt, expression-is}
-use Rattle.formula.specs.NodeColumn.{ownColumn, nodeColumn, node-cells}
+use Rattle.formula.specs.NodeColumn.{nodeColumns, node-cells}
 use Rattle.formula.specs.Stored.{cellColumn, storedByte, formulasOf}
 
 -- node k stands at byte `at` of the file: what the walk over an accepted file's nodes gives
@@ -91,38 +90,33 @@ filled-column file m p old work l c filled fits within hc =
     ∙ filled .front (l * 1024 + c * 64 + i) (omega arith)
     ∙ stored-at file m l c i hc below)
 
--- writing the next column
-pub filled-more : (file : List ℕ) (m : ℕ) (old work : List ℕ) (k c : ℕ) → c < 16 → k * 1024 + c * 64 + 64 ≤ length work → FilledTo file m (k * 1024 + c * 64) old work → FilledTo file m (k * 1024 + c * 64 + 64) old (paste work (k * 1024 + c * 64) (cellColumn m (expressionAt file k) c) 64)
-filled-more file m old work k c hc fits filled =
-    record {
-      size = length-paste work (k * 1024 + c * 64) (cellColumn m (expressionAt file k) c) 64 fits (let l = cell-length m (expressionAt file k) c in omega arith) ∙ filled .size;
-      front = λ i h. front i h (decLe (k * 1024 + c * 64) i);
-      back = λ i h. paste-outside work (cellColumn m (expressionAt file k) c) (k * 1024 + c * 64) 64 fits (cell-length m (expressionAt file k) c) i (inr h) ∙ filled .back i (omega arith);
-    }
-  where
-    front : (i : ℕ) → i < k * 1024 + c * 64 + 64 → Dec (k * 1024 + c * 64 ≤ i) → getD (paste work (k * 1024 + c * 64) (cellColumn m (expressionAt file k) c) 64) i 0 ≡ storedByte file m i
-    front i h (yes above) =
-        let back : k * 1024 + c * 64 + (i - (k * 1024 + c * 64)) ≡ i = omega arith in
-        let inside : i - (k * 1024 + c * 64) < 64 = omega arith in
-        sym (ap (λ (j : ℕ). getD (paste work (k * 1024 + c * 64) (cellColumn m (expressionAt file k) c) 64) j 0) back)
-        ∙ paste-inside work (cellColumn m (expressionAt file k) c) (k * 1024 + c * 64) 64 fits (cell-length m (expressionAt file k) c) (i - (k * 1024 + c * 64)) inside
-        ∙ sym (stored-at file m k c (i - (k * 1024 + c * 64)) hc inside)
-        ∙ ap (storedByte file m) back
-    front i h (no below) = paste-outside work (cellColumn m (expressionAt file k) c) (k * 1024 + c * 64) 64 fits (cell-length m (expressionAt file k) c) i (inl (omega arith)) ∙ filled .front i (omega arith)
-
 -- the next column of a node, from the columns that stand there already
-pub next-column : (file : List ℕ) (m : ℕ) (old work : List ℕ) (k c : ℕ) → c < 16 → LegalNode m k (nodeAt file k) → k * 1024 + c * 64 ≤ length work → FilledTo file m (k * 1024 + c * 64) old work → nodeColumn (ownColumn (2 ^ m) (nodeAt file k)) (nodeAt file k) c (λ l. columnAt work l c) ≡ cellColumn m (expressionAt file k) c
-next-column file m old work k c hc legal fits filled =
+next-column : (file : List ℕ) (m : ℕ) (work : List ℕ) (k c : ℕ) → c < 16 → LegalNode m k (nodeAt file k) → k * 1024 ≤ length work → FilledTo file m (k * 1024) work work → nodeColumns (2 ^ m) (nodeAt file k) work c ≡ cellColumn m (expressionAt file k) c
+next-column file m work k c hc legal fits filled =
     node-cells m k c (nodeAt file k) (λ l. columnAt work l c) (expressionAt file) hc legal
-    (λ l below. filled-column file m (k * 1024 + c * 64) old work l c filled fits (omega arith) hc)
+    (λ l below. filled-column file m (k * 1024) work work l c filled fits (omega arith) hc)
     ∙ ap (λ (e : Expression). cellColumn m e c) (sym (expression-is file m k legal))
 
--- it is written into the part of the work space that starts with the node
-pub filled-part : (file : List ℕ) (m : ℕ) (old work : List ℕ) (k c : ℕ) (column part : List ℕ) → c < 16 → k * 1024 + 1024 ≤ length work → FilledTo file m (k * 1024 + c * 64) old work → column ≡ cellColumn m (expressionAt file k) c → part ≡ paste (midOf (k * 1024) (length work - k * 1024) work) (c * 64) column 64 → FilledTo file m (k * 1024 + (c + 1) * 64) old (putMid (k * 1024) (length work - k * 1024) work part)
-filled-part file m old work k c column part hc fits filled column-is part-is =
-    let place : k * 1024 + (c + 1) * 64 ≡ k * 1024 + c * 64 + 64 = omega arith in
-    rw (place, part-is, column-is, lent-paste work (cellColumn m (expressionAt file k) c) (k * 1024) (c * 64) 64 (omega arith))
-    (filled-more file m old work k c hc (omega arith) filled)
+-- one node more
+pub node-filled : (file : List ℕ) (m k : ℕ) (work next : List ℕ) → LegalNode m k (nodeAt file k) → k * 1024 + 1024 ≤ length work → FilledTo file m (k * 1024) work work → Columns (nodeColumns (2 ^ m) (nodeAt file k) work) (k * 1024) 16 work next → FilledTo file m (k * 1024 + 1024) work next
+node-filled file m k work next legal fits filled written =
+    record {
+      size = written .size;
+      front = λ i h. front i h (decLe (k * 1024) i);
+      back = λ i h. written .outside i (inr (omega arith));
+    }
+  where
+    front : (i : ℕ) → i < k * 1024 + 1024 → Dec (k * 1024 ≤ i) → getD next i 0 ≡ storedByte file m i
+    front i h (yes above) =
+        let c : (i - k * 1024) / 64 < 16 = omega arith in
+        let place : (i - k * 1024) % 64 < 64 = omega arith in
+        let whole : k * 1024 + (i - k * 1024) / 64 * 64 + (i - k * 1024) % 64 ≡ i = omega arith in
+        ap (λ (j : ℕ). getD next j 0) (sym whole)
+        ∙ written .inside ((i - k * 1024) / 64) ((i - k * 1024) % 64) c place
+        ∙ ap (λ (column : List ℕ). getD column ((i - k * 1024) % 64) 0) (next-column file m work k ((i - k * 1024) / 64) c legal (omega arith) filled)
+        ∙ sym (stored-at file m k ((i - k * 1024) / 64) ((i - k * 1024) % 64) c place)
+        ∙ ap (storedByte file m) whole
+    front i h (no below) = written .outside i (inl (omega arith)) ∙ filled .front i (omega arith)
 
 -- all nodes
 pub filled-all : (file : List ℕ) (m n : ℕ) (old work : List ℕ) → n * 1024 ≤ length old → FilledTo file m (n * 1024) old work → work ≡ over (formulasOf file m n) old

@@ -1,5 +1,6 @@
 pub mod Storage
 pub mod StorageLaws
+pub mod Columns
 pub mod Expressions
 pub mod Stored
 pub mod StepCells

@@ -5,7 +5,6 @@ use mathlib.Core.Bool.{Bool, not, _&&_}
 use mathlib.Core.List.{List}
 use native.Mathlib.Omega.{arith}
 use lib.Dec.{eqb, ltb}
-use lib.ListN.{replicate}
 use Rattle.bits.specs.Bit.{bit}
 use Rattle.attribute_set.specs.AttrSet.{hasAttribute}
 use Rattle.algebra.specs.Expression.{Expression, relation, binary, withSet, renaming, projectingOut}
@@ -20,53 +19,20 @@ use Rattle.formula.specs.StepCells.{StepIs, set-is, renaming-is, project
 use Rattle.column.specs.Column.{columnOf, allowedIn, outputIn, relationColumn, unaryColumn, combinedColumn}
 use Rattle.column.specs.ColumnLaws.{allowed-in, output-in, relation-is, unary-is, combined-is}
 use Rattle.formula.specs.Expressions.{operatorOf, setOperatorOf, named, ofNode}
+use Rattle.formula.specs.Storage.{columnAt}
 use Rattle.formula.specs.Stored.{allowedBit, outputBit, cellColumn}
 
--- what a node brings by itself, for every column the same, where there are `count` subsets: a relation its column, another node nothing
-abbrev pub ownColumn : ℕ → Node → List ℕ
-ownColumn count (Relation r) = relationColumn count r
-ownColumn count (Binary op l r) = replicate 64 0
-ownColumn count (WithSet op l s) = replicate 64 0
-ownColumn count (Renaming l old new) = replicate 64 0
-ownColumn count (ProjectingOut l old) = replicate 64 0
+-- column c of a node, where there are `count` subsets and `operand l` is column c of node l
+abbrev pub nodeColumn : ℕ → Node → ℕ → (ℕ → List ℕ) → List ℕ
+nodeColumn count (Relation r) c operand = relationColumn count r
+nodeColumn count (Binary op l r) c operand = combinedColumn (combinationOf op) (operand l) (operand r)
+nodeColumn count (WithSet op l s) c operand = unaryColumn (setStep op (hasAttribute s c)) (operand l)
+nodeColumn count (Renaming l old new) c operand = unaryColumn (renamingStep (eqb c old) (eqb c new)) (operand l)
+nodeColumn count (ProjectingOut l old) c operand = unaryColumn (projectingOutStep (eqb c old)) (operand l)
 
--- column c of a node that brings `own`, where `operand l` is column c of node l
-abbrev pub nodeColumn : List ℕ → Node → ℕ → (ℕ → List ℕ) → List ℕ
-nodeColumn own (Relation r) c operand = own
-nodeColumn own (Binary op l r) c operand = combinedColumn (combinationOf op) (operand l) (operand r)
-nodeColumn own (WithSet op l s) c operand = unaryColumn (setStep op (hasAttribute s c)) (operand l)
-nodeColumn own (Renaming l old new) c operand = unaryColumn (renamingStep (eqb c old) (eqb c new)) (operand l)
-nodeColumn own (ProjectingOut l old) c operand = unaryColumn (projectingOutStep (eqb c old)) (operand l)
-
--- a relation has a membership map
-abbrev pub HasMap : Node → Type 0
-HasMap (Relation r) = r < 8
-HasMap (Binary op l r) = Unit {0}
-HasMap (WithSet op l s) = Unit {0}
-HasMap (Renaming l old new) = Unit {0}
-HasMap (ProjectingOut l old) = Unit {0}
-
-pub has-map : (m k : ℕ) (node : Node) → LegalNode m k node → m ≤ 8 → HasMap node
-has-map m k (Relation r) legal few = omega arith
-has-map m k (Binary op l r) legal few = tt
-has-map m k (WithSet op l s) legal few = tt
-has-map m k (Renaming l old new) legal few = tt
-has-map m k (ProjectingOut l old) legal few = tt
-
--- the operands' formulas lie in a work space of so many bytes
-abbrev pub OperandsFit : ℕ → Node → Type 0
-OperandsFit size (Relation r) = Unit {0}
-OperandsFit size (Binary op l r) = (l * 1024 + 1024 ≤ size) × (r * 1024 + 1024 ≤ size)
-OperandsFit size (WithSet op l s) = l * 1024 + 1024 ≤ size
-OperandsFit size (Renaming l old new) = l * 1024 + 1024 ≤ size
-OperandsFit size (ProjectingOut l old) = l * 1024 + 1024 ≤ size
-
-pub operands-fit : (m k size : ℕ) (node : Node) → LegalNode m k node → m ≤ 8 → k * 1024 ≤ size → OperandsFit size node
-operands-fit m k size (Relation r) legal few fits = tt
-operands-fit m k size (Binary op l r) legal few fits = (omega arith, omega arith)
-operands-fit m k size (WithSet op l s) legal few fits = let below = legal .0 in omega arith
-operands-fit m k size (Renaming l old new) legal few fits = let below = legal .0 in omega arith
-operands-fit m k size (ProjectingOut l old) legal few fits = let below = legal .0 in omega arith
+-- the columns of a node whose operands' formulas stand in the work space
+abbrev pub nodeColumns : ℕ → Node → List ℕ → ℕ → List ℕ
+nodeColumns count node work c = nodeColumn count node c (λ l. columnAt work l c)
 
 -- ---- columns
 
@@ -107,7 +73,7 @@ unary-cells m e g c u broken given step isOk isOut =
     ∙ cells-are m g c
 
 -- over operands' columns of cells, a node's column is that of its cells
-pub node-cells : (m k c : ℕ) (node : Node) (operand : ℕ → List ℕ) (e : ℕ → Expression) → c < 16 → LegalNode m k node → ((l : ℕ) → l < k → operand l ≡ cellColumn m (e l) c) → nodeColumn (ownColumn (2 ^ m) node) node c operand ≡ cellColumn m (ofNode node e) c
+pub node-cells : (m k c : ℕ) (node : Node) (operand : ℕ → List ℕ) (e : ℕ → Expression) → c < 16 → LegalNode m k node → ((l : ℕ) → l < k → operand l ≡ cellColumn m (e l) c) → nodeColumn (2 ^ m) node c operand ≡ cellColumn m (ofNode node e) c
 node-cells m k c (Relation r) operand e h legal same = relation-cells m r c
 node-cells m k c (Binary op l r) operand e h legal same = rw (same l (legal .0), same r (legal .1)) (binary-cells m op (e l) (e r) c)
 node-cells m k c (WithSet op l s) operand e h legal same =

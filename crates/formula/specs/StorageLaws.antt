@@ -74,8 +74,12 @@ module _ (work column : List ℕ) (at n : ℕ) (fits : at + n ≤ length work) (
       ∙ getD-drop (at + n) work (i - length (take at work ++ take n column)) 0
       ∙ ap (λ (k : ℕ). getD work k 0) back
 
--- ---- byte i of column c of node k
+-- ---- column c of node k, and its byte i
 
 pub column-byte : (work : List ℕ) (k c i : ℕ) → i < 64 → getD (columnAt work k c) i 0 ≡ getD work (k * 1024 + c * 64 + i) 0
 unfolding columnAt
 column-byte work k c i h = getD-take 64 (drop (k * 1024 + c * 64) work) i 0 h ∙ getD-drop (k * 1024 + c * 64) work i 0
+
+pub column-size : (work : List ℕ) (k c : ℕ) → k * 1024 + c * 64 + 64 ≤ length work → length (columnAt work k c) ≡ 64
+unfolding columnAt
+column-size work k c h = let rest = length-drop (k * 1024 + c * 64) work in length-take-le 64 (drop (k * 1024 + c * 64) work) (omega arith)

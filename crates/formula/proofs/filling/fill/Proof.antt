@@ -6,8 +6,8 @@ use Rattle.formula.specs.Filling.{FilledTo, filled-all, walk-here}
 use Rattle.formula.specs.Stored.{storedByte}
 use Rattle.bits.specs.Written.{written-none, written-self, written-again}
 use borrow.Author.Needs.{needs}
-use Rattle.formula.proofs.operation.fill.Statement.{statement}
-use Rattle.formula.proofs.operation.fill.Tie as tie
+use Rattle.formula.proofs.filling.fill.Statement.{statement}
+use Rattle.formula.proofs.filling.fill.Tie as tie
 
 abbrev Inv-loop : tie.InvT-loop
 Inv-loop file m n work₀ at₀ k₀ work at k = (k ≤ n) × Walk file m n k at × FilledTo file m (k * 1024) work₀ work

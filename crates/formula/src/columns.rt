@@ -1,0 +1,97 @@
+// The formula of a node by its case, column by column: one loop for each, so that what depends on the node alone is outside.
+ghost use Prim.Native.Nat.{_+_, _*_, _≤_, _<_};
+ghost use lib.Dec.{eqb};
+ghost use lib.ListN.{length};
+ghost use Rattle.attribute_set.specs.AttrSet.{hasAttribute};
+ghost use Rattle.column.specs.Steps.{setStep, renamingStep, projectingOutStep, combinationOf};
+ghost use Rattle.column.specs.Column.{unaryColumn, combinedColumn};
+ghost use Rattle.formula.specs.Storage.{columnAt};
+ghost use Rattle.formula.specs.Columns.{Columns};
+use crate::storage::read_column;
+use crate::storage::write_column;
+use attribute_set::AttrSet;
+use column::combination_of;
+use column::combined_column;
+use column::projecting_out_step;
+use column::renaming_column;
+use column::set_step;
+use column::unary_column;
+use node::BinaryOp;
+use node::SetOp;
+
+// A relation's columns are all the same.
+pub fn fill_relation(own: [u8; 64], k: u8, work: &mut [u8])
+    requires { ⌜ k * 1024 + 1024 ≤ length (now work) ⌝ }
+    ensures { λ _. ⌜ Columns (λ c. own) (k * 1024) 16 (now (work .entry)) (now (work .exit)) ⌝ }
+{
+    let start = k as usize * 1024;
+    let mut c = 0;
+    while c < 16 {
+        write_column(&mut work[start..], c, own);
+        c += 1;
+    }
+}
+
+// An operator of two operands.
+pub fn fill_binary(op: BinaryOp, l: u8, r: u8, k: u8, work: &mut [u8])
+    requires { ⌜ k * 1024 + 1024 ≤ length (now work) ⌝ }
+    requires { ⌜ (l < k) × (r < k) ⌝ }
+    ensures { λ _. ⌜ Columns (λ c. combinedColumn (combinationOf op) (columnAt (now (work .entry)) l c) (columnAt (now (work .entry)) r c)) (k * 1024) 16 (now (work .entry)) (now (work .exit)) ⌝ }
+{
+    let start = k as usize * 1024;
+    let mut c = 0;
+    while c < 16 {
+        let column = combined_column(
+            combination_of(op),
+            read_column(work, l, c),
+            read_column(work, r, c),
+        );
+        write_column(&mut work[start..], c, column);
+        c += 1;
+    }
+}
+
+// An operator of one operand and an attribute set.
+pub fn fill_with_set(op: SetOp, l: u8, s: AttrSet, k: u8, work: &mut [u8])
+    requires { ⌜ k * 1024 + 1024 ≤ length (now work) ⌝ }
+    requires { ⌜ l < k ⌝ }
+    ensures { λ _. ⌜ Columns (λ c. unaryColumn (setStep op (hasAttribute s c)) (columnAt (now (work .entry)) l c)) (k * 1024) 16 (now (work .entry)) (now (work .exit)) ⌝ }
+{
+    let start = k as usize * 1024;
+    let mut c = 0;
+    while c < 16 {
+        let column = unary_column(set_step(op, s.has(c)), read_column(work, l, c));
+        write_column(&mut work[start..], c, column);
+        c += 1;
+    }
+}
+
+// A renaming.
+pub fn fill_renaming(l: u8, old: u8, new: u8, k: u8, work: &mut [u8])
+    requires { ⌜ k * 1024 + 1024 ≤ length (now work) ⌝ }
+    requires { ⌜ l < k ⌝ }
+    ensures { λ _. ⌜ Columns (λ c. unaryColumn (renamingStep (eqb c old) (eqb c new)) (columnAt (now (work .entry)) l c)) (k * 1024) 16 (now (work .entry)) (now (work .exit)) ⌝ }
+{
+    let start = k as usize * 1024;
+    let mut c = 0;
+    while c < 16 {
+        let column = renaming_column(c == old, c == new, read_column(work, l, c));
+        write_column(&mut work[start..], c, column);
+        c += 1;
+    }
+}
+
+// A projecting out.
+pub fn fill_projecting_out(l: u8, old: u8, k: u8, work: &mut [u8])
+    requires { ⌜ k * 1024 + 1024 ≤ length (now work) ⌝ }
+    requires { ⌜ l < k ⌝ }
+    ensures { λ _. ⌜ Columns (λ c. unaryColumn (projectingOutStep (eqb c old)) (columnAt (now (work .entry)) l c)) (k * 1024) 16 (now (work .entry)) (now (work .exit)) ⌝ }
+{
+    let start = k as usize * 1024;
+    let mut c = 0;
+    while c < 16 {
+        let column = unary_column(projecting_out_step(c == old), read_column(work, l, c));
+        write_column(&mut work[start..], c, column);
+        c += 1;
+    }
+}

@@ -1,0 +1,75 @@
+// The formulas of all nodes of an accepted file, node by node.
+ghost use mathlib.Core.Path.{_≡_};
+ghost use Prim.Native.Nat.{_+_, _*_, _^_, _≤_, _<_};
+ghost use lib.ListN.{length};
+ghost use Rattle.bits.specs.Tab.{over};
+ghost use Rattle.node.specs.Legal.{LegalNode};
+ghost use Rattle.expression.specs.ReadFile.{acceptance, sizeAt};
+ghost use Rattle.expression.specs.declared.files.Acceptance.the-variants.{Accepted};
+ghost use Rattle.formula.specs.NodeColumn.{nodeColumns};
+ghost use Rattle.formula.specs.Columns.{Columns};
+ghost use Rattle.formula.specs.Stored.{formulasOf};
+ghost use Rattle.formula.specs.Filling.{Here, FilledTo};
+use crate::columns::fill_binary;
+use crate::columns::fill_projecting_out;
+use crate::columns::fill_relation;
+use crate::columns::fill_renaming;
+use crate::columns::fill_with_set;
+use column::relation_column;
+use node::Node;
+use node::Reading;
+use node::read_node;
+
+// The formula of node k, whose operands' formulas stand in the work space.
+fn fill_formula(node: Node, m: u8, k: u8, work: &mut [u8])
+    requires { ⌜ (m ≤ 8) × LegalNode m k node ⌝ }
+    requires { ⌜ k * 1024 + 1024 ≤ length (now work) ⌝ }
+    ensures { λ _. ⌜ Columns (nodeColumns (2 ^ m) node (now (work .entry))) (k * 1024) 16 (now (work .entry)) (now (work .exit)) ⌝ }
+{
+    match node {
+        Node::Relation(r) => {
+            fill_relation(relation_column(1 << m, r), k, work);
+        }
+        Node::Binary(op, l, r) => {
+            fill_binary(op, l, r, k, work);
+        }
+        Node::WithSet(op, l, s) => {
+            fill_with_set(op, l, s, k, work);
+        }
+        Node::Renaming(l, old, new) => {
+            fill_renaming(l, old, new, k, work);
+        }
+        Node::ProjectingOut(l, old) => {
+            fill_projecting_out(l, old, k, work);
+        }
+    }
+}
+
+// Reads node k at byte `at` of the file, fills its formula, and gives the byte after it.
+fn fill_node(file: &[u8], m: u8, k: u8, at: usize, work: &mut [u8]) -> usize
+    requires { ⌜ Here (now file) m k at ⌝ }
+    requires { ⌜ k * 1024 + 1024 ≤ length (now work) ⌝ }
+    requires { ⌜ FilledTo (now file) m (k * 1024) (now work) (now work) ⌝ }
+    ensures { λ r. ⌜ r ≡ at + sizeAt (now (file .entry)) k ⌝ }
+    ensures { λ _. ⌜ FilledTo (now (file .entry)) m (k * 1024 + 1024) (now (work .entry)) (now (work .exit)) ⌝ }
+{
+    let Reading::Read(node, size) = read_node(m, k, &file[at..]) else {
+        return at;
+    };
+    fill_formula(node, m, k, work);
+    at + size
+}
+
+// The formulas of all nodes of an accepted file, for operations that have read it.
+pub fn fill(file: &[u8], m: u8, n: u8, work: &mut [u8])
+    requires { ⌜ acceptance (now file) ≡ Accepted m n ⌝ }
+    requires { ⌜ n * 1024 ≤ length (now work) ⌝ }
+    ensures { λ _. ⌜ now (work .exit) ≡ over (formulasOf (now (file .entry)) m n) (now (work .entry)) ⌝ }
+{
+    let mut at = 2;
+    let mut k = 0;
+    while k < n {
+        at = fill_node(file, m, k, at, work);
+        k += 1;
+    }
+}
