@@ -12,7 +12,7 @@ pub use steps::Combination;
 pub use steps::Unary;
 pub use steps::combination_of;
 pub use steps::combined_bytes;
-pub use steps::introducing_step;
 pub use steps::projecting_out_step;
+pub use steps::renaming_step;
 pub use steps::set_step;
 pub use steps::unary_bytes;

@@ -2,7 +2,7 @@
 ghost use mathlib.Core.Path.{_≡_};
 ghost use Rattle.bits.specs.Bit.{bit};
 ghost use Rattle.bits.specs.Pack.{pack};
-ghost use Rattle.column.specs.Steps.{unaryAllowed, unaryOutput, setStep, projectingOutStep, introducingStep, combinationOf};
+ghost use Rattle.column.specs.Steps.{unaryAllowed, unaryOutput, setStep, projectingOutStep, introducingStep, renamingStep, combinationOf};
 ghost use Rattle.column.specs.StepLaws.{MadeBy};
 use node::BinaryOp;
 use node::SetOp;
@@ -54,6 +54,16 @@ pub fn introducing_step(is_old: bool) -> Unary
         return Unary::Contradicted;
     }
     Unary::Introduced
+}
+
+// `is_old`, `is_new`: the attribute is the old one, the new one.
+pub fn renaming_step(is_old: bool, is_new: bool) -> Unary
+    ensures { λ r. ⌜ r ≡ renamingStep «is_old» «is_new» ⌝ }
+{
+    if is_new {
+        return introducing_step(is_old);
+    }
+    projecting_out_step(is_old)
 }
 
 // What an operator of two operands does to one attribute: the result has it where an operand does.
