@@ -83,7 +83,7 @@ module _ (m k : ℕ) (bytes : List ℕ) where
   relation-judged =
       by-refuse _ _ (lit≤ tt) λ enough.
       by-refuse _ _ (lit≤ tt) λ relation.
-      by-legal 1 2 refl refl (leb-false _ _ relation) (ltb-false _ _ enough) tt tt
+      by-legal 1 _ refl refl (leb-false _ _ relation) (ltb-false _ _ enough) tt tt
 
   binary-judged : Judged m k 14 bytes (checkFields m k 14 bytes)
   unfolding checkFields sizeOf
@@ -92,7 +92,7 @@ module _ (m k : ℕ) (bytes : List ℕ) where
       by-refuse _ _ (lit≤ tt) λ left.
       by-refuse _ _ (lit≤ tt) λ right.
       by-refuse _ _ (lit≤ tt) λ code.
-      by-legal 14 4 refl refl (leb-false _ _ left, leb-false _ _ right) (ltb-false _ _ enough) tt tt
+      by-legal 14 _ refl refl (leb-false _ _ left, leb-false _ _ right) (ltb-false _ _ enough) tt tt
 
   with-set-judged : Judged m k 26 bytes (checkFields m k 26 bytes)
   unfolding checkFields sizeOf
@@ -101,7 +101,7 @@ module _ (m k : ℕ) (bytes : List ℕ) where
       by-refuse _ _ (lit≤ tt) λ operand.
       by-refuse _ _ (lit≤ tt) λ code.
       by-refuse _ _ (lit≤ tt) λ set.
-      by-legal 26 5 refl refl (leb-false _ _ operand, clear-set _ set) (ltb-false _ _ enough) tt tt
+      by-legal 26 _ refl refl (leb-false _ _ operand, clear-set _ set) (ltb-false _ _ enough) tt tt
 
   renaming-judged : Judged m k 98 bytes (checkFields m k 98 bytes)
   unfolding checkFields sizeOf
@@ -110,7 +110,7 @@ module _ (m k : ℕ) (bytes : List ℕ) where
       by-refuse _ _ (lit≤ tt) λ operand.
       by-refuse _ _ (lit≤ tt) λ old.
       by-refuse _ _ (lit≤ tt) λ new.
-      by-legal 98 4 refl refl (leb-false _ _ operand, not-false _ old, not-false _ new) (ltb-false _ _ enough) tt tt
+      by-legal 98 _ refl refl (leb-false _ _ operand, not-false _ old, not-false _ new) (ltb-false _ _ enough) tt tt
 
   projecting-out-judged : Judged m k 34 bytes (checkFields m k 34 bytes)
   unfolding checkFields sizeOf
@@ -118,7 +118,7 @@ module _ (m k : ℕ) (bytes : List ℕ) where
       by-refuse _ _ (lit≤ tt) λ enough.
       by-refuse _ _ (lit≤ tt) λ operand.
       by-refuse _ _ (lit≤ tt) λ old.
-      by-legal 34 3 refl refl (leb-false _ _ operand, not-false _ old) (ltb-false _ _ enough) tt tt
+      by-legal 34 _ refl refl (leb-false _ _ operand, not-false _ old) (ltb-false _ _ enough) tt tt
 
   pub node-judged : Judged m k (getD bytes 0 0) bytes (checkNode m k bytes)
   unfolding checkNode
