@@ -14,8 +14,8 @@ use Rattle.bits.specs.Tab.{tab, over}
 use Rattle.bits.specs.Word.{word}
 use Rattle.attribute_set.specs.AttrSet.{special, hasAttribute, setOf}
 use Rattle.refusal.specs.Chain.{refuse}
-use Rattle.node.specs.Operators.{binaryCode, setCode}
-use Rattle.node.specs.ReadNode.{readNode, readFields, withBinary, withSet}
+use Rattle.node.specs.Operators.{binaryOf, setOpOf}
+use Rattle.node.specs.ReadNode.{sizeOf, checkFields, checkNode, nodeOf, readNode}
 use Rattle.expression.specs.ReadFile.{acceptance, parse, header, readNodes, entryAt, entriesOf as nodeEntries}
 use Rattle.expression.specs.Admission.{asked, sliced}
 use Rattle.expression.specs.AdmissionLaws.{sliced-passes, asked-passes}
@@ -242,5 +242,5 @@ each-holds (x ∷ xs) t (suc i) h = each-holds xs (right (passes x) (every xs) t
 
 -- the theorem: every case of the table holds; antt computes the test
 pub examples-hold : (i : ℕ) → i < length table → Holds (getD table i none)
-unfolding every passes same accepts columnsPass witnessPasses outputPasses recordsPass typingsPass readRecords readRecord readList readFrom recordSize recordAt listed word entriesOf mapsOf enter typedIn outputMap recordBytes recordByte passing subsetOf blockedOf witnessOf witnessByte recordWord pack tab bit lowestFrom allowedBit outputBit expressionAt earlier acceptance parse header readNodes readNode readFields refuse inRange special hasAttribute setOf binaryCode setCode withBinary withSet entryAt nodeEntries table
+unfolding every passes same accepts columnsPass witnessPasses outputPasses recordsPass typingsPass readRecords readRecord readList readFrom recordSize recordAt listed word entriesOf mapsOf enter typedIn outputMap recordBytes recordByte passing subsetOf blockedOf witnessOf witnessByte recordWord pack tab bit lowestFrom allowedBit outputBit expressionAt earlier acceptance parse header readNodes readNode checkNode checkFields sizeOf nodeOf refuse inRange special hasAttribute setOf binaryOf setOpOf entryAt nodeEntries table
 examples-hold = each-holds table tt

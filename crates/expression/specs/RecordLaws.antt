@@ -1,22 +1,20 @@
 -- What Record returns: the part of the file at its place, empty only where one of 1 to 11 applies.
-use Prim.Native.Nat.{ℕ, _+_, _-_, _≤_}
+use Prim.Native.Nat.{ℕ, _+_, _≤_, _<_}
 use mathlib.Core.Path.{_≡_, refl, sym, ap, _∙_}
 use mathlib.Core.List.{List, []}
 use native.Mathlib.Omega.{arith}
-use lib.ListN.{length, take, drop, length-drop}
+use lib.ListN.{length, getD, take, drop, length-drop}
 use lib.Seq.{length-take-le}
 use Rattle.refusal.specs.declared.Refusal.{Refusal}
 use Rattle.refusal.specs.Number.{numberOf}
 use Rattle.expression.specs.declared.files.Acceptance.{Acceptance}
 use Rattle.expression.specs.declared.files.Acceptance.the-variants.{Accepted, Refused}
-use Rattle.node.specs.declared.nodes.Node.{Node}
-use Rattle.node.specs.declared.reader.Reading.the-variants.{Read}
-use Rattle.node.specs.ReadNode.{readNode}
+use Rattle.node.specs.ReadNode.{sizeOf}
 use Rattle.expression.specs.ReadFile.{entryAt, sizeAt, startAt}
 use Rattle.expression.specs.Admission.{asked}
 use Rattle.expression.specs.AdmissionLaws.{asked-passed, asked-number}
 use Rattle.expression.specs.Record.{placeOf, recordOf}
-use Rattle.expression.specs.Walk.{Walk, walk-read, step-at}
+use Rattle.expression.specs.Walk.{Walk, walk-first, walk-next, Decoded, walk-decoded, step-at}
 
 module _ (file : List ℕ) (k : ℕ) where
   pub record-refused : (r : Refusal) → asked file k ≡ Refused r → (recordOf file k ≡ []) × (placeOf file k ≡ record { start = 0; len = 0 })
@@ -61,12 +59,51 @@ record-empty file k empty = go (asked file k) refl
         let some = step-at file m n (found .0) k (found .1) .least in
         absurd (omega arith)
 
--- the place, from the walk that stands before the node
-pub place-here : (file : List ℕ) (m n k at : ℕ) (node : Node) (size : ℕ) → asked file k ≡ Accepted m n → Walk file m n k at → readNode m k (take (length file - at) (drop at file)) ≡ Read node size → record { start = at; len = size } ≡ placeOf file k
-place-here file m n k at node size e w reading =
-    let found = asked-passed file k e in
-    let step = walk-read file m n k at node size w (found .1) reading in
-    rw (w .place, step .size-is) (sym (record-found file k m n e .1))
+-- ---- the search for a node
+
+-- the walk to node `node` stands before node k, at byte `at`
+pub record Seeking (file : List ℕ) (node k at : ℕ) : Type 0 where
+  pub m : ℕ
+  pub n : ℕ
+  pub found : asked file node ≡ Accepted m n
+  pub before : k ≤ node
+  pub walk : Walk file m n k at
+
+pub seek-first : (file : List ℕ) (node m n : ℕ) → asked file node ≡ Accepted m n → Seeking file node 0 2
+seek-first file node m n e =
+    record {
+      m = m;
+      n = n;
+      found = e;
+      before = omega arith;
+      walk = walk-first file m n (asked-passed file node e .0);
+    }
+
+module _ (file : List ℕ) (node k at : ℕ) (s : Seeking file node k at) where
+  -- a node stands there
+  pub seek-here : Decoded file k at
+  seek-here =
+      let below = asked-passed file node (s .found) .1 in
+      let before = s .before in
+      walk-decoded file (s .m) (s .n) k at (s .walk) (omega arith)
+
+  pub seek-next : k < node → Seeking file node (k + 1) (at + sizeOf (getD file at 0))
+  seek-next h =
+      let below = asked-passed file node (s .found) .1 in
+      record {
+        m = s .m;
+        n = s .n;
+        found = s .found;
+        before = omega arith;
+        walk = rw (seek-here .size-is) (walk-next file (s .m) (s .n) k at (s .walk) (omega arith) .next);
+      }
+
+  -- the place of the node
+  pub seek-found : node ≤ k → record { start = at; len = sizeOf (getD file at 0) } ≡ placeOf file node
+  seek-found h =
+      let before = s .before in
+      let here : k ≡ node = omega arith in
+      rw (seek-here .size-is, s .walk .place, here) (sym (record-found file node (s .m) (s .n) (s .found) .1))
 
 pub record-length : (file : List ℕ) (k : ℕ) → length (recordOf file k) ≡ placeOf file k .len
 record-length file k =

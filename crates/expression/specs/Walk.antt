@@ -1,21 +1,20 @@
 -- The law of the walk over the nodes of an accepted file, for every loop over nodes: where it begins, what the next step reads, where it ends.
 use Prim.Native.Nat.{ℕ, zero, suc, _+_, _-_, _*_, _≤_, _<_}
+use mathlib.Core.Bool.{true}
 use mathlib.Core.Path.{_≡_, refl, sym, ap, subst, _∙_}
 use mathlib.Core.List.{List, [], _∷_}
 use native.Mathlib.Nat.{sub-zero, sub-self, le-refl}
 use native.Mathlib.Numerals.{add-one}
 use native.Mathlib.Omega.{arith}
 use lib.ListN.{length, getD, take, drop, length-drop}
-use lib.Seq.{drop-drop}
+use lib.Seq.{drop-drop, getD-drop}
 use Rattle.bits.specs.Part.{part-from, At, at-head}
-use Rattle.refusal.specs.declared.Refusal.{Refusal}
-use Rattle.node.specs.declared.nodes.Node.{Node}
 use Rattle.node.specs.declared.nodes.Node.the-variants.{Relation}
-use Rattle.node.specs.declared.reader.Reading.the-variants.{Read, Refused as NodeRefused}
+use Rattle.node.specs.declared.reader.Reading.the-variants.{Read}
 use Rattle.expression.specs.declared.files.Acceptance.the-variants.{Accepted}
-use Rattle.node.specs.ReadNode.{readNode}
+use Rattle.node.specs.ReadNode.{sizeOf, legal, Checked, nodeOf, readNode}
 use Rattle.expression.specs.ReadFile.{Entry, nodesRead, atEnd, readNodes, acceptance, entriesOf, entryAt, nodeAt, sizeAt, total, startAt}
-use Rattle.node.specs.Legal.{LegalNode, node-legal}
+use Rattle.node.specs.Legal.{LegalNode, checked-some, read-checked, node-legal}
 use Rattle.expression.specs.Accepted.{FirstNode, first-node, accepted-file}
 
 -- past the last node
@@ -87,25 +86,32 @@ walk-next file m n k at w h =
     let left : n - k ≡ suc (n - (k + 1)) = omega arith in
     step-from file m n k at w (first-node m (n - (k + 1)) k (drop at file) (drop k (entriesOf file)) (rw left at (w .rest)))
 
--- no refusal can occur
-pub walk-reads : (file : List ℕ) (m n k at : ℕ) (r : Refusal) → Walk file m n k at → k < n → readNode m k (take (length file - at) (drop at file)) ≡ NodeRefused r → ⊥
-walk-reads file m n k at r w h e =
-    let reading = walk-next file m n k at w h .reading in
-    let z : _≡_ {A = ℕ} 0 1 = cc in
-    omega arith
+-- node k at byte `at`, in the words of its decoding
+pub record Decoded (file : List ℕ) (k at : ℕ) : Type 0 where
+  pub checked : Checked (take (length file - at) (drop at file))
+  pub node-is : nodeOf (take (length file - at) (drop at file)) ≡ nodeAt file k
+  pub below : at < length file
+  pub map-legal : legal (getD file at 0) ≡ true
+  pub size-is : sizeOf (getD file at 0) ≡ sizeAt file k
 
--- the step in the words of a match on the reading
-pub record Stepped (file : List ℕ) (m n k at : ℕ) (node : Node) (size : ℕ) : Type 0 where
-  pub node-is : node ≡ nodeAt file k
-  pub size-is : size ≡ sizeAt file k
-  pub next : Walk file m n (k + 1) (at + size)
+pub read-decoded : (file : List ℕ) (m k at : ℕ) → readNode m k (take (length file - at) (drop at file)) ≡ Read (nodeAt file k) (sizeAt file k) → Decoded file k at
+read-decoded file m k at e =
+    let check = read-checked m k _ (nodeAt file k) (sizeAt file k) e in
+    let here : at + 0 ≡ at = omega arith in
+    let first : getD (take (length file - at) (drop at file)) 0 0 ≡ getD file at 0 = ap (λ (bytes : List ℕ). getD bytes 0 0) (part-from file at) ∙ getD-drop at file 0 0 ∙ ap (λ (i : ℕ). getD file i 0) here in
+    let checked : Checked (take (length file - at) (drop at file)) = record { m = m; k = k; size = sizeAt file k; passed = check .0 } in
+    let some = checked-some _ checked in
+    let l = ap length (part-from file at) ∙ length-drop at file in
+    record {
+      checked = checked;
+      node-is = sym (check .1);
+      below = omega arith;
+      map-legal = subst (λ (map : ℕ). legal map ≡ true) first (check .3);
+      size-is = sym (check .2 ∙ ap sizeOf first);
+    }
 
-pub walk-read : (file : List ℕ) (m n k at : ℕ) (node : Node) (size : ℕ) → Walk file m n k at → k < n → readNode m k (take (length file - at) (drop at file)) ≡ Read node size → Stepped file m n k at node size
-walk-read file m n k at node size w h e =
-    let step = walk-next file m n k at w h in
-    let same : Read node size ≡ Read (nodeAt file k) (sizeAt file k) = sym e ∙ step .reading in
-    let size-is : size ≡ sizeAt file k = cc in
-    record { node-is = cc; size-is = size-is; next = rw size-is (step .next) }
+pub walk-decoded : (file : List ℕ) (m n k at : ℕ) → Walk file m n k at → k < n → Decoded file k at
+walk-decoded file m n k at w h = read-decoded file m k at (walk-next file m n k at w h .reading)
 
 -- ---- the end, and each node
 

@@ -3,8 +3,8 @@ ghost use mathlib.Core.Path.{_≡_};
 ghost use Prim.Native.Nat.{_≤_};
 ghost use lib.ListN.{length, drop};
 ghost use Rattle.expression.specs.ReadFile.{header, acceptance, answer, collect, readNodes};
-use node::Reading;
-use node::read_node;
+use node::Check;
+use node::check_node;
 use refusal::Refusal;
 
 // The counts m and n of a file in which nothing is refused, or the first refusal.
@@ -39,12 +39,12 @@ fn accept_nodes(file: &[u8], m: u8, n: u8) -> Acceptance
     let mut at = 2;
     let mut k = 0;
     while k < n {
-        match read_node(m, k, &file[at..]) {
-            Reading::Read(_, size) => {
+        match check_node(m, k, &file[at..]) {
+            Check::Legal(size) => {
                 at += size;
                 k += 1;
             }
-            Reading::Refused(r) => {
+            Check::Refused(r) => {
                 return Acceptance::Refused(r);
             }
         }

@@ -3,8 +3,7 @@ ghost use mathlib.Core.Path.{_≡_};
 ghost use Rattle.expression.specs.Record.{placeOf, recordOf};
 use crate::admission::ask;
 use crate::files::Acceptance;
-use node::Reading;
-use node::read_node;
+use node::size_of;
 
 // A part of a file: its first byte and the number of its bytes.
 pub struct Place {
@@ -16,23 +15,18 @@ pub struct Place {
 pub fn locate(file: &[u8], node: usize) -> Place
     ensures { λ r. ⌜ r ≡ placeOf (now (file .entry)) node ⌝ }
 {
-    let Acceptance::Accepted(m, _) = ask(file, node) else {
+    let Acceptance::Accepted(_, _) = ask(file, node) else {
         return Place { start: 0, len: 0 };
     };
     let mut at = 2;
     let mut k = 0;
-    loop {
-        let Reading::Read(_, size) = read_node(m, k, &file[at..]) else {
-            return Place { start: 0, len: 0 };
-        };
-        if k as usize == node {
-            return Place {
-                start: at,
-                len: size,
-            };
-        }
-        at += size;
+    while k < node {
+        at += size_of(file[at]);
         k += 1;
+    }
+    Place {
+        start: at,
+        len: size_of(file[at]),
     }
 }
 

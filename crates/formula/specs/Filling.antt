@@ -16,7 +16,7 @@ use Rattle.node.specs.declared.reader.Reading.the-variants.{Read, Refused as No
 use Rattle.node.specs.declared.nodes.Node.{Node}
 use Rattle.expression.specs.declared.files.Acceptance.the-variants.{Accepted}
 use Rattle.expression.specs.Accepted.{accepted-file}
-use Rattle.expression.specs.Walk.{Walk, walk-next}
+use Rattle.expression.specs.Walk.{Walk, walk-next, Decoded, read-decoded}
 use Rattle.refusal.specs.declared.Refusal.{Refusal}
 use Rattle.algebra.specs.Expression.{Expression}
 use Rattle.formula.specs.Storage.{columnAt}
@@ -45,6 +45,10 @@ here-reads file m k at r here e =
     let same : NodeRefused r ≡ Read (nodeAt file k) (sizeAt file k) = sym e ∙ here .reading in
     let z : _≡_ {A = ℕ} 0 1 = cc in
     omega arith
+
+-- what its decoding gives
+pub here-checked : (file : List ℕ) (m k at : ℕ) → Here file m k at → Decoded file k at
+here-checked file m k at here = read-decoded file m k at (here .reading)
 
 -- the walk over an accepted file's nodes is there
 pub walk-here : (file : List ℕ) (m n k at : ℕ) → acceptance file ≡ Accepted m n → k < n → Walk file m n k at → Here file m k at

@@ -7,8 +7,8 @@ use Rattle.bits.specs.Lowest.{lowestFrom}
 use Rattle.bits.specs.Range.{inRange}
 use Rattle.attribute_set.specs.AttrSet.{hasAttribute, special, setOf}
 use Rattle.refusal.specs.Chain.{refuse}
-use Rattle.node.specs.Operators.{binaryCode, setCode}
-use Rattle.node.specs.ReadNode.{readNode, readFields, withBinary, withSet}
+use Rattle.node.specs.Operators.{binaryOf, setOpOf}
+use Rattle.node.specs.ReadNode.{sizeOf, checkFields, checkNode, nodeOf, readNode}
 use Rattle.expression.specs.ReadFile.{acceptance, parse, header, readNodes, entryAt, entriesOf}
 use Rattle.formula.specs.Expressions.{expressionAt, earlier}
 use Rattle.formula.specs.Stored.{allowedBit, outputBit}
@@ -31,5 +31,5 @@ pub e1-text :
     ∷ 97 ∷ 49 ∷ 58 ∷ 32 ∷ 48 ∷ 49 ∷ 45 ∷ 32 ∷ 48 ∷ 53 ∷ 43 ∷ 10
     ∷ 97 ∷ 50 ∷ 58 ∷ 32 ∷ 48 ∷ 50 ∷ 43 ∷ 32 ∷ 48 ∷ 54 ∷ 43 ∷ 10
     ∷ 97 ∷ 51 ∷ 58 ∷ 32 ∷ 48 ∷ 51 ∷ 43 ∷ 32 ∷ 48 ∷ 52 ∷ 43 ∷ 32 ∷ 48 ∷ 55 ∷ 43 ∷ 10 ∷ []
-unfolding textOf listing nodeLine relationLine outLine attributeLine namedBelow isBlocked each subsetText hexDigit decimal acceptance expressionAt allowedBit outputBit bit subsetOf blockedOf lowestFrom hasAttribute parse header readNodes readNode readFields refuse inRange entryAt entriesOf earlier special setOf binaryCode setCode withBinary withSet
+unfolding textOf listing nodeLine relationLine outLine attributeLine namedBelow isBlocked each subsetText hexDigit decimal acceptance expressionAt allowedBit outputBit bit subsetOf blockedOf lowestFrom hasAttribute parse header readNodes readNode checkNode checkFields sizeOf nodeOf refuse inRange entryAt entriesOf earlier special setOf binaryOf setOpOf
 e1-text = refl

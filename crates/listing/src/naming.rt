@@ -7,8 +7,8 @@ ghost use Rattle.listing.specs.Text.{names};
 ghost use Rattle.listing.specs.Naming.{Joined, Named};
 use attribute_set::AttrSet;
 use node::Node;
-use node::Reading;
-use node::read_node;
+use node::decode;
+use node::size_of;
 
 // The attributes of both sets.
 fn join(set: AttrSet, other: AttrSet) -> AttrSet
@@ -53,12 +53,10 @@ pub fn named_attributes(file: &[u8], m: u8, n: u8) -> AttrSet
     let mut at = 2;
     let mut k = 0;
     while k < n {
-        let Reading::Read(node, size) = read_node(m, k, &file[at..]) else {
-            return set;
-        };
+        let node = decode(&file[at..]);
         let more = add_named(set, node);
         set = more;
-        at += size;
+        at += size_of(file[at]);
         k += 1;
     }
     set

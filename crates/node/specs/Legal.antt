@@ -1,29 +1,24 @@
 -- What a node that was read gives: its operands are earlier, its relation is below m, its attributes are special, its set has bit 0 clear.
-use Prim.Native.Nat.{ℕ, _<_, _≤_}
-use mathlib.Core.Path.{_≡_, refl, sym, subst}
+use Prim.Native.Nat.{ℕ, _+_, _*_, _%_, _<_, _≤_}
+use mathlib.Core.Path.{_≡_, refl, sym, ap, subst, _∙_}
 use mathlib.Core.Bool.{Bool, true, false, _||_}
 use mathlib.Core.List.{List}
 use native.Mathlib.Omega.{arith}
 use borrow.Author.Tests.{ltb-false, leb-false, eqb-true, not-false}
 use lib.Dec.{T, eqb, leb, lit≤}
 use lib.ListN.{length, getD}
-use Rattle.bits.specs.Bit.{bit}
+use Rattle.bits.specs.Bit.{bit, bit-first}
 use Rattle.attribute_set.specs.AttrSet.{special}
-use Rattle.attribute_set.specs.Laws.{Clear, clear-set}
+use Rattle.attribute_set.specs.Laws.{Clear, clear-set, clear-lacks, has-set}
 use Rattle.refusal.specs.Number.{numberOf}
 use Rattle.refusal.specs.Chain.{refuse, refuse-has}
 use Rattle.refusal.specs.declared.Refusal.{Refusal}
-use Rattle.node.specs.declared.nodes.BinaryOp.{BinaryOp}
-use Rattle.node.specs.declared.nodes.SetOp.{SetOp}
-use Rattle.node.specs.declared.nodes.BinaryCode.{BinaryCode}
-use Rattle.node.specs.declared.nodes.BinaryCode.the-variants.{BinaryOperator, NoBinaryOperator}
-use Rattle.node.specs.declared.nodes.SetCode.{SetCode}
-use Rattle.node.specs.declared.nodes.SetCode.the-variants.{SetOperator, NoSetOperator}
 use Rattle.node.specs.declared.nodes.Node.{Node}
 use Rattle.node.specs.declared.nodes.Node.the-variants.{Relation, Binary, WithSet, Renaming, ProjectingOut}
-use Rattle.node.specs.declared.reader.Reading.{Reading}
-use Rattle.node.specs.declared.reader.Reading.the-variants.{Read, Refused}
-use Rattle.node.specs.ReadNode.{withBinary, withSet, legal, readFields, readNode}
+use Rattle.node.specs.declared.reader.Check.{Check}
+use Rattle.node.specs.declared.reader.Check.the-variants.{Legal, Refused}
+use Rattle.node.specs.declared.reader.Reading.the-variants.{Read, Refused as ReadingRefused}
+use Rattle.node.specs.ReadNode.{attributes, sizeOf, valueOf, legal, checkFields, checkNode, Checked, nodeWith, nodeOf, withNode, readNode}
 
 -- a legal map is one of five
 pub legal-cases : (map : ℕ) (P : ℕ → Type 0) → P 1 → P 14 → P 26 → P 98 → P 34 → legal map ≡ true → P map
@@ -37,6 +32,21 @@ legal-cases map P one fourteen twentysix ninetyeight thirtyfour =
     go false i false j false k true l e n h = subst P (sym (eqb-true map 98 l)) ninetyeight
     go false i false j false k false l true n h = subst P (sym (eqb-true map 34 n)) thirtyfour
     go false i false j false k false l false n h = absurd (let z : _≡_ {A = ℕ} 0 1 = cc in omega arith)
+
+-- the last of them
+pub last-map : (map : ℕ) → legal map ≡ true → (map ≡ 1 → ⊥) → (map ≡ 14 → ⊥) → (map ≡ 26 → ⊥) → (map ≡ 98 → ⊥) → map ≡ 34
+last-map map ok =
+    legal-cases map (λ (x : ℕ). (x ≡ 1 → ⊥) → (x ≡ 14 → ⊥) → (x ≡ 26 → ⊥) → (x ≡ 98 → ⊥) → x ≡ 34)
+    (λ a b c d. absurd (a refl))
+    (λ a b c d. absurd (b refl))
+    (λ a b c d. absurd (c refl))
+    (λ a b c d. absurd (d refl))
+    (λ a b c d. refl)
+    ok
+
+-- the low bit of two bytes is that of the first
+pub bit-low : (low high : ℕ) → bit (low + high * 256) 0 ≡ eqb (low % 2) 1
+bit-low low high = let same : (low + high * 256) % 2 ≡ low % 2 = omega arith in bit-first (low + high * 256) ∙ ap (λ (x : ℕ). eqb x 1) same
 
 -- node k of a file with m relations
 abbrev pub LegalNode : ℕ → ℕ → Node → Type 0
@@ -52,91 +62,153 @@ pub record LegalReading (m k : ℕ) (bytes : List ℕ) (node : Node) (size : ℕ
   pub least : 2 ≤ size
   pub most : size ≤ 5
 
--- what a reading gives: a legal node that the bytes hold, or a refusal of the file's own bytes
-pub data Judged (m k : ℕ) (bytes : List ℕ) : Reading → Type 0 where
-  refused : {r : Refusal} → numberOf r ≤ 10 → Judged m k bytes (Refused r)
-  accepted : {node : Node} {size : ℕ} → LegalReading m k bytes node size → Judged m k bytes (Read node size)
+-- what a check of bytes with this map gives: their size, where they hold a legal node, or a refusal of the file's own bytes
+pub data Judged (m k map : ℕ) (bytes : List ℕ) : Check → Type 0 where
+  refused : {r : Refusal} → numberOf r ≤ 10 → Judged m k map bytes (Refused r)
+  passed : {size : ℕ} → legal map ≡ true → size ≡ sizeOf map → LegalReading m k bytes (nodeWith map (valueOf map bytes)) size → Judged m k map bytes (Legal size)
 
 module _ (m k : ℕ) (bytes : List ℕ) where
   -- ---- what holds of each end of a chain of refusals holds of the chain
 
-  by-refuse : (t : Bool) (r : Refusal) {next : Reading} → numberOf r ≤ 10 → (t ≡ false → Judged m k bytes next) → Judged m k bytes (refuse Refused t r next)
-  by-refuse t r {next} h f = refuse-has (Judged m k bytes) Refused t r next (refused h) f
+  by-refuse : {map : ℕ} (t : Bool) (r : Refusal) {next : Check} → numberOf r ≤ 10 → (t ≡ false → Judged m k map bytes next) → Judged m k map bytes (refuse Refused t r next)
+  by-refuse {map} t r {next} h f = refuse-has (Judged m k map bytes) Refused t r next (refused h) f
 
-  by-binary : (b : BinaryCode) {next : BinaryOp → Reading} → ((op : BinaryOp) → Judged m k bytes (next op)) → Judged m k bytes (withBinary b next)
-  unfolding withBinary
-  by-binary (BinaryOperator op) f = f op
-  by-binary NoBinaryOperator f = refused (lit≤ tt)
-
-  by-set : (s : SetCode) {next : SetOp → Reading} → ((op : SetOp) → Judged m k bytes (next op)) → Judged m k bytes (withSet s next)
-  unfolding withSet
-  by-set (SetOperator op) f = f op
-  by-set NoSetOperator f = refused (lit≤ tt)
-
-  by-read : (node : Node) (size : ℕ) → LegalNode m k node → size ≤ length bytes → T (leb 2 size) → T (leb size 5) → Judged m k bytes (Read node size)
-  by-read node size ok fits least most = accepted (record { legal = ok; fits = fits; least = lit≤ least; most = lit≤ most })
+  by-legal : (map size : ℕ) → legal map ≡ true → size ≡ sizeOf map → LegalNode m k (nodeWith map (valueOf map bytes)) → size ≤ length bytes → T (leb 2 size) → T (leb size 5) → Judged m k map bytes (Legal size)
+  by-legal map size map-is size-is ok fits least most = passed map-is size-is (record { legal = ok; fits = fits; least = lit≤ least; most = lit≤ most })
 
   -- ---- the five chains
 
-  relation-judged : Judged m k bytes (readFields m k 1 bytes)
-  unfolding readFields
+  relation-judged : Judged m k 1 bytes (checkFields m k 1 bytes)
+  unfolding checkFields sizeOf
   relation-judged =
       by-refuse _ _ (lit≤ tt) λ enough.
       by-refuse _ _ (lit≤ tt) λ relation.
-      by-read _ _ (leb-false _ _ relation) (ltb-false _ _ enough) tt tt
+      by-legal 1 _ refl refl (leb-false _ _ relation) (ltb-false _ _ enough) tt tt
 
-  binary-judged : Judged m k bytes (readFields m k 14 bytes)
-  unfolding readFields
+  binary-judged : Judged m k 14 bytes (checkFields m k 14 bytes)
+  unfolding checkFields sizeOf
   binary-judged =
       by-refuse _ _ (lit≤ tt) λ enough.
       by-refuse _ _ (lit≤ tt) λ left.
       by-refuse _ _ (lit≤ tt) λ right.
       by-refuse _ _ (lit≤ tt) λ code.
-      by-binary _ λ op.
-      by-read _ _ (leb-false _ _ left, leb-false _ _ right) (ltb-false _ _ enough) tt tt
+      by-legal 14 _ refl refl (leb-false _ _ left, leb-false _ _ right) (ltb-false _ _ enough) tt tt
 
-  with-set-judged : Judged m k bytes (readFields m k 26 bytes)
-  unfolding readFields
+  with-set-judged : Judged m k 26 bytes (checkFields m k 26 bytes)
+  unfolding checkFields sizeOf
   with-set-judged =
       by-refuse _ _ (lit≤ tt) λ enough.
       by-refuse _ _ (lit≤ tt) λ operand.
       by-refuse _ _ (lit≤ tt) λ code.
       by-refuse _ _ (lit≤ tt) λ set.
-      by-set _ λ op.
-      by-read _ _ (leb-false _ _ operand, clear-set _ set) (ltb-false _ _ enough) tt tt
+      by-legal 26 _ refl refl (leb-false _ _ operand, clear-set _ set) (ltb-false _ _ enough) tt tt
 
-  renaming-judged : Judged m k bytes (readFields m k 98 bytes)
-  unfolding readFields
+  renaming-judged : Judged m k 98 bytes (checkFields m k 98 bytes)
+  unfolding checkFields sizeOf
   renaming-judged =
       by-refuse _ _ (lit≤ tt) λ enough.
       by-refuse _ _ (lit≤ tt) λ operand.
       by-refuse _ _ (lit≤ tt) λ old.
       by-refuse _ _ (lit≤ tt) λ new.
-      by-read _ _ (leb-false _ _ operand, not-false _ old, not-false _ new) (ltb-false _ _ enough) tt tt
+      by-legal 98 _ refl refl (leb-false _ _ operand, not-false _ old, not-false _ new) (ltb-false _ _ enough) tt tt
 
-  projecting-out-judged : Judged m k bytes (readFields m k 34 bytes)
-  unfolding readFields
+  projecting-out-judged : Judged m k 34 bytes (checkFields m k 34 bytes)
+  unfolding checkFields sizeOf
   projecting-out-judged =
       by-refuse _ _ (lit≤ tt) λ enough.
       by-refuse _ _ (lit≤ tt) λ operand.
       by-refuse _ _ (lit≤ tt) λ old.
-      by-read _ _ (leb-false _ _ operand, not-false _ old) (ltb-false _ _ enough) tt tt
+      by-legal 34 _ refl refl (leb-false _ _ operand, not-false _ old) (ltb-false _ _ enough) tt tt
 
-  pub node-judged : Judged m k bytes (readNode m k bytes)
-  unfolding readNode
+  pub node-judged : Judged m k (getD bytes 0 0) bytes (checkNode m k bytes)
+  unfolding checkNode
   node-judged =
       by-refuse _ _ (lit≤ tt) λ some.
       by-refuse _ _ (lit≤ tt) λ map.
-      legal-cases (getD bytes 0 0) (λ (map : ℕ). Judged m k bytes (readFields m k map bytes)) relation-judged binary-judged with-set-judged renaming-judged projecting-out-judged (not-false _ map)
+      legal-cases (getD bytes 0 0) (λ (map : ℕ). Judged m k map bytes (checkFields m k map bytes)) relation-judged binary-judged with-set-judged renaming-judged projecting-out-judged (not-false _ map)
 
-accepted-legal : {m k : ℕ} {bytes : List ℕ} {node : Node} {size : ℕ} → Judged m k bytes (Read node size) → LegalReading m k bytes node size
-accepted-legal (accepted h) = h
+-- ---- what bytes that passed are
 
-pub node-legal : (m k : ℕ) (bytes : List ℕ) (node : Node) (size : ℕ) → readNode m k bytes ≡ Read node size → LegalReading m k bytes node size
-node-legal m k bytes node size e = accepted-legal (subst (Judged m k bytes) e (node-judged m k bytes))
+pub record Passed (m k : ℕ) (bytes : List ℕ) (size : ℕ) : Type 0 where
+  pub map-legal : legal (getD bytes 0 0) ≡ true
+  pub size-is : size ≡ sizeOf (getD bytes 0 0)
+  pub reading : LegalReading m k bytes (nodeOf bytes) size
 
-refused-number : {m k : ℕ} {bytes : List ℕ} {r : Refusal} → Judged m k bytes (Refused r) → numberOf r ≤ 10
+passed-is : {m k size : ℕ} {bytes : List ℕ} → Judged m k (getD bytes 0 0) bytes (Legal size) → Passed m k bytes size
+unfolding nodeOf
+passed-is (passed map-is size-is reading) = record { map-legal = map-is; size-is = size-is; reading = reading }
+
+pub node-passed : (m k : ℕ) (bytes : List ℕ) (size : ℕ) → checkNode m k bytes ≡ Legal size → Passed m k bytes size
+node-passed m k bytes size e = passed-is (subst (Judged m k (getD bytes 0 0) bytes) e (node-judged m k bytes))
+
+refused-number : {m k map : ℕ} {bytes : List ℕ} {r : Refusal} → Judged m k map bytes (Refused r) → numberOf r ≤ 10
 refused-number (refused h) = h
 
-pub node-refused : (m k : ℕ) (bytes : List ℕ) (r : Refusal) → readNode m k bytes ≡ Refused r → numberOf r ≤ 10
-node-refused m k bytes r e = refused-number (subst (Judged m k bytes) e (node-judged m k bytes))
+-- ---- checked bytes
+
+pub checked-legal : (bytes : List ℕ) → Checked bytes → legal (getD bytes 0 0) ≡ true
+checked-legal bytes c = node-passed _ _ bytes _ (c .passed) .map-legal
+
+pub checked-some : (bytes : List ℕ) → Checked bytes → 0 < length bytes
+checked-some bytes c =
+    let p = node-passed _ _ bytes _ (c .passed) .reading in
+    let fits = p .fits in
+    let least = p .least in
+    omega arith
+
+module _ (bytes : List ℕ) (map : ℕ) (is : getD bytes 0 0 ≡ map) where
+  -- they are as many as a node with their map has
+  pub checked-long : Checked bytes → sizeOf map ≤ length bytes
+  checked-long c =
+      let p = node-passed _ _ bytes _ (c .passed) in
+      subst (λ (size : ℕ). size ≤ length bytes) (p .size-is ∙ ap sizeOf is) (p .reading .fits)
+
+  -- their node, by their map
+  pub node-is : nodeWith map (valueOf map bytes) ≡ nodeOf bytes
+  unfolding nodeOf
+  node-is = ap (λ (x : ℕ). nodeWith x (valueOf x bytes)) (sym is)
+
+-- their set has bit 0 clear
+pub checked-set : (bytes : List ℕ) → getD bytes 0 0 ≡ 26 → Checked bytes → bit (valueOf 26 bytes attributes) 0 ≡ false
+checked-set bytes is c =
+    let ok = subst (LegalNode (c .m) (c .k)) (sym (node-is bytes 26 is)) (node-passed _ _ bytes _ (c .passed) .reading .legal) in
+    sym (has-set _ 0) ∙ clear-lacks _ (ok .1)
+
+-- ---- check and reading
+
+module _ (m k : ℕ) (bytes : List ℕ) where
+  pub checked-read : (size : ℕ) → checkNode m k bytes ≡ Legal size → readNode m k bytes ≡ Read (nodeOf bytes) size
+  unfolding readNode
+  checked-read size e = ap (withNode (nodeOf bytes)) e
+
+  pub checked-refused : (r : Refusal) → checkNode m k bytes ≡ Refused r → readNode m k bytes ≡ ReadingRefused r
+  unfolding readNode
+  checked-refused r e = ap (withNode (nodeOf bytes)) e
+
+  pub read-checked : (node : Node) (size : ℕ) → readNode m k bytes ≡ Read node size → (checkNode m k bytes ≡ Legal size) × (node ≡ nodeOf bytes) × (size ≡ sizeOf (getD bytes 0 0)) × (legal (getD bytes 0 0) ≡ true)
+  unfolding readNode
+  read-checked node size = go (checkNode m k bytes) refl
+    where
+      go : (c : Check) → checkNode m k bytes ≡ c → withNode (nodeOf bytes) c ≡ Read node size → (checkNode m k bytes ≡ Legal size) × (node ≡ nodeOf bytes) × (size ≡ sizeOf (getD bytes 0 0)) × (legal (getD bytes 0 0) ≡ true)
+      go (Refused r) e h = absurd (let z : _≡_ {A = ℕ} 0 1 = cc in omega arith)
+      go (Legal s) e h =
+          let same : s ≡ size = cc in
+          let check : checkNode m k bytes ≡ Legal size = e ∙ ap Legal same in
+          let p = node-passed m k bytes size check in
+          (check, cc, p .size-is, p .map-legal)
+
+  pub read-refused : (r : Refusal) → readNode m k bytes ≡ ReadingRefused r → checkNode m k bytes ≡ Refused r
+  unfolding readNode
+  read-refused r = go (checkNode m k bytes) refl
+    where
+      go : (c : Check) → checkNode m k bytes ≡ c → withNode (nodeOf bytes) c ≡ ReadingRefused r → checkNode m k bytes ≡ Refused r
+      go (Refused q) e h = let same : q ≡ r = cc in e ∙ ap Refused same
+      go (Legal s) e h = absurd (let z : _≡_ {A = ℕ} 0 1 = cc in omega arith)
+
+pub node-legal : (m k : ℕ) (bytes : List ℕ) (node : Node) (size : ℕ) → readNode m k bytes ≡ Read node size → LegalReading m k bytes node size
+node-legal m k bytes node size e =
+    let c = read-checked m k bytes node size e in
+    subst (λ (x : Node). LegalReading m k bytes x size) (sym (c .1)) (node-passed m k bytes size (c .0) .reading)
+
+pub node-refused : (m k : ℕ) (bytes : List ℕ) (r : Refusal) → readNode m k bytes ≡ ReadingRefused r → numberOf r ≤ 10
+node-refused m k bytes r e = refused-number (subst (Judged m k (getD bytes 0 0) bytes) (read-refused m k bytes r e) (node-judged m k bytes))

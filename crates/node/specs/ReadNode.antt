@@ -1,6 +1,7 @@
 -- How one node is read: "A node starts with a bit map of one byte; only the fields whose bit stands follow, in bit order." (document 01)
 use Prim.Native.Nat.{ℕ, _+_, _*_, _/_, _%_}
-use mathlib.Core.Bool.{Bool, true, false, cond, not, _||_}
+use mathlib.Core.Path.{_≡_}
+use mathlib.Core.Bool.{Bool, cond, not, _||_}
 use mathlib.Core.List.{List, [], _∷_}
 use lib.Dec.{eqb, ltb, leb}
 use lib.ListN.{length, getD}
@@ -9,16 +10,13 @@ use Rattle.attribute_set.specs.AttrSet.{special, setOf}
 use Rattle.refusal.specs.Chain.{refuse}
 use Rattle.refusal.specs.declared.Refusal.{Refusal}
 use Rattle.refusal.specs.declared.Refusal.the-variants.{NodeTruncated, NodeMap, OperatorCode, RelationNumber, Operand, Attribute}
-use Rattle.node.specs.declared.nodes.BinaryOp.{BinaryOp}
-use Rattle.node.specs.declared.nodes.SetOp.{SetOp}
-use Rattle.node.specs.declared.nodes.BinaryCode.{BinaryCode}
-use Rattle.node.specs.declared.nodes.BinaryCode.the-variants.{BinaryOperator, NoBinaryOperator}
-use Rattle.node.specs.declared.nodes.SetCode.{SetCode}
-use Rattle.node.specs.declared.nodes.SetCode.the-variants.{SetOperator, NoSetOperator}
+use Rattle.node.specs.declared.nodes.Node.{Node}
 use Rattle.node.specs.declared.nodes.Node.the-variants.{Relation, Binary, WithSet, Renaming, ProjectingOut}
+use Rattle.node.specs.declared.reader.Check.{Check}
+use Rattle.node.specs.declared.reader.Check.the-variants.{Legal, Refused}
 use Rattle.node.specs.declared.reader.Reading.{Reading}
-use Rattle.node.specs.declared.reader.Reading.the-variants.{Read, Refused}
-use Rattle.node.specs.Operators.{binaryCode, setCode}
+use Rattle.node.specs.declared.reader.Reading.the-variants.{Read, Refused as ReadingRefused}
+use Rattle.node.specs.Operators.{knownCode, binaryOf, setOpOf}
 
 -- ---- layout
 
@@ -67,7 +65,7 @@ endOf [] at = at
 endOf (f ∷ fs) at = endOf fs (at + width f)
 
 -- the bytes of a node, its map among them
-abbrev pub sizeOf : ℕ → ℕ
+unfoldable pub sizeOf : ℕ → ℕ
 sizeOf map = endOf (fieldsOf map) 1
 
 -- "attribute set, two bytes, low first"
@@ -86,24 +84,12 @@ valueOf map bytes f = numberAt f bytes (placeIn (fieldsOf map) 1 f)
 
 -- ---- judgement
 
-abbrev pub unknownBinary : BinaryCode → Bool
-unknownBinary (BinaryOperator op) = false
-unknownBinary NoBinaryOperator = true
-
-abbrev pub unknownSet : SetCode → Bool
-unknownSet (SetOperator op) = false
-unknownSet NoSetOperator = true
-
--- "code not one of its map's"
-abbrev pub unknownCode : ℕ → ℕ → Bool
-unknownCode map v = cond (eqb map 14) (unknownBinary (binaryCode v)) (unknownSet (setCode v))
-
 -- what makes a field's value wrong, in node k of a file with m relations
 abbrev pub wrong : ℕ → ℕ → ℕ → Field → ℕ → Bool
 wrong m k map relation v = leb m v
 wrong m k map left v = leb k v
 wrong m k map right v = leb k v
-wrong m k map code v = unknownCode map v
+wrong m k map code v = not (knownCode map v)
 wrong m k map attributes v = bit v 0
 wrong m k map old v = not (special v)
 wrong m k map new v = not (special v)
@@ -118,43 +104,56 @@ refusalOf old = Attribute
 refusalOf new = Attribute
 
 -- the fields in bit order, and what comes if none is wrong
-abbrev pub judge : ℕ → ℕ → ℕ → List ℕ → List Field → Reading → Reading
+abbrev pub judge : ℕ → ℕ → ℕ → List ℕ → List Field → Check → Check
 judge m k map bytes [] next = next
 judge m k map bytes (f ∷ fs) next =
     refuse Refused (wrong m k map f (valueOf map bytes f)) (refusalOf f) (judge m k map bytes fs next)
 
--- ---- the node
-
-unfoldable pub withBinary : BinaryCode → (BinaryOp → Reading) → Reading
-withBinary (BinaryOperator op) next = next op
-withBinary NoBinaryOperator next = Refused OperatorCode
-
-unfoldable pub withSet : SetCode → (SetOp → Reading) → Reading
-withSet (SetOperator op) next = next op
-withSet NoSetOperator next = Refused OperatorCode
+-- "then 4, then the fields in bit order"
+unfoldable pub checkFields : ℕ → ℕ → ℕ → List ℕ → Check
+checkFields m k map bytes =
+    refuse Refused (ltb (length bytes) (sizeOf map)) NodeTruncated
+    (judge m k map bytes (fieldsOf map) (Legal (sizeOf map)))
 
 -- "Five maps are legal: 1 relation; 14 ..; 26 ..; 98 renaming of old into new; 34 projecting out old."
 abbrev pub legal : ℕ → Bool
 legal map = eqb map 1 || eqb map 14 || eqb map 26 || eqb map 98 || eqb map 34
 
--- the node of a legal map whose fields have the values v, and which takes n bytes
-abbrev pub nodeWith : ℕ → (Field → ℕ) → ℕ → Reading
-nodeWith map v n =
-    cond (eqb map 1) (Read (Relation (v relation)) n)
-    (cond (eqb map 14) (withBinary (binaryCode (v code)) (λ op. Read (Binary op (v left) (v right)) n))
-    (cond (eqb map 26) (withSet (setCode (v code)) (λ op. Read (WithSet op (v left) (setOf (v attributes))) n))
-    (cond (eqb map 98) (Read (Renaming (v left) (v old) (v new)) n)
-    (Read (ProjectingOut (v left) (v old)) n))))
-
--- "then 4, then the fields in bit order"
-unfoldable pub readFields : ℕ → ℕ → ℕ → List ℕ → Reading
-readFields m k map bytes =
-    refuse Refused (ltb (length bytes) (sizeOf map)) NodeTruncated
-    (judge m k map bytes (fieldsOf map) (nodeWith map (valueOf map bytes) (sizeOf map)))
-
--- node k of a file with m relations, off the front of the bytes: "node by node 5, then 4"; "A node without its map byte is 4."
-unfoldable pub readNode : ℕ → ℕ → List ℕ → Reading
-readNode m k bytes =
+-- the size of node k of a file with m relations, off the front of the bytes, or its refusal: "node by node 5, then 4"; "A node without its map byte is 4."
+unfoldable pub checkNode : ℕ → ℕ → List ℕ → Check
+checkNode m k bytes =
     refuse Refused (ltb (length bytes) 1) NodeTruncated
     (refuse Refused (not (legal (getD bytes 0 0))) NodeMap
-    (readFields m k (getD bytes 0 0) bytes))
+    (checkFields m k (getD bytes 0 0) bytes))
+
+-- bytes that begin with a node in which nothing is refused
+pub record Checked (bytes : List ℕ) : Type 0 where
+  pub m : ℕ
+  pub k : ℕ
+  pub size : ℕ
+  pub passed : checkNode m k bytes ≡ Legal size
+
+-- ---- the node
+
+-- the node of a legal map whose fields have the values v
+abbrev pub nodeWith : ℕ → (Field → ℕ) → Node
+nodeWith map v =
+    cond (eqb map 1) (Relation (v relation))
+    (cond (eqb map 14) (Binary (binaryOf (v code)) (v left) (v right))
+    (cond (eqb map 26) (WithSet (setOpOf (v code)) (v left) (setOf (v attributes)))
+    (cond (eqb map 98) (Renaming (v left) (v old) (v new))
+    (ProjectingOut (v left) (v old)))))
+
+-- the node that checked bytes begin with
+unfoldable pub nodeOf : List ℕ → Node
+nodeOf bytes = nodeWith (getD bytes 0 0) (valueOf (getD bytes 0 0) bytes)
+
+-- ---- both
+
+abbrev pub withNode : Node → Check → Reading
+withNode node (Legal size) = Read node size
+withNode node (Refused r) = ReadingRefused r
+
+-- the node and its size, or its refusal
+unfoldable pub readNode : ℕ → ℕ → List ℕ → Reading
+readNode m k bytes = withNode (nodeOf bytes) (checkNode m k bytes)

@@ -1,6 +1,6 @@
 // Nodes of an expression, and operators by their codes.
 ghost use mathlib.Core.Path.{_≡_};
-ghost use Rattle.node.specs.Operators.{binaryCode, setCode};
+ghost use Rattle.node.specs.Operators.{binaryOf, setOpOf};
 use attribute_set::AttrSet;
 
 // The operators of map 14.
@@ -31,36 +31,24 @@ pub enum Node {
     ProjectingOut(u8, u8),
 }
 
-// What an operator code is at map 14.
-pub enum BinaryCode {
-    BinaryOperator(BinaryOp),
-    NoBinaryOperator,
-}
-
-// What an operator code is at map 26.
-pub enum SetCode {
-    SetOperator(SetOp),
-    NoSetOperator,
-}
-
-pub fn binary_operator(code: u8) -> BinaryCode
-    ensures { λ r. ⌜ r ≡ binaryCode code ⌝ }
+// The operator of a code of map 14, 1 to 4.
+pub fn binary_operator(code: u8) -> BinaryOp
+    ensures { λ r. ⌜ r ≡ binaryOf code ⌝ }
 {
     match code {
-        1 => BinaryCode::BinaryOperator(BinaryOp::Union),
-        2 => BinaryCode::BinaryOperator(BinaryOp::Difference),
-        3 => BinaryCode::BinaryOperator(BinaryOp::Join),
-        4 => BinaryCode::BinaryOperator(BinaryOp::Product),
-        _ => BinaryCode::NoBinaryOperator,
+        1 => BinaryOp::Union,
+        2 => BinaryOp::Difference,
+        3 => BinaryOp::Join,
+        _ => BinaryOp::Product,
     }
 }
 
-pub fn set_operator(code: u8) -> SetCode
-    ensures { λ r. ⌜ r ≡ setCode code ⌝ }
+// The operator of a code of map 26, 5 or 6.
+pub fn set_operator(code: u8) -> SetOp
+    ensures { λ r. ⌜ r ≡ setOpOf code ⌝ }
 {
     match code {
-        5 => SetCode::SetOperator(SetOp::Selection),
-        6 => SetCode::SetOperator(SetOp::Projection),
-        _ => SetCode::NoSetOperator,
+        5 => SetOp::Selection,
+        _ => SetOp::Projection,
     }
 }

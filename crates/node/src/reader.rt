@@ -1,9 +1,9 @@
-// One node, read off the front of a part of the file.
+// One node, off the front of a part of the file: its check, its decoding, and both.
 ghost use mathlib.Core.Path.{_≡_};
-ghost use Rattle.node.specs.ReadNode.{readNode, readFields};
-use crate::nodes::BinaryCode;
+ghost use mathlib.Core.Bool.{true};
+ghost use lib.ListN.{getD};
+ghost use Rattle.node.specs.ReadNode.{Checked, checkFields, checkNode, legal, nodeOf, readNode, sizeOf};
 use crate::nodes::Node;
-use crate::nodes::SetCode;
 use crate::nodes::binary_operator;
 use crate::nodes::set_operator;
 use attribute_set::AttrSet;
@@ -11,118 +11,163 @@ use attribute_set::Built;
 use attribute_set::is_special;
 use refusal::Refusal;
 
+// The bytes of a node judged: how many they are, or the first refusal.
+pub enum Check {
+    Legal(usize),
+    Refused(Refusal),
+}
+
 // A node with the number of bytes that it takes, or the first refusal.
 pub enum Reading {
     Read(Node, usize),
     Refused(Refusal),
 }
 
-fn read_relation(m: u8, bytes: &[u8]) -> Reading
-    ensures { λ r. ⌜ r ≡ readFields m 0 1 (now (bytes .entry)) ⌝ }
+fn check_relation(m: u8, bytes: &[u8]) -> Check
+    ensures { λ r. ⌜ r ≡ checkFields m 0 1 (now (bytes .entry)) ⌝ }
 {
     if bytes.len() < 2 {
-        return Reading::Refused(Refusal::NodeTruncated);
+        return Check::Refused(Refusal::NodeTruncated);
     }
-    let relation = bytes[1];
-    if m <= relation {
-        return Reading::Refused(Refusal::RelationNumber);
+    if m <= bytes[1] {
+        return Check::Refused(Refusal::RelationNumber);
     }
-    Reading::Read(Node::Relation(relation), 2)
+    Check::Legal(2)
 }
 
-fn read_binary(k: u8, bytes: &[u8]) -> Reading
-    ensures { λ r. ⌜ r ≡ readFields 0 k 14 (now (bytes .entry)) ⌝ }
+fn check_binary(k: u8, bytes: &[u8]) -> Check
+    ensures { λ r. ⌜ r ≡ checkFields 0 k 14 (now (bytes .entry)) ⌝ }
 {
     if bytes.len() < 4 {
-        return Reading::Refused(Refusal::NodeTruncated);
+        return Check::Refused(Refusal::NodeTruncated);
     }
-    let left = bytes[1];
-    if k <= left {
-        return Reading::Refused(Refusal::Operand);
+    if k <= bytes[1] {
+        return Check::Refused(Refusal::Operand);
     }
-    let right = bytes[2];
-    if k <= right {
-        return Reading::Refused(Refusal::Operand);
+    if k <= bytes[2] {
+        return Check::Refused(Refusal::Operand);
     }
-    match binary_operator(bytes[3]) {
-        BinaryCode::BinaryOperator(op) => Reading::Read(Node::Binary(op, left, right), 4),
-        BinaryCode::NoBinaryOperator => Reading::Refused(Refusal::OperatorCode),
+    if !bits::in_range(1, 4, bytes[3]) {
+        return Check::Refused(Refusal::OperatorCode);
     }
+    Check::Legal(4)
 }
 
-fn read_with_set(k: u8, bytes: &[u8]) -> Reading
-    ensures { λ r. ⌜ r ≡ readFields 0 k 26 (now (bytes .entry)) ⌝ }
+fn check_with_set(k: u8, bytes: &[u8]) -> Check
+    ensures { λ r. ⌜ r ≡ checkFields 0 k 26 (now (bytes .entry)) ⌝ }
 {
     if bytes.len() < 5 {
-        return Reading::Refused(Refusal::NodeTruncated);
+        return Check::Refused(Refusal::NodeTruncated);
     }
-    let operand = bytes[1];
-    if k <= operand {
-        return Reading::Refused(Refusal::Operand);
+    if k <= bytes[1] {
+        return Check::Refused(Refusal::Operand);
     }
-    match set_operator(bytes[2]) {
-        SetCode::SetOperator(op) => {
-            match AttrSet::build(bytes[3] as u16 + bytes[4] as u16 * 256) {
-                Built::Set(set) => Reading::Read(Node::WithSet(op, operand, set), 5),
-                Built::NoSet => Reading::Refused(Refusal::Attribute),
-            }
-        }
-        SetCode::NoSetOperator => Reading::Refused(Refusal::OperatorCode),
+    if !bits::in_range(5, 6, bytes[2]) {
+        return Check::Refused(Refusal::OperatorCode);
     }
+    if bytes[3] % 2 == 1 {
+        return Check::Refused(Refusal::Attribute);
+    }
+    Check::Legal(5)
 }
 
-fn read_renaming(k: u8, bytes: &[u8]) -> Reading
-    ensures { λ r. ⌜ r ≡ readFields 0 k 98 (now (bytes .entry)) ⌝ }
+fn check_renaming(k: u8, bytes: &[u8]) -> Check
+    ensures { λ r. ⌜ r ≡ checkFields 0 k 98 (now (bytes .entry)) ⌝ }
 {
     if bytes.len() < 4 {
-        return Reading::Refused(Refusal::NodeTruncated);
+        return Check::Refused(Refusal::NodeTruncated);
     }
-    let operand = bytes[1];
-    if k <= operand {
-        return Reading::Refused(Refusal::Operand);
+    if k <= bytes[1] {
+        return Check::Refused(Refusal::Operand);
     }
-    let old = bytes[2];
-    if !is_special(old) {
-        return Reading::Refused(Refusal::Attribute);
+    if !is_special(bytes[2]) {
+        return Check::Refused(Refusal::Attribute);
     }
-    let new = bytes[3];
-    if !is_special(new) {
-        return Reading::Refused(Refusal::Attribute);
+    if !is_special(bytes[3]) {
+        return Check::Refused(Refusal::Attribute);
     }
-    Reading::Read(Node::Renaming(operand, old, new), 4)
+    Check::Legal(4)
 }
 
-fn read_projecting_out(k: u8, bytes: &[u8]) -> Reading
-    ensures { λ r. ⌜ r ≡ readFields 0 k 34 (now (bytes .entry)) ⌝ }
+fn check_projecting_out(k: u8, bytes: &[u8]) -> Check
+    ensures { λ r. ⌜ r ≡ checkFields 0 k 34 (now (bytes .entry)) ⌝ }
 {
     if bytes.len() < 3 {
-        return Reading::Refused(Refusal::NodeTruncated);
+        return Check::Refused(Refusal::NodeTruncated);
     }
-    let operand = bytes[1];
-    if k <= operand {
-        return Reading::Refused(Refusal::Operand);
+    if k <= bytes[1] {
+        return Check::Refused(Refusal::Operand);
     }
-    let old = bytes[2];
-    if !is_special(old) {
-        return Reading::Refused(Refusal::Attribute);
+    if !is_special(bytes[2]) {
+        return Check::Refused(Refusal::Attribute);
     }
-    Reading::Read(Node::ProjectingOut(operand, old), 3)
+    Check::Legal(3)
+}
+
+// The check of node `k` of a file with `m` relations, from the bytes that begin with it.
+pub fn check_node(m: u8, k: u8, bytes: &[u8]) -> Check
+    ensures { λ r. ⌜ r ≡ checkNode m k (now (bytes .entry)) ⌝ }
+{
+    if bytes.len() < 1 {
+        return Check::Refused(Refusal::NodeTruncated);
+    }
+    let map = bytes[0];
+    match map {
+        1 => check_relation(m, bytes),
+        14 => check_binary(k, bytes),
+        26 => check_with_set(k, bytes),
+        98 => check_renaming(k, bytes),
+        34 => check_projecting_out(k, bytes),
+        _ => Check::Refused(Refusal::NodeMap),
+    }
+}
+
+// The node of checked bytes with map 26.
+fn decode_with_set(bytes: &[u8]) -> Node
+    requires { ⌜ Checked (now bytes) × (getD (now bytes) 0 0 ≡ 26) ⌝ }
+    ensures { λ r. ⌜ r ≡ nodeOf (now (bytes .entry)) ⌝ }
+{
+    match AttrSet::build(bytes[3] as u16 + bytes[4] as u16 * 256) {
+        Built::Set(set) => Node::WithSet(set_operator(bytes[2]), bytes[1], set),
+        Built::NoSet => Node::Relation(0),
+    }
+}
+
+// The node of bytes that were checked.
+pub fn decode(bytes: &[u8]) -> Node
+    requires { ⌜ Checked (now bytes) ⌝ }
+    ensures { λ r. ⌜ r ≡ nodeOf (now (bytes .entry)) ⌝ }
+{
+    let map = bytes[0];
+    match map {
+        1 => Node::Relation(bytes[1]),
+        14 => Node::Binary(binary_operator(bytes[3]), bytes[1], bytes[2]),
+        26 => decode_with_set(bytes),
+        98 => Node::Renaming(bytes[1], bytes[2], bytes[3]),
+        _ => Node::ProjectingOut(bytes[1], bytes[2]),
+    }
+}
+
+// The number of bytes of a node with this map, its map among them.
+pub fn size_of(map: u8) -> usize
+    requires { ⌜ legal map ≡ true ⌝ }
+    ensures { λ r. ⌜ r ≡ sizeOf map ⌝ }
+{
+    match map {
+        1 => 2,
+        14 => 4,
+        26 => 5,
+        98 => 4,
+        _ => 3,
+    }
 }
 
 // Node `k` of a file with `m` relations, from the bytes that begin with it.
 pub fn read_node(m: u8, k: u8, bytes: &[u8]) -> Reading
     ensures { λ r. ⌜ r ≡ readNode m k (now (bytes .entry)) ⌝ }
 {
-    if bytes.len() < 1 {
-        return Reading::Refused(Refusal::NodeTruncated);
-    }
-    let map = bytes[0];
-    match map {
-        1 => read_relation(m, bytes),
-        14 => read_binary(k, bytes),
-        26 => read_with_set(k, bytes),
-        98 => read_renaming(k, bytes),
-        34 => read_projecting_out(k, bytes),
-        _ => Reading::Refused(Refusal::NodeMap),
+    match check_node(m, k, bytes) {
+        Check::Legal(size) => Reading::Read(decode(bytes), size),
+        Check::Refused(r) => Reading::Refused(r),
     }
 }

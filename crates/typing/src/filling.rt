@@ -7,8 +7,8 @@ ghost use Rattle.expression.specs.ReadFile.{acceptance, sizeAt};
 ghost use Rattle.formula.specs.Filling.{Here};
 ghost use Rattle.typing.specs.Filling.{NodeLanes, Filled};
 use crate::lanes::node_lane;
-use node::Reading;
-use node::read_node;
+use node::decode;
+use node::size_of;
 
 // Reads node k at byte `at` of the file, fills its lanes, and gives the byte after it.
 fn fill_node(
@@ -30,9 +30,7 @@ fn fill_node(
     ensures { λ r. ⌜ r ≡ at + sizeAt (now (file .entry)) k ⌝ }
     ensures { λ _. ⌜ Filled (now (file .entry)) (now (special .entry)) (now (items .entry)) lanes (k + 1) 0 (now (allowed .exit)) (now (output .exit)) ⌝ }
 {
-    let Reading::Read(node, size) = read_node(m, k, &file[at..]) else {
-        return at;
-    };
+    let node = decode(&file[at..]);
     let mut b = 0;
     while b < lanes {
         let lane = node_lane(special, items, allowed, output, node, b);
@@ -41,7 +39,7 @@ fn fill_node(
         output[place] = lane.output;
         b += 1;
     }
-    at + size
+    at + size_of(file[at])
 }
 
 // Fills the lanes of the nodes up to `node`.

@@ -1,9 +1,9 @@
-use Prim.Native.Nat.{_-_, _≤_}
-use mathlib.Core.Path.{_≡_, sym, _∙_}
-use native.Mathlib.Omega.{arith}
-use Rattle.expression.specs.ReadFile.{nodeAt}
-use Rattle.expression.specs.Walk.{Walk, walk-first, walk-read, walk-reads}
 use Rattle.listing.specs.Naming.{Named, named-none, named-next}
+use Rattle.expression.specs.Walk.{Walk, walk-first, walk-next, walk-decoded}
+use Rattle.expression.specs.ReadFile.{nodeAt}
+use native.Mathlib.Omega.{arith}
+use mathlib.Core.Path.{_≡_, _∙_}
+use Prim.Native.Nat.{_-_, _≤_}
 use borrow.Author.Needs.{needs}
 use Rattle.listing.proofs.naming.named_attributes.Statement.{statement}
 use Rattle.listing.proofs.naming.named_attributes.Tie as tie
@@ -20,32 +20,29 @@ empty-requires c κs = search needs
 loop-holds : tie.Need-loop-holds Inv-loop μ-loop
 loop-holds c = (omega arith, walk-first (c .before .before .args .file .now) (c .before .before .args .m) (c .before .before .args .n) (c .before .before .pre), rw (c .empty .ensures) (named-none (nodeAt (c .before .before .args .file .now))))
 
-sub-read-node : tie.Need-sub-read-node Inv-loop μ-loop
-sub-read-node c = let inside = c .before .loop .inv .1 .inside in omega arith
+sub-decode : tie.Need-sub-decode Inv-loop μ-loop
+sub-decode c = let inside = c .before .loop .inv .1 .inside in omega arith
 
-part-read-node-start : tie.Need-part-read-node-start Inv-loop μ-loop
-part-read-node-start c = let inside = c .before .loop .inv .1 .inside in omega arith
+part-decode-start : tie.Need-part-decode-start Inv-loop μ-loop
+part-decode-start c = let inside = c .before .loop .inv .1 .inside in omega arith
 
-part-read-node-end : tie.Need-part-read-node-end Inv-loop μ-loop
-part-read-node-end c = search needs
+part-decode-end : tie.Need-part-decode-end Inv-loop μ-loop
+part-decode-end c = search needs
 
-read-node-requires : tie.Need-read-node-requires Inv-loop μ-loop
-read-node-requires c κs = search needs
-
-enum-known-node : tie.Need-enum-known-node Inv-loop μ-loop
-enum-known-node c = search needs
-
-enum-told : tie.Need-enum-told Inv-loop μ-loop
-enum-told c = search needs
-
-returns : tie.Need-returns Inv-loop μ-loop
-returns c = absurd (walk-reads (c .before .before .before .before .before .before .before .before .args .file .now) (c .before .before .before .before .before .before .before .before .args .m) (c .before .before .before .before .before .before .before .before .args .n) (c .before .before .before .before .before .loop .k) (c .before .before .before .before .before .loop .at) _ (c .before .before .before .before .before .loop .inv .1) (c .before .before .before .before .loop-test .taken) (sym (c .before .before .read-node .ensures) ∙ c .enum-told .given .1))
+decode-requires : tie.Need-decode-requires Inv-loop μ-loop
+decode-requires c κs = walk-decoded (c .before .before .before .before .before .args .file .now) (c .before .before .before .before .before .args .m) (c .before .before .before .before .before .args .n) (c .before .before .loop .k) (c .before .before .loop .at) (c .before .before .loop .inv .1) (c .before .loop-test .taken) .checked
 
 add-named-requires : tie.Need-add-named-requires Inv-loop μ-loop
 add-named-requires c κs = search needs
 
+shared-slice-read-size-of : tie.Need-shared-slice-read-size-of Inv-loop μ-loop
+shared-slice-read-size-of c = walk-decoded (c .before .before .before .before .before .before .before .before .args .file .now) (c .before .before .before .before .before .before .before .before .args .m) (c .before .before .before .before .before .before .before .before .args .n) (c .before .before .before .before .before .loop .k) (c .before .before .before .before .before .loop .at) (c .before .before .before .before .before .loop .inv .1) (c .before .before .before .before .loop-test .taken) .below
+
+size-of-requires : tie.Need-size-of-requires Inv-loop μ-loop
+size-of-requires c κs = walk-decoded (c .before .before .before .before .before .before .before .before .args .file .now) (c .before .before .before .before .before .before .before .before .args .m) (c .before .before .before .before .before .before .before .before .args .n) (c .before .before .before .before .before .loop .k) (c .before .before .before .before .before .loop .at) (c .before .before .before .before .before .loop .inv .1) (c .before .before .before .before .loop-test .taken) .map-legal
+
 add-at : tie.Need-add-at Inv-loop μ-loop
-add-at c = let step = walk-read (c .before .before .before .before .before .before .before .before .before .before .args .file .now) (c .before .before .before .before .before .before .before .before .before .before .args .m) (c .before .before .before .before .before .before .before .before .before .before .args .n) (c .before .before .before .before .before .before .before .loop .k) (c .before .before .before .before .before .before .before .loop .at) _ _ (c .before .before .before .before .before .before .before .loop .inv .1) (c .before .before .before .before .before .before .loop-test .taken) (sym (c .before .before .before .before .read-node .ensures) ∙ c .before .before .node .given .1) in let inside = step .next .inside in omega arith
+add-at c = let size = c .size-of .ensures ∙ walk-decoded (c .before .before .before .before .before .before .before .before .before .args .file .now) (c .before .before .before .before .before .before .before .before .before .args .m) (c .before .before .before .before .before .before .before .before .before .args .n) (c .before .before .before .before .before .before .loop .k) (c .before .before .before .before .before .before .loop .at) (c .before .before .before .before .before .before .loop .inv .1) (c .before .before .before .before .before .loop-test .taken) .size-is in let inside = walk-next (c .before .before .before .before .before .before .before .before .before .args .file .now) (c .before .before .before .before .before .before .before .before .before .args .m) (c .before .before .before .before .before .before .before .before .before .args .n) (c .before .before .before .before .before .before .loop .k) (c .before .before .before .before .before .before .loop .at) (c .before .before .before .before .before .before .loop .inv .1) (c .before .before .before .before .before .loop-test .taken) .next .inside in omega arith
 
 add-k : tie.Need-add-k Inv-loop μ-loop
 add-k c = search needs
@@ -54,10 +51,10 @@ loop-less : tie.Need-loop-less Inv-loop μ-loop
 loop-less c = search needs
 
 loop-again : tie.Need-loop-again Inv-loop μ-loop
-loop-again c = let step = walk-read (c .before .before .before .before .before .before .before .before .before .before .args .file .now) (c .before .before .before .before .before .before .before .before .before .before .args .m) (c .before .before .before .before .before .before .before .before .before .before .args .n) (c .before .before .before .before .before .before .before .loop .k) (c .before .before .before .before .before .before .before .loop .at) _ _ (c .before .before .before .before .before .before .before .loop .inv .1) (c .before .before .before .before .before .before .loop-test .taken) (sym (c .before .before .before .before .read-node .ensures) ∙ c .before .before .node .given .1) in (omega arith, step .next, named-next (nodeAt (c .before .before .before .before .before .before .before .before .before .before .args .file .now)) (c .before .before .before .before .before .before .before .loop .k) _ (c .before .before .before .before .before .before .before .loop .set) _ (step .node-is) (c .before .before .before .before .before .before .before .loop .inv .2) (c .add-named .ensures))
+loop-again c = let node = walk-decoded (c .before .before .before .before .before .before .before .before .before .args .file .now) (c .before .before .before .before .before .before .before .before .before .args .m) (c .before .before .before .before .before .before .before .before .before .args .n) (c .before .before .before .before .before .before .loop .k) (c .before .before .before .before .before .before .loop .at) (c .before .before .before .before .before .before .loop .inv .1) (c .before .before .before .before .before .loop-test .taken) in (omega arith, rw (c .size-of .ensures ∙ node .size-is) (walk-next (c .before .before .before .before .before .before .before .before .before .args .file .now) (c .before .before .before .before .before .before .before .before .before .args .m) (c .before .before .before .before .before .before .before .before .before .args .n) (c .before .before .before .before .before .before .loop .k) (c .before .before .before .before .before .before .loop .at) (c .before .before .before .before .before .before .loop .inv .1) (c .before .before .before .before .before .loop-test .taken) .next), named-next (nodeAt (c .before .before .before .before .before .before .before .before .before .args .file .now)) (c .before .before .before .before .before .before .loop .k) _ (c .before .before .before .before .before .before .loop .set) _ (c .before .before .before .decode .ensures ∙ node .node-is) (c .before .before .before .before .before .before .loop .inv .2) (c .before .before .add-named .ensures))
 
-returns-2 : tie.Need-returns-2 Inv-loop μ-loop
-returns-2 c = let all : c .before .loop .k ≡ c .before .before .before .before .args .n = omega arith in rw all at (c .before .loop .inv .2)
+returns : tie.Need-returns Inv-loop μ-loop
+returns c = let all : c .before .loop .k ≡ c .before .before .before .before .args .n = omega arith in rw all at (c .before .loop .inv .2)
 
 pub named-attributes-spec : {M : Type 1} → statement M
 named-attributes-spec =
@@ -67,16 +64,15 @@ named-attributes-spec =
     μ-loop
     empty-requires
     loop-holds
-    sub-read-node
-    part-read-node-start
-    part-read-node-end
-    read-node-requires
-    enum-known-node
-    enum-told
-    returns
+    sub-decode
+    part-decode-start
+    part-decode-end
+    decode-requires
     add-named-requires
+    shared-slice-read-size-of
+    size-of-requires
     add-at
     add-k
     loop-less
     loop-again
-    returns-2)
+    returns)

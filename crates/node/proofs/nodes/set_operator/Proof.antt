@@ -1,19 +1,15 @@
-use Rattle.node.specs.Operators.{setCode}
 use Rattle.refusal.specs.Chain.{chain}
+use Rattle.node.specs.Operators.{setOpOf}
 use Rattle.node.proofs.nodes.set_operator.Statement.{statement}
 use Rattle.node.proofs.nodes.set_operator.Tie as tie
 
 returns : tie.Need-returns
-unfolding setCode
+unfolding setOpOf
 returns c = simp (c .match .keys1)
 
 returns-2 : tie.Need-returns-2
-unfolding setCode
-returns-2 c = simp (c .match .keys2)
-
-returns-3 : tie.Need-returns-3
-unfolding setCode
-returns-3 c = search chain
+unfolding setOpOf
+returns-2 c = search chain
 
 pub set-operator-spec : {M : Type 1} → statement M
-set-operator-spec = tie.close (tie.spec returns returns-2 returns-3)
+set-operator-spec = tie.close (tie.spec returns returns-2)

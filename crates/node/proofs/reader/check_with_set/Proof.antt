@@ -1,0 +1,53 @@
+use Rattle.node.specs.Legal.{bit-low}
+use borrow.Author.Tests.{le-ltb, lt-leb, eq-eqb, ne-eqb}
+use Rattle.refusal.specs.Chain.{refuse, chain}
+use Rattle.node.specs.ReadNode.{checkFields, sizeOf}
+use borrow.Author.Needs.{needs}
+use Rattle.node.proofs.reader.check_with_set.Statement.{statement}
+use Rattle.node.proofs.reader.check_with_set.Tie as tie
+
+returns : tie.Need-returns
+unfolding checkFields sizeOf refuse
+returns c = search chain
+
+shared-slice-read-if2 : tie.Need-shared-slice-read-if2
+shared-slice-read-if2 c = search needs
+
+returns-2 : tie.Need-returns-2
+unfolding checkFields sizeOf refuse
+returns-2 c = search chain
+
+shared-slice-read-in-range : tie.Need-shared-slice-read-in-range
+shared-slice-read-in-range c = search needs
+
+in-range-requires : tie.Need-in-range-requires
+in-range-requires c κs = search needs
+
+returns-3 : tie.Need-returns-3
+unfolding checkFields sizeOf refuse
+returns-3 c = simp (le-ltb _ _ (c .before .before .before .before .before .if1 .left), lt-leb _ _ (c .before .before .before .if2 .left), ← c .before .in-range .ensures, c .if3 .taken)
+
+shared-slice-read-if4 : tie.Need-shared-slice-read-if4
+shared-slice-read-if4 c = search needs
+
+returns-4 : tie.Need-returns-4
+unfolding checkFields sizeOf refuse
+returns-4 c = simp (le-ltb _ _ (c .before .before .before .before .before .before .before .if1 .left), lt-leb _ _ (c .before .before .before .before .before .if2 .left), ← c .before .before .before .in-range .ensures, c .before .before .if3 .left, bit-low, eq-eqb _ _ (c .if4 .taken))
+
+returns-5 : tie.Need-returns-5
+unfolding checkFields sizeOf refuse
+returns-5 c = simp (le-ltb _ _ (c .before .before .before .before .before .before .before .if1 .left), lt-leb _ _ (c .before .before .before .before .before .if2 .left), ← c .before .before .before .in-range .ensures, c .before .before .if3 .left, bit-low, ne-eqb _ _ (c .if4 .left))
+
+pub check-with-set-spec : {M : Type 1} → statement M
+check-with-set-spec =
+    tie.close
+    (tie.spec
+    returns
+    shared-slice-read-if2
+    returns-2
+    shared-slice-read-in-range
+    in-range-requires
+    returns-3
+    shared-slice-read-if4
+    returns-4
+    returns-5)

@@ -1,0 +1,88 @@
+use Rattle.node.specs.Legal.{last-map, checked-legal, checked-some, checked-long, node-is}
+use Rattle.node.specs.ReadNode.{sizeOf}
+use native.Mathlib.Omega.{arith}
+use borrow.Author.Needs.{needs}
+use Rattle.node.proofs.reader.decode.Statement.{statement}
+use Rattle.node.proofs.reader.decode.Tie as tie
+
+shared-slice-read-map : tie.Need-shared-slice-read-map
+shared-slice-read-map c = checked-some (c .before .before .args .bytes .now) (c .before .before .pre)
+
+shared-slice-read-t7 : tie.Need-shared-slice-read-t7
+unfolding sizeOf
+shared-slice-read-t7 c = let long = checked-long (c .before .before .before .before .args .bytes .now) 1 (c .before .match .keys1) (c .before .before .before .before .pre) in omega arith
+
+shared-slice-read-binary-operator : tie.Need-shared-slice-read-binary-operator
+unfolding sizeOf
+shared-slice-read-binary-operator c = let long = checked-long (c .before .before .before .before .args .bytes .now) 14 (c .before .match .keys2) (c .before .before .before .before .pre) in omega arith
+
+binary-operator-requires : tie.Need-binary-operator-requires
+binary-operator-requires c κs = search needs
+
+shared-slice-read-t12 : tie.Need-shared-slice-read-t12
+unfolding sizeOf
+shared-slice-read-t12 c = let long = checked-long (c .before .before .before .before .before .before .args .bytes .now) 14 (c .before .before .before .match .keys2) (c .before .before .before .before .before .before .pre) in omega arith
+
+shared-slice-read-t14 : tie.Need-shared-slice-read-t14
+unfolding sizeOf
+shared-slice-read-t14 c = let long = checked-long (c .before .before .before .before .before .before .before .args .bytes .now) 14 (c .before .before .before .before .match .keys2) (c .before .before .before .before .before .before .before .pre) in omega arith
+
+decode-with-set-requires : tie.Need-decode-with-set-requires
+decode-with-set-requires c κs = (c .before .before .before .pre, c .match .keys3)
+
+shared-slice-read-t16 : tie.Need-shared-slice-read-t16
+unfolding sizeOf
+shared-slice-read-t16 c = let long = checked-long (c .before .before .before .before .args .bytes .now) 98 (c .before .match .keys4) (c .before .before .before .before .pre) in omega arith
+
+shared-slice-read-t18 : tie.Need-shared-slice-read-t18
+unfolding sizeOf
+shared-slice-read-t18 c = let long = checked-long (c .before .before .before .before .before .args .bytes .now) 98 (c .before .before .match .keys4) (c .before .before .before .before .before .pre) in omega arith
+
+shared-slice-read-t20 : tie.Need-shared-slice-read-t20
+unfolding sizeOf
+shared-slice-read-t20 c = let long = checked-long (c .before .before .before .before .before .before .args .bytes .now) 98 (c .before .before .before .match .keys4) (c .before .before .before .before .before .before .pre) in omega arith
+
+shared-slice-read-t22 : tie.Need-shared-slice-read-t22
+unfolding sizeOf
+shared-slice-read-t22 c = let long = checked-long (c .before .before .before .before .args .bytes .now) 34 (last-map _ (checked-legal (c .before .before .before .before .args .bytes .now) (c .before .before .before .before .pre)) (c .before .match .rest .0 .0 .0 .1) (c .before .match .rest .0 .0 .1) (c .before .match .rest .0 .1) (c .before .match .rest .1)) (c .before .before .before .before .pre) in omega arith
+
+shared-slice-read-t24 : tie.Need-shared-slice-read-t24
+unfolding sizeOf
+shared-slice-read-t24 c = let long = checked-long (c .before .before .before .before .before .args .bytes .now) 34 (last-map _ (checked-legal (c .before .before .before .before .before .args .bytes .now) (c .before .before .before .before .before .pre)) (c .before .before .match .rest .0 .0 .0 .1) (c .before .before .match .rest .0 .0 .1) (c .before .before .match .rest .0 .1) (c .before .before .match .rest .1)) (c .before .before .before .before .before .pre) in omega arith
+
+returns : tie.Need-returns
+returns c = node-is (c .before .before .before .before .args .bytes .now) 1 (c .before .match .keys1)
+
+returns-2 : tie.Need-returns-2
+returns-2 c = rw (c .before .before .binary-operator .ensures) (node-is (c .before .before .before .before .before .before .before .args .bytes .now) 14 (c .before .before .before .before .match .keys2))
+
+returns-3 : tie.Need-returns-3
+returns-3 c = c .decode-with-set .ensures
+
+returns-4 : tie.Need-returns-4
+returns-4 c = node-is (c .before .before .before .before .before .before .args .bytes .now) 98 (c .before .before .before .match .keys4)
+
+returns-5 : tie.Need-returns-5
+returns-5 c = node-is (c .before .before .before .before .before .args .bytes .now) 34 (last-map _ (checked-legal (c .before .before .before .before .before .args .bytes .now) (c .before .before .before .before .before .pre)) (c .before .before .match .rest .0 .0 .0 .1) (c .before .before .match .rest .0 .0 .1) (c .before .before .match .rest .0 .1) (c .before .before .match .rest .1))
+
+pub decode-spec : {M : Type 1} → statement M
+decode-spec =
+    tie.close
+    (tie.spec
+    shared-slice-read-map
+    shared-slice-read-t7
+    shared-slice-read-binary-operator
+    binary-operator-requires
+    shared-slice-read-t12
+    shared-slice-read-t14
+    decode-with-set-requires
+    shared-slice-read-t16
+    shared-slice-read-t18
+    shared-slice-read-t20
+    shared-slice-read-t22
+    shared-slice-read-t24
+    returns
+    returns-2
+    returns-3
+    returns-4
+    returns-5)

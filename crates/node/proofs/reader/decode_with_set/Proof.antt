@@ -1,0 +1,74 @@
+use Rattle.node.specs.Legal.{checked-long, checked-set, node-is}
+use Rattle.node.specs.ReadNode.{sizeOf}
+use Rattle.attribute_set.specs.Laws.{built-none, built-set}
+use mathlib.Core.Bool.{true≢false}
+use mathlib.Core.Path.{sym, _∙_}
+use native.Mathlib.Omega.{arith}
+use borrow.Author.Needs.{needs}
+use Rattle.node.proofs.reader.decode_with_set.Statement.{statement}
+use Rattle.node.proofs.reader.decode_with_set.Tie as tie
+
+shared-slice-read-build : tie.Need-shared-slice-read-build
+unfolding sizeOf
+shared-slice-read-build c = let long = checked-long (c .before .before .args .bytes .now) 26 (c .before .before .pre .1) (c .before .before .pre .0) in omega arith
+
+cast-build : tie.Need-cast-build
+cast-build c = omega (arith, c .before .shared-slice-known .given 3)
+
+shared-slice-read-build-2 : tie.Need-shared-slice-read-build-2
+unfolding sizeOf
+shared-slice-read-build-2 c = let long = checked-long (c .before .before .before .args .bytes .now) 26 (c .before .before .before .pre .1) (c .before .before .before .pre .0) in omega arith
+
+cast-build-2 : tie.Need-cast-build-2
+cast-build-2 c = omega (arith, c .before .before .shared-slice-known .given 4)
+
+mul-build : tie.Need-mul-build
+mul-build c = omega (arith, c .before .before .shared-slice-known .given 4)
+
+add-build : tie.Need-add-build
+add-build c = omega (arith, c .before .before .shared-slice-known .given 3, c .before .before .shared-slice-known .given 4)
+
+build-requires : tie.Need-build-requires
+build-requires c κs = search needs
+
+enum-known-set : tie.Need-enum-known-set
+enum-known-set c = search needs
+
+shared-slice-read-set-operator : tie.Need-shared-slice-read-set-operator
+unfolding sizeOf
+shared-slice-read-set-operator c = let long = checked-long (c .before .before .before .before .before .before .before .before .args .bytes .now) 26 (c .before .before .before .before .before .before .before .before .pre .1) (c .before .before .before .before .before .before .before .before .pre .0) in omega arith
+
+set-operator-requires : tie.Need-set-operator-requires
+set-operator-requires c κs = search needs
+
+shared-slice-read-t17 : tie.Need-shared-slice-read-t17
+unfolding sizeOf
+shared-slice-read-t17 c = let long = checked-long (c .before .before .before .before .before .before .before .before .before .before .args .bytes .now) 26 (c .before .before .before .before .before .before .before .before .before .before .pre .1) (c .before .before .before .before .before .before .before .before .before .before .pre .0) in omega arith
+
+enum-told : tie.Need-enum-told
+enum-told c = search needs
+
+returns : tie.Need-returns
+returns c = rw (c .before .set-operator .ensures, built-set _ _ (sym (c .before .before .before .before .before .before .build .ensures) ∙ c .before .before .before .before .set .given .1) .1) (node-is (c .before .before .before .before .before .before .before .before .before .before .args .bytes .now) 26 (c .before .before .before .before .before .before .before .before .before .before .pre .1))
+
+returns-2 : tie.Need-returns-2
+returns-2 c = absurd (true≢false (sym (built-none _ (sym (c .before .before .build .ensures) ∙ c .enum-told .given .1)) ∙ checked-set (c .before .before .before .before .before .before .args .bytes .now) (c .before .before .before .before .before .before .pre .1) (c .before .before .before .before .before .before .pre .0)))
+
+pub decode-with-set-spec : {M : Type 1} → statement M
+decode-with-set-spec =
+    tie.close
+    (tie.spec
+    shared-slice-read-build
+    cast-build
+    shared-slice-read-build-2
+    cast-build-2
+    mul-build
+    add-build
+    build-requires
+    enum-known-set
+    shared-slice-read-set-operator
+    set-operator-requires
+    shared-slice-read-t17
+    enum-told
+    returns
+    returns-2)
