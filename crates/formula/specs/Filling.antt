@@ -12,12 +12,10 @@ use Rattle.bits.specs.Written.{Written, written-all}
 use Rattle.node.specs.Legal.{LegalNode}
 use Rattle.expression.specs.ReadFile.{nodeAt, sizeAt, acceptance}
 use Rattle.node.specs.ReadNode.{readNode}
-use Rattle.node.specs.declared.reader.Reading.the-variants.{Read, Refused as NodeRefused}
-use Rattle.node.specs.declared.nodes.Node.{Node}
+use Rattle.node.specs.declared.reader.Reading.the-variants.{Read}
 use Rattle.expression.specs.declared.files.Acceptance.the-variants.{Accepted}
 use Rattle.expression.specs.Accepted.{accepted-file}
 use Rattle.expression.specs.Walk.{Walk, walk-next, Decoded, read-decoded}
-use Rattle.refusal.specs.declared.Refusal.{Refusal}
 use Rattle.algebra.specs.Expression.{Expression}
 use Rattle.formula.specs.Storage.{columnAt}
 use Rattle.formula.specs.Columns.{Columns}
@@ -34,21 +32,9 @@ pub record Here (file : List ℕ) (m k at : ℕ) : Type 0 where
   pub reading : readNode m k (take (length file - at) (drop at file)) ≡ Read (nodeAt file k) (sizeAt file k)
   pub legal : LegalNode m k (nodeAt file k)
 
--- what its reading gives
-pub here-read : (file : List ℕ) (m k at : ℕ) (node : Node) (size : ℕ) → Here file m k at → readNode m k (take (length file - at) (drop at file)) ≡ Read node size → (node ≡ nodeAt file k) × (size ≡ sizeAt file k)
-here-read file m k at node size here e =
-    let same : Read node size ≡ Read (nodeAt file k) (sizeAt file k) = sym e ∙ here .reading in
-    (cc, cc)
-
-pub here-reads : (file : List ℕ) (m k at : ℕ) (r : Refusal) → Here file m k at → readNode m k (take (length file - at) (drop at file)) ≡ NodeRefused r → ⊥
-here-reads file m k at r here e =
-    let same : NodeRefused r ≡ Read (nodeAt file k) (sizeAt file k) = sym e ∙ here .reading in
-    let z : _≡_ {A = ℕ} 0 1 = cc in
-    omega arith
-
 -- what its decoding gives
-pub here-checked : (file : List ℕ) (m k at : ℕ) → Here file m k at → Decoded file k at
-here-checked file m k at here = read-decoded file m k at (here .reading)
+pub here-decoded : (file : List ℕ) (m k at : ℕ) → Here file m k at → Decoded file k at
+here-decoded file m k at here = read-decoded file m k at (here .reading)
 
 -- the walk over an accepted file's nodes is there
 pub walk-here : (file : List ℕ) (m n k at : ℕ) → acceptance file ≡ Accepted m n → k < n → Walk file m n k at → Here file m k at

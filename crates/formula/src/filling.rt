@@ -17,8 +17,8 @@ use crate::columns::fill_renaming;
 use crate::columns::fill_with_set;
 use column::relation_column;
 use node::Node;
-use node::Reading;
-use node::read_node;
+use node::decode;
+use node::size_of;
 
 // The formula of node k, whose operands' formulas stand in the work space.
 fn fill_formula(node: Node, m: u8, k: u8, work: &mut [u8])
@@ -53,11 +53,9 @@ fn fill_node(file: &[u8], m: u8, k: u8, at: usize, work: &mut [u8]) -> usize
     ensures { λ r. ⌜ r ≡ at + sizeAt (now (file .entry)) k ⌝ }
     ensures { λ _. ⌜ FilledTo (now (file .entry)) m (k * 1024 + 1024) (now (work .entry)) (now (work .exit)) ⌝ }
 {
-    let Reading::Read(node, size) = read_node(m, k, &file[at..]) else {
-        return at;
-    };
+    let node = decode(&file[at..]);
     fill_formula(node, m, k, work);
-    at + size
+    at + size_of(file[at])
 }
 
 // The formulas of all nodes of an accepted file, for operations that have read it.

@@ -1,6 +1,6 @@
 use Rattle.typing.specs.Filling.{Filled, filled-node, filled-lane, next-lane, operands-fit}
 use Rattle.typing.specs.Lanes.{laneColumn, heldIn, laneAt, nodeLane, OperandsFit}
-use Rattle.formula.specs.Filling.{here-checked}
+use Rattle.formula.specs.Filling.{here-decoded}
 use Rattle.expression.specs.ReadFile.{nodeAt}
 use Rattle.node.specs.declared.nodes.Node.{Node}
 use Rattle.bits.specs.Pack.{pack}
@@ -28,10 +28,10 @@ part-decode-end : tie.Need-part-decode-end Inv-loop μ-loop
 part-decode-end c = search needs
 
 decode-requires : tie.Need-decode-requires Inv-loop μ-loop
-decode-requires c κs = here-checked (c .before .before .before .before .before .before .args .file .now) (c .before .before .before .before .before .before .args .m) (c .before .before .before .before .before .before .args .k) (c .before .before .before .before .before .before .args .at) (c .before .before .before .before .before .before .pre .0) .checked
+decode-requires c κs = here-decoded (c .before .before .before .before .before .before .args .file .now) (c .before .before .before .before .before .before .args .m) (c .before .before .before .before .before .before .args .k) (c .before .before .before .before .before .before .args .at) (c .before .before .before .before .before .before .pre .0) .checked
 
 loop-holds : tie.Need-loop-holds Inv-loop μ-loop
-loop-holds c = (omega arith, refl, refl, c .decode .ensures ∙ here-checked (c .before .before .before .before .before .before .before .args .file .now) (c .before .before .before .before .before .before .before .args .m) (c .before .before .before .before .before .before .before .args .k) (c .before .before .before .before .before .before .before .args .at) (c .before .before .before .before .before .before .before .pre .0) .node-is, c .before .before .before .before .before .before .before .pre .1 .1 .1 .1)
+loop-holds c = (omega arith, refl, refl, c .decode .ensures ∙ here-decoded (c .before .before .before .before .before .before .before .args .file .now) (c .before .before .before .before .before .before .before .args .m) (c .before .before .before .before .before .before .before .args .k) (c .before .before .before .before .before .before .before .args .at) (c .before .before .before .before .before .before .before .pre .0) .node-is, c .before .before .before .before .before .before .before .pre .1 .1 .1 .1)
 
 node-lane-requires : tie.Need-node-lane-requires Inv-loop μ-loop
 node-lane-requires c κs = let la = c .before .before .before .loop .inv .1 in let lo = c .before .before .before .loop .inv .2 in let fits = c .before .before .before .before .before .before .before .before .before .before .before .pre .1 .1 .0 .1 in let same = c .before .before .before .before .before .before .before .before .before .before .before .pre .1 .1 .1 .0 in let few = c .before .before .before .before .before .before .before .before .before .before .before .pre .1 .1 .0 .0 in let less = c .before .before .loop-test .taken in let fit = operands-fit (c .before .before .before .before .before .before .before .before .before .before .before .args .m) (c .before .before .before .before .before .before .before .before .before .before .before .args .k) (length (c .before .before .before .loop .allowed)) (nodeAt (c .before .before .before .before .before .before .before .before .before .before .before .args .file .now) (c .before .before .before .before .before .before .before .before .before .before .before .args .k)) (c .before .before .before .loop .b) (c .before .before .before .before .before .before .before .before .before .before .before .pre .0 .legal) (c .before .before .before .before .before .before .before .before .before .before .before .pre .0 .relations) (omega arith) (omega arith) in (c .before .before .before .before .before .before .before .before .before .before .before .pre .1 .0, (omega arith, (subst (λ (x : Node). OperandsFit (length (c .before .before .before .loop .allowed)) x (c .before .before .before .loop .b)) (sym (c .before .before .before .loop .inv .3)) fit, omega arith)))
@@ -58,13 +58,13 @@ loop-again : tie.Need-loop-again Inv-loop μ-loop
 loop-again c = let la = c .before .before .before .before .loop .inv .1 in let lo = c .before .before .before .before .loop .inv .2 in let fits = c .before .before .before .before .before .before .before .before .before .before .before .before .pre .1 .1 .0 .1 in let same = c .before .before .before .before .before .before .before .before .before .before .before .before .pre .1 .1 .1 .0 in let few = c .before .before .before .before .before .before .before .before .before .before .before .before .pre .1 .1 .0 .0 in let less = c .before .before .before .loop-test .taken in let node-is = ap (λ (x : Node). nodeLane x (laneColumn (c .before .before .before .before .loop .b)) (λ r. pack 8 (λ j. heldIn (c .before .before .before .before .before .before .before .before .before .before .before .before .args .special .now) (c .before .before .before .before .before .before .before .before .before .before .before .before .args .items .now) (c .before .before .before .before .loop .b) j r)) (λ l. laneAt (c .before .before .before .before .loop .allowed) (c .before .before .before .before .loop .output) l (c .before .before .before .before .loop .b))) (c .before .before .before .before .loop .inv .3) in let next = next-lane (c .before .before .before .before .before .before .before .before .before .before .before .before .args .file .now) (c .before .before .before .before .before .before .before .before .before .before .before .before .args .special .now) (c .before .before .before .before .before .before .before .before .before .before .before .before .args .items .now) (c .before .before .before .before .before .before .before .before .before .before .before .before .args .m) (c .before .before .before .before .before .before .before .before .before .before .before .before .args .lanes) (c .before .before .before .before .before .before .before .before .before .before .before .before .args .k) (c .before .before .before .before .loop .b) (c .before .before .before .before .loop .allowed) (c .before .before .before .before .loop .output) (c .before .before .before .before .before .before .before .before .before .before .before .before .pre .0 .legal) (c .before .before .before .loop-test .taken) (c .before .before .before .before .loop .inv .4) in (omega arith, simp length-set la, simp length-set lo, c .before .before .before .before .loop .inv .3, filled-lane (c .before .before .before .before .before .before .before .before .before .before .before .before .args .file .now) (c .before .before .before .before .before .before .before .before .before .before .before .before .args .special .now) (c .before .before .before .before .before .before .before .before .before .before .before .before .args .items .now) (c .before .before .before .before .before .before .before .before .before .before .before .before .args .lanes) (c .before .before .before .before .before .before .before .before .before .before .before .before .args .k) (c .before .before .before .before .loop .b) (c .before .before .before .before .loop .allowed) (c .before .before .before .before .loop .output) (c .node-lane .result) few (c .before .before .before .loop-test .taken) (omega arith) (omega arith) (c .before .before .before .before .loop .inv .4) (c .node-lane .ensures ∙ node-is ∙ next))
 
 shared-slice-read-size-of : tie.Need-shared-slice-read-size-of Inv-loop μ-loop
-shared-slice-read-size-of c = here-checked (c .before .before .before .before .before .before .before .before .before .before .args .file .now) (c .before .before .before .before .before .before .before .before .before .before .args .m) (c .before .before .before .before .before .before .before .before .before .before .args .k) (c .before .before .before .before .before .before .before .before .before .before .args .at) (c .before .before .before .before .before .before .before .before .before .before .pre .0) .below
+shared-slice-read-size-of c = here-decoded (c .before .before .before .before .before .before .before .before .before .before .args .file .now) (c .before .before .before .before .before .before .before .before .before .before .args .m) (c .before .before .before .before .before .before .before .before .before .before .args .k) (c .before .before .before .before .before .before .before .before .before .before .args .at) (c .before .before .before .before .before .before .before .before .before .before .pre .0) .below
 
 size-of-requires : tie.Need-size-of-requires Inv-loop μ-loop
-size-of-requires c κs = here-checked (c .before .before .before .before .before .before .before .before .before .before .args .file .now) (c .before .before .before .before .before .before .before .before .before .before .args .m) (c .before .before .before .before .before .before .before .before .before .before .args .k) (c .before .before .before .before .before .before .before .before .before .before .args .at) (c .before .before .before .before .before .before .before .before .before .before .pre .0) .map-legal
+size-of-requires c κs = here-decoded (c .before .before .before .before .before .before .before .before .before .before .args .file .now) (c .before .before .before .before .before .before .before .before .before .before .args .m) (c .before .before .before .before .before .before .before .before .before .before .args .k) (c .before .before .before .before .before .before .before .before .before .before .args .at) (c .before .before .before .before .before .before .before .before .before .before .pre .0) .map-legal
 
 add-result : tie.Need-add-result Inv-loop μ-loop
-add-result c = let fits = c .before .before .before .before .before .before .before .before .before .before .before .pre .0 .fits in let size = c .size-of .ensures ∙ here-checked (c .before .before .before .before .before .before .before .before .before .before .before .args .file .now) (c .before .before .before .before .before .before .before .before .before .before .before .args .m) (c .before .before .before .before .before .before .before .before .before .before .before .args .k) (c .before .before .before .before .before .before .before .before .before .before .before .args .at) (c .before .before .before .before .before .before .before .before .before .before .before .pre .0) .size-is in omega arith
+add-result c = let fits = c .before .before .before .before .before .before .before .before .before .before .before .pre .0 .fits in let size = c .size-of .ensures ∙ here-decoded (c .before .before .before .before .before .before .before .before .before .before .before .args .file .now) (c .before .before .before .before .before .before .before .before .before .before .before .args .m) (c .before .before .before .before .before .before .before .before .before .before .before .args .k) (c .before .before .before .before .before .before .before .before .before .before .before .args .at) (c .before .before .before .before .before .before .before .before .before .before .before .pre .0) .size-is in omega arith
 
 same-length : tie.Need-same-length Inv-loop μ-loop
 same-length c = c .before .before .before .loop .inv .1
@@ -73,7 +73,7 @@ same-length-2 : tie.Need-same-length-2 Inv-loop μ-loop
 same-length-2 c = c .before .before .before .loop .inv .2
 
 returns : tie.Need-returns Inv-loop μ-loop
-returns c = let all : c .before .before .before .loop .b ≡ c .before .before .before .before .before .before .before .before .before .before .before .args .lanes = omega arith in (ap (λ (x : ℕ). c .before .before .before .before .before .before .before .before .before .before .before .args .at + x) (c .size-of .ensures ∙ here-checked (c .before .before .before .before .before .before .before .before .before .before .before .args .file .now) (c .before .before .before .before .before .before .before .before .before .before .before .args .m) (c .before .before .before .before .before .before .before .before .before .before .before .args .k) (c .before .before .before .before .before .before .before .before .before .before .before .args .at) (c .before .before .before .before .before .before .before .before .before .before .before .pre .0) .size-is), filled-node (c .before .before .before .before .before .before .before .before .before .before .before .args .file .now) (c .before .before .before .before .before .before .before .before .before .before .before .args .special .now) (c .before .before .before .before .before .before .before .before .before .before .before .args .items .now) (c .before .before .before .before .before .before .before .before .before .before .before .args .lanes) (c .before .before .before .before .before .before .before .before .before .before .before .args .k) _ _ (rw all at (c .before .before .before .loop .inv .4)))
+returns c = let all : c .before .before .before .loop .b ≡ c .before .before .before .before .before .before .before .before .before .before .before .args .lanes = omega arith in (ap (λ (x : ℕ). c .before .before .before .before .before .before .before .before .before .before .before .args .at + x) (c .size-of .ensures ∙ here-decoded (c .before .before .before .before .before .before .before .before .before .before .before .args .file .now) (c .before .before .before .before .before .before .before .before .before .before .before .args .m) (c .before .before .before .before .before .before .before .before .before .before .before .args .k) (c .before .before .before .before .before .before .before .before .before .before .before .args .at) (c .before .before .before .before .before .before .before .before .before .before .before .pre .0) .size-is), filled-node (c .before .before .before .before .before .before .before .before .before .before .before .args .file .now) (c .before .before .before .before .before .before .before .before .before .before .before .args .special .now) (c .before .before .before .before .before .before .before .before .before .before .before .args .items .now) (c .before .before .before .before .before .before .before .before .before .before .before .args .lanes) (c .before .before .before .before .before .before .before .before .before .before .before .args .k) _ _ (rw all at (c .before .before .before .loop .inv .4)))
 
 pub fill-node-spec : {M : Type 1} → statement M
 fill-node-spec =
