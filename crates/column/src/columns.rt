@@ -1,6 +1,6 @@
 // A whole column, from the columns of the operands.
 ghost use mathlib.Core.Path.{_≡_};
-ghost use Prim.Native.Nat.{_<_};
+ghost use Prim.Native.Nat.{_≤_, _<_};
 ghost use Rattle.column.specs.Steps.{renamingStep};
 ghost use Rattle.column.specs.Column.{relationColumn, unaryColumn, combinedColumn};
 use crate::steps::Bytes;
@@ -15,16 +15,17 @@ use crate::tables::subset_byte;
 
 // A relation's column, where there are `count` subsets.
 pub fn relation_column(count: usize, r: u8) -> [u8; 64]
-    requires { ⌜ r < 8 ⌝ }
+    requires { ⌜ (count ≤ 256) × (r < 8) ⌝ }
     ensures { λ c. ⌜ c ≡ relationColumn count r ⌝ }
 {
     let members = member_map(r);
     let mut column = [0u8; 64];
-    let mut j = 0;
+    let mut j = 0u8;
     while j < 32 {
+        let i = j as usize;
         let allowed = subset_byte(count, j);
-        column[j] = allowed;
-        column[32 + j] = allowed & members[j];
+        column[i] = allowed;
+        column[32 + i] = allowed & members[i];
         j += 1;
     }
     column

@@ -1,6 +1,6 @@
 // Maps over the 256 subsets of eight relations, 32 bytes each: bit s mod 8 of byte s div 8.
 ghost use mathlib.Core.Path.{_≡_};
-ghost use Prim.Native.Nat.{_<_};
+ghost use Prim.Native.Nat.{_≤_, _<_};
 ghost use Rattle.bits.specs.Tab.{tab};
 ghost use Rattle.column.specs.Tables.{memberByte, subsetByte};
 
@@ -190,11 +190,11 @@ pub fn member_map(r: u8) -> [u8; 32]
 }
 
 // Byte j of the map of the subsets, of which there are `count`: bit s stands where s is below it.
-pub fn subset_byte(count: usize, j: usize) -> u8
-    requires { ⌜ j < 32 ⌝ }
+pub fn subset_byte(count: usize, j: u8) -> u8
+    requires { ⌜ (count ≤ 256) × (j < 32) ⌝ }
     ensures { λ x. ⌜ x ≡ subsetByte count j ⌝ }
 {
-    let whole = count / 8;
+    let whole = (count / 8) as u8;
     let partial = (1u8 << (count % 8)) - 1;
     if j < whole {
         return 255;

@@ -28,6 +28,9 @@ member-map-requires c κs = search needs
 loop-holds : tie.Need-loop-holds Inv-loop μ-loop
 loop-holds c = (omega arith, filling-none (λ s. ltb s (c .before .args .count)) (λ s. ltb s (c .before .args .count) && bit s (c .before .args .r)) _ refl, c .member-map .ensures)
 
+cast-i : tie.Need-cast-i Inv-loop μ-loop
+cast-i c = search needs
+
 subset-byte-requires : tie.Need-subset-byte-requires Inv-loop μ-loop
 subset-byte-requires c κs = search needs
 
@@ -71,6 +74,7 @@ relation-column-spec =
     μ-loop
     member-map-requires
     loop-holds
+    cast-i
     subset-byte-requires
     array-write-column
     array-read-column

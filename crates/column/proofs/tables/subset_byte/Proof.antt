@@ -8,6 +8,9 @@ use Rattle.column.specs.TableLaws.{none-left, eight-left, some-left}
 use Rattle.column.proofs.tables.subset_byte.Statement.{statement}
 use Rattle.column.proofs.tables.subset_byte.Tie as tie
 
+cast-whole : tie.Need-cast-whole
+cast-whole c = search needs
+
 cast-partial : tie.Need-cast-partial
 cast-partial c = search needs
 
@@ -34,4 +37,4 @@ returns-3 c =
     none-left (c .before .before .args .count) (c .before .before .args .j) (omega arith)
 
 pub subset-byte-spec : {M : Type 1} → statement M
-subset-byte-spec = tie.close (tie.spec cast-partial shl-partial sub-partial returns returns-2 returns-3)
+subset-byte-spec = tie.close (tie.spec cast-whole cast-partial shl-partial sub-partial returns returns-2 returns-3)

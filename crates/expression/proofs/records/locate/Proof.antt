@@ -1,7 +1,7 @@
-use Rattle.expression.specs.RecordLaws.{record-refused, Seeking, seek-first, seek-here, seek-next, seek-found}
-use native.Mathlib.Omega.{arith}
-use mathlib.Core.Path.{sym, _∙_}
 use Prim.Native.Nat.{_-_}
+use mathlib.Core.Path.{sym, _∙_}
+use native.Mathlib.Omega.{arith}
+use Rattle.expression.specs.RecordLaws.{record-refused, Seeking, seek-first, seek-here, seek-next, seek-found}
 use borrow.Author.Needs.{needs}
 use Rattle.expression.proofs.records.locate.Statement.{statement}
 use Rattle.expression.proofs.records.locate.Tie as tie

@@ -1,9 +1,9 @@
-use Rattle.listing.specs.Naming.{Named, named-none, named-next}
+use Prim.Native.Nat.{_-_, _≤_}
+use mathlib.Core.Path.{_≡_, _∙_}
+use native.Mathlib.Omega.{arith}
 use Rattle.expression.specs.Walk.{Walk, walk-first, walk-next, walk-decoded}
 use Rattle.expression.specs.ReadFile.{nodeAt}
-use native.Mathlib.Omega.{arith}
-use mathlib.Core.Path.{_≡_, _∙_}
-use Prim.Native.Nat.{_-_, _≤_}
+use Rattle.listing.specs.Naming.{Named, named-none, named-next}
 use borrow.Author.Needs.{needs}
 use Rattle.listing.proofs.naming.named_attributes.Statement.{statement}
 use Rattle.listing.proofs.naming.named_attributes.Tie as tie

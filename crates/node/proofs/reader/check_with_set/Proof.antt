@@ -1,6 +1,6 @@
-use Rattle.node.specs.Legal.{bit-low}
 use borrow.Author.Tests.{le-ltb, lt-leb, eq-eqb, ne-eqb}
 use Rattle.refusal.specs.Chain.{refuse, chain}
+use Rattle.node.specs.Legal.{bit-low}
 use Rattle.node.specs.ReadNode.{checkFields, sizeOf}
 use borrow.Author.Needs.{needs}
 use Rattle.node.proofs.reader.check_with_set.Statement.{statement}

@@ -1,6 +1,6 @@
+use native.Mathlib.Omega.{arith}
 use Rattle.node.specs.Legal.{last-map, checked-legal, checked-some, checked-long, node-is}
 use Rattle.node.specs.ReadNode.{sizeOf}
-use native.Mathlib.Omega.{arith}
 use borrow.Author.Needs.{needs}
 use Rattle.node.proofs.reader.decode.Statement.{statement}
 use Rattle.node.proofs.reader.decode.Tie as tie

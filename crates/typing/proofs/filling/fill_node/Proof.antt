@@ -1,13 +1,13 @@
+use Prim.Native.Nat.{ℕ, _+_, _-_, _≤_}
+use mathlib.Core.Path.{_≡_, refl, sym, ap, subst, _∙_}
+use native.Mathlib.Omega.{arith}
+use lib.ListN.{length, length-set}
+use Rattle.bits.specs.Pack.{pack}
+use Rattle.node.specs.declared.nodes.Node.{Node}
+use Rattle.expression.specs.ReadFile.{nodeAt}
+use Rattle.formula.specs.Filling.{here-decoded}
 use Rattle.typing.specs.Filling.{Filled, filled-node, filled-lane, next-lane, operands-fit}
 use Rattle.typing.specs.Lanes.{laneColumn, heldIn, laneAt, nodeLane, OperandsFit}
-use Rattle.formula.specs.Filling.{here-decoded}
-use Rattle.expression.specs.ReadFile.{nodeAt}
-use Rattle.node.specs.declared.nodes.Node.{Node}
-use Rattle.bits.specs.Pack.{pack}
-use lib.ListN.{length, length-set}
-use native.Mathlib.Omega.{arith}
-use mathlib.Core.Path.{_≡_, refl, sym, ap, subst, _∙_}
-use Prim.Native.Nat.{ℕ, _+_, _-_, _≤_}
 use borrow.Author.Needs.{needs}
 use Rattle.typing.proofs.filling.fill_node.Statement.{statement}
 use Rattle.typing.proofs.filling.fill_node.Tie as tie
