@@ -1,6 +1,7 @@
 use Prim.Native.Nat.{ℕ, _*_, _^_}
 use mathlib.Core.Path.{_≡_, ap, subst, _∙_}
 use native.Mathlib.Omega.{arith}
+use lib.Pow.{pow-mono}
 use Rattle.bits.specs.Bit.{shifted-one}
 use Rattle.node.specs.Legal.{LegalNode}
 use Rattle.column.specs.Column.{relationColumn}
@@ -18,7 +19,7 @@ relation-column-requires : tie.Need-relation-column-requires
 relation-column-requires c κs =
     let few = c .before .before .before .before .pre .0 .0 in
     let legal = subst (LegalNode (c .before .before .before .before .args .m) (c .before .before .before .before .args .k)) (c .before .node .given .1) (c .before .before .before .before .pre .0 .1) in
-    omega arith
+    (rw (shifted-one 64 (c .before .before .before .before .args .m) (omega arith)) (pow-mono {j = 8} few), omega arith)
 
 fill-relation-requires : tie.Need-fill-relation-requires
 fill-relation-requires c κs = search needs
