@@ -7,7 +7,7 @@ use type_formula_tests::engine::{self, Lengths};
 use type_formula_tests::reference::{self, Apply, Recover, Typing, Verdict};
 
 use crate::settings::Setting;
-use crate::slices::{Parts, Slices};
+use crate::slices::{Paged, Parts, Slices};
 use crate::words;
 
 #[derive(Clone, Copy, Debug, PartialEq, Eq)]
@@ -38,13 +38,7 @@ pub enum By {
     CopyLoop,
 }
 
-pub const ALL: [By; 5] = [
-    By::Engine,
-    By::Reference,
-    By::Words,
-    By::Copy,
-    By::CopyLoop,
-];
+pub const ALL: [By; 5] = [By::Engine, By::Reference, By::Words, By::Copy, By::CopyLoop];
 
 /// A call with these slices.
 pub type Call<'a> = Box<dyn Fn(&mut Slices) + 'a>;
@@ -189,12 +183,12 @@ fn copy_words(target: &mut [u8], source: &[u8]) {
 
 /// The copy of so many bytes to the slices.
 fn copy(by: By, length: usize) -> Call<'static> {
-    let source = vec![0x55; length];
+    let source = Paged::new(length);
     Box::new(move |slices| {
-        let target = black_box(&mut slices.bytes()[..source.len()]);
+        let target = black_box(&mut slices.bytes()[..length]);
         match by {
-            By::CopyLoop => copy_words(target, black_box(&source)),
-            _ => target.copy_from_slice(black_box(&source)),
+            By::CopyLoop => copy_words(target, black_box(source.bytes())),
+            _ => target.copy_from_slice(black_box(source.bytes())),
         }
     })
 }

@@ -8,14 +8,39 @@ use type_formula_tests::reference::{
 const WORK_LENGTH: usize = 64 * FORMULA_LENGTH;
 /// The length of all slices together.
 const LENGTH: usize = WORK_LENGTH + SCHEMA_LENGTH + OUTPUT_LENGTH + INSTANTIATION_LENGTH;
-/// The alignment of the work space.
 const PAGE: usize = 4_096;
+
+/// Bytes that begin at a page.
+pub struct Paged {
+    buffer: Vec<u8>,
+    start: usize,
+    length: usize,
+}
+
+impl Paged {
+    pub fn new(length: usize) -> Self {
+        let buffer = vec![0x55; length + PAGE];
+        let start = buffer.as_ptr().align_offset(PAGE);
+        Paged {
+            buffer,
+            start,
+            length,
+        }
+    }
+
+    pub fn bytes(&self) -> &[u8] {
+        &self.buffer[self.start..self.start + self.length]
+    }
+
+    pub fn bytes_mut(&mut self) -> &mut [u8] {
+        &mut self.buffer[self.start..self.start + self.length]
+    }
+}
 
 /// The slices and what the last call answered. All calls use the same memory, so that its
 /// place favours none of them.
 pub struct Slices {
-    buffer: Vec<u8>,
-    start: usize,
+    paged: Paged,
     /// The answer as a number, and the numbers written.
     pub answer: [usize; 3],
 }
@@ -30,18 +55,15 @@ pub struct Parts<'a> {
 
 impl Slices {
     pub fn new() -> Self {
-        let buffer = vec![0x55; LENGTH + PAGE];
-        let start = buffer.as_ptr().align_offset(PAGE);
         Slices {
-            buffer,
-            start,
+            paged: Paged::new(LENGTH),
             answer: [0; 3],
         }
     }
 
     /// All bytes.
     pub fn bytes(&mut self) -> &mut [u8] {
-        &mut self.buffer[self.start..self.start + LENGTH]
+        self.paged.bytes_mut()
     }
 
     /// The slices, of which the work space has this length.

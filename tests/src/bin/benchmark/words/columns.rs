@@ -1,7 +1,7 @@
 //! Columns as 64-bit words, and the step of each case of nodes. All is inline, so that the
 //! compiler sees the loop as a whole.
 
-use type_formula_tests::reference::{Node, COLUMN_LENGTH, FORMULA_LENGTH, OUTPUT_START};
+use type_formula_tests::reference::{Node, COLUMNS, COLUMN_LENGTH, FORMULA_LENGTH, OUTPUT_START};
 
 /// 256 bits, one for each subset.
 pub type Bits = [u64; 4];
@@ -53,7 +53,7 @@ pub fn read_column(work: &[u8], node: u8, column: usize) -> Column {
 }
 
 #[inline]
-pub fn write_column(formula: &mut [u8], column: usize, words: &Column) {
+fn write_column(formula: &mut [u8], column: usize, words: &Column) {
     let start = COLUMN_LENGTH * column;
     let bytes = &mut formula[start..start + COLUMN_LENGTH];
     write_bits(&mut bytes[..OUTPUT_START], &words.allowed);
@@ -138,34 +138,69 @@ const NOTHING: Column = Column {
     output: [0; 4],
 };
 
-/// The column of a node from those of the earlier nodes.
+/// The column of a relation, the same for every attribute.
 #[inline]
-pub fn step(node: &Node, column: usize, relations: u8, earlier: &[u8]) -> Column {
-    let read = |operand| read_column(earlier, operand, column);
-    let is_listed = |set: u16| set >> column & 1 == 1;
-    let is_column = |attribute: u8| usize::from(attribute) == column;
-    match *node {
+fn relation_column(relations: u8, relation: u8) -> Column {
+    let (all, with) = (all_subsets(relations), subsets_with(relation));
+    column_of(|i| (all[i], all[i] & with[i]))
+}
+
+/// Writes the columns of a formula, each by its number.
+#[inline]
+fn write_columns(formula: &mut [u8], column: impl Fn(usize) -> Column) {
+    for number in 0..COLUMNS {
+        write_column(formula, number, &column(number));
+    }
+}
+
+/// The formula of a node from those of the earlier nodes: a loop for each case, so that what
+/// depends on the node alone is outside.
+#[inline]
+pub fn write_formula(node: Node, relations: u8, earlier: &[u8], formula: &mut [u8]) {
+    let read = |operand, column| read_column(earlier, operand, column);
+    match node {
         Node::Relation { relation } => {
-            let (all, with) = (all_subsets(relations), subsets_with(relation));
-            column_of(|i| (all[i], all[i] & with[i]))
+            let own = relation_column(relations, relation);
+            write_columns(formula, |_| own);
         }
         Node::Union { left, right } | Node::Difference { left, right } => {
-            equal_types(&read(left), &read(right))
+            write_columns(formula, |c| equal_types(&read(left, c), &read(right, c)));
         }
-        Node::NaturalJoin { left, right } => join(&read(left), &read(right)),
-        Node::Product { left, right } => product(&read(left), &read(right)),
-        Node::Selection { operand, set } if is_listed(set) => present(&read(operand), true),
-        Node::Selection { operand, .. } => read(operand),
-        Node::Projection { operand, set } if is_listed(set) => present(&read(operand), true),
-        Node::Projection { operand, .. } => dropped(&read(operand)),
-        Node::Renaming { operand, old, new } => match (is_column(old), is_column(new)) {
-            (true, true) => NOTHING,
-            (true, false) => present(&read(operand), false),
-            (false, true) => absent(&read(operand)),
-            (false, false) => read(operand),
-        },
-        Node::ProjectingOut { operand, old } if is_column(old) => present(&read(operand), false),
-        Node::ProjectingOut { operand, .. } => read(operand),
+        Node::NaturalJoin { left, right } => {
+            write_columns(formula, |c| join(&read(left, c), &read(right, c)));
+        }
+        Node::Product { left, right } => {
+            write_columns(formula, |c| product(&read(left, c), &read(right, c)));
+        }
+        Node::Selection { operand, set } => write_columns(formula, |c| {
+            if set >> c & 1 == 1 {
+                present(&read(operand, c), true)
+            } else {
+                read(operand, c)
+            }
+        }),
+        Node::Projection { operand, set } => write_columns(formula, |c| {
+            if set >> c & 1 == 1 {
+                present(&read(operand, c), true)
+            } else {
+                dropped(&read(operand, c))
+            }
+        }),
+        Node::Renaming { operand, old, new } => write_columns(formula, |c| {
+            match (usize::from(old) == c, usize::from(new) == c) {
+                (true, true) => NOTHING,
+                (true, false) => present(&read(operand, c), false),
+                (false, true) => absent(&read(operand, c)),
+                (false, false) => read(operand, c),
+            }
+        }),
+        Node::ProjectingOut { operand, old } => write_columns(formula, |c| {
+            if usize::from(old) == c {
+                present(&read(operand, c), false)
+            } else {
+                read(operand, c)
+            }
+        }),
     }
 }
 

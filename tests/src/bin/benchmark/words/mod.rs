@@ -1,33 +1,33 @@
-//! Formula and Verdict by a loop over 64-bit words.
+//! Formula and Verdict by a loop over 64-bit words, by hand.
 
 mod columns;
+mod reader;
 
 use type_formula_tests::reference::{
-    read_file, Node, Verdict, COLUMNS, FORMULA_LENGTH, NODE_NOT_BELOW_COUNT,
-    RESULT_SLICE_TOO_SHORT, SCHEMA_LENGTH, WORK_SPACE_TOO_SHORT,
+    Verdict, COLUMNS, FORMULA_LENGTH, NODE_NOT_BELOW_COUNT, RESULT_SLICE_TOO_SHORT, SCHEMA_LENGTH,
+    WORK_SPACE_TOO_SHORT,
 };
 
-use self::columns::{lowest, read_column, step, write_column};
+use self::columns::{lowest, read_column, write_formula};
+use self::reader::{accept, File};
 
-fn fill(relations: u8, nodes: &[Node], work: &mut [u8]) {
-    for (number, node) in nodes.iter().enumerate() {
+fn fill(file: File, work: &mut [u8]) {
+    file.each_node(|number, node| {
         let (earlier, formula) = work.split_at_mut(FORMULA_LENGTH * number);
-        for column in 0..COLUMNS {
-            write_column(formula, column, &step(node, column, relations, earlier));
-        }
-    }
+        write_formula(node, file.relations, earlier, formula);
+    });
 }
 
-/// Formula; reads the file as the reference does.
+/// Formula.
 pub fn formula(bytes: &[u8], work: &mut [u8]) -> u8 {
-    let file = match read_file(bytes) {
+    let file = match accept(bytes) {
         Ok(file) => file,
         Err(refusal) => return refusal,
     };
-    if work.len() < FORMULA_LENGTH * file.nodes.len() {
+    if work.len() < FORMULA_LENGTH * usize::from(file.nodes) {
         return WORK_SPACE_TOO_SHORT;
     }
-    fill(file.relations, &file.nodes, work);
+    fill(file, work);
     0
 }
 
@@ -44,23 +44,23 @@ fn witness(work: &[u8], node: u8) -> Result<[u16; 8], u8> {
     Ok(maps)
 }
 
-/// Verdict; reads the file as the reference does.
+/// Verdict.
 pub fn verdict(bytes: &[u8], node: usize, work: &mut [u8], schema: &mut [u8]) -> Verdict {
     let refused = |number| Verdict::Refused { number };
-    let file = match read_file(bytes) {
+    let file = match accept(bytes) {
         Ok(file) => file,
         Err(refusal) => return refused(refusal),
     };
-    if node >= file.nodes.len() {
+    if node >= usize::from(file.nodes) {
         return refused(NODE_NOT_BELOW_COUNT);
     }
-    if work.len() < FORMULA_LENGTH * file.nodes.len() {
+    if work.len() < FORMULA_LENGTH * usize::from(file.nodes) {
         return refused(WORK_SPACE_TOO_SHORT);
     }
     if schema.len() < SCHEMA_LENGTH {
         return refused(RESULT_SLICE_TOO_SHORT);
     }
-    fill(file.relations, &file.nodes, work);
+    fill(file, work);
     let maps = match witness(work, node as u8) {
         Ok(maps) => maps,
         Err(attribute) => return Verdict::Untypable { attribute },
