@@ -1,12 +1,12 @@
 -- Whole bytes do what their bits do: the bytes of a step are packed from the step of each bit.
 use Prim.Native.Nat.{ℕ, _-_, _<_}
-use mathlib.Core.Path.{_≡_, refl, ap, ap₂, _∙_}
+use mathlib.Core.Path.{_≡_, refl, sym, ap, ap₂, _∙_}
 use mathlib.Core.Bool.{Bool, false, not, _&&_, _||_}
 use native.Mathlib.Nat.{lt-of-le-of-lt}
 use native.Mathlib.Omega.{arith}
 use lib.Bits.{bitAnd, bitOr, bitXor, and-le-l, or-lt, xor-lt}
 use Rattle.bits.specs.Bit.{bit, differs, bit-and, bit-or, bit-xor, bit-not}
-use Rattle.bits.specs.Pack.{pack, byte-is}
+use Rattle.bits.specs.Pack.{pack, byte-is, byte-same}
 use Rattle.column.specs.declared.steps.Combination.{Combination}
 use Rattle.column.specs.declared.steps.Combination.the-variants.{Agreeing, Merging, Disjoint}
 use Rattle.column.specs.Steps.{combinedAllowed, combinedOutput}
@@ -25,8 +25,7 @@ pub own-bits : (x : ℕ) → x < 256 → ByteOf x (bit x)
 own-bits x h = record { below = h; bits = λ i below. refl }
 
 pub no-bits : 0 ≡ pack 8 (λ i. false)
-unfolding pack
-no-bits = refl
+no-bits = sym (byte-same false)
 
 module _ {x y : ℕ} {f g : ℕ → Bool} (b : ByteOf x f) (d : ByteOf y g) where
   pub and-bits : ByteOf (bitAnd x y) (λ i. f i && g i)

@@ -18,14 +18,14 @@ abbrev fieldsRead : ℕ → ℕ → ℕ → List ℕ → Reading
 fieldsRead m k map bytes = withNode (nodeWith map (valueOf map bytes)) (checkFields m k map bytes)
 
 five-fields : (m k map x y z u v : ℕ) (r : List ℕ) → legal map ≡ true → fieldsRead m k map (x ∷ y ∷ z ∷ u ∷ v ∷ r) ≡ fieldsRead m k map (x ∷ y ∷ z ∷ u ∷ v ∷ [])
-unfolding checkFields sizeOf refuse
+unfolding checkFields sizeOf
 five-fields m k map x y z u v r =
     legal-cases map (λ (c : ℕ). fieldsRead m k c (x ∷ y ∷ z ∷ u ∷ v ∷ r) ≡ fieldsRead m k c (x ∷ y ∷ z ∷ u ∷ v ∷ []))
-    (ap (withNode _) (refuse-passes _ _ _ _ (le-ltb (length (x ∷ y ∷ z ∷ u ∷ v ∷ r)) 2 (omega arith))))
-    (ap (withNode _) (refuse-passes _ _ _ _ (le-ltb (length (x ∷ y ∷ z ∷ u ∷ v ∷ r)) 4 (omega arith))))
-    (ap (withNode _) (refuse-passes _ _ _ _ (le-ltb (length (x ∷ y ∷ z ∷ u ∷ v ∷ r)) 5 (omega arith))))
-    (ap (withNode _) (refuse-passes _ _ _ _ (le-ltb (length (x ∷ y ∷ z ∷ u ∷ v ∷ r)) 4 (omega arith))))
-    (ap (withNode _) (refuse-passes _ _ _ _ (le-ltb (length (x ∷ y ∷ z ∷ u ∷ v ∷ r)) 3 (omega arith))))
+    (ap (withNode _) (refuse-passes _ _ _ _ (le-ltb (length (x ∷ y ∷ z ∷ u ∷ v ∷ r)) 2 (omega arith)) ∙ sym (refuse-passes _ _ _ _ (le-ltb (length (x ∷ y ∷ z ∷ u ∷ v ∷ [])) 2 (omega arith)))))
+    (ap (withNode _) (refuse-passes _ _ _ _ (le-ltb (length (x ∷ y ∷ z ∷ u ∷ v ∷ r)) 4 (omega arith)) ∙ sym (refuse-passes _ _ _ _ (le-ltb (length (x ∷ y ∷ z ∷ u ∷ v ∷ [])) 4 (omega arith)))))
+    (ap (withNode _) (refuse-passes _ _ _ _ (le-ltb (length (x ∷ y ∷ z ∷ u ∷ v ∷ r)) 5 (omega arith)) ∙ sym (refuse-passes _ _ _ _ (le-ltb (length (x ∷ y ∷ z ∷ u ∷ v ∷ [])) 5 (omega arith)))))
+    (ap (withNode _) (refuse-passes _ _ _ _ (le-ltb (length (x ∷ y ∷ z ∷ u ∷ v ∷ r)) 4 (omega arith)) ∙ sym (refuse-passes _ _ _ _ (le-ltb (length (x ∷ y ∷ z ∷ u ∷ v ∷ [])) 4 (omega arith)))))
+    (ap (withNode _) (refuse-passes _ _ _ _ (le-ltb (length (x ∷ y ∷ z ∷ u ∷ v ∷ r)) 3 (omega arith)) ∙ sym (refuse-passes _ _ _ _ (le-ltb (length (x ∷ y ∷ z ∷ u ∷ v ∷ [])) 3 (omega arith)))))
 
 five-bytes : (m k x y z u v : ℕ) (r : List ℕ) → readNode m k (x ∷ y ∷ z ∷ u ∷ v ∷ r) ≡ readNode m k (x ∷ y ∷ z ∷ u ∷ v ∷ [])
 unfolding readNode checkNode nodeOf
