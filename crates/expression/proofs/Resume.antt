@@ -16,7 +16,7 @@ use Rattle.node.specs.declared.reader.Reading.the-variants.{Read, Refused as No
 use Rattle.expression.specs.declared.files.Acceptance.{Acceptance}
 use Rattle.expression.specs.declared.files.Acceptance.the-variants.{Accepted, Refused}
 use Rattle.node.specs.ReadNode.{readNode}
-use Rattle.node.specs.Legal.{node-legal}
+use Rattle.node.specs.Reading.{node-legal}
 use Rattle.expression.specs.ReadFile.{Nodes, follow, atEnd, readNodes, collect, answer}
 
 abbrev pub resumed : List ℕ → ℕ → ℕ → ℕ → ℕ → Acceptance

@@ -19,7 +19,7 @@ use Rattle.expression.specs.declared.files.Acceptance.{Acceptance}
 use Rattle.expression.specs.declared.files.Acceptance.the-variants.{Accepted, Refused}
 use Rattle.node.specs.ReadNode.{readNode}
 use Rattle.expression.specs.ReadFile.{Entry, Nodes, nodesRefused, nodesRead, precede, follow, readNodes, collect, afterHeader, header, parse, answer, acceptance, entriesIn, entriesOf}
-use Rattle.node.specs.Legal.{node-legal, node-refused}
+use Rattle.node.specs.Reading.{node-legal, node-refused}
 
 -- ---- the counts
 

@@ -17,7 +17,7 @@ use Rattle.expression.specs.declared.files.Acceptance.{Acceptance}
 use Rattle.expression.specs.declared.files.Acceptance.the-variants.{Accepted, Refused}
 use Rattle.node.specs.ReadNode.{readNode}
 use Rattle.expression.specs.ReadFile.{Entry, Nodes, nodesRead, nodesRefused, precede, follow, readNodes, header, collect, afterHeader, parse, answer, acceptance}
-use Rattle.node.specs.Legal.{node-legal}
+use Rattle.node.specs.Reading.{node-legal}
 use Rattle.node.specs.Enough.{node-enough}
 use Rattle.expression.specs.Accepted.{header-counts}
 

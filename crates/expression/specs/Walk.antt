@@ -14,7 +14,8 @@ use Rattle.node.specs.declared.reader.Reading.the-variants.{Read}
 use Rattle.expression.specs.declared.files.Acceptance.the-variants.{Accepted}
 use Rattle.node.specs.ReadNode.{sizeOf, legal, Checked, nodeOf, readNode}
 use Rattle.expression.specs.ReadFile.{Entry, nodesRead, atEnd, readNodes, acceptance, entriesOf, entryAt, nodeAt, sizeAt, total, startAt}
-use Rattle.node.specs.Legal.{LegalNode, checked-some, read-checked, node-legal}
+use Rattle.node.specs.Legal.{LegalNode}
+use Rattle.node.specs.Reading.{checked-some, read-checked, node-legal}
 use Rattle.expression.specs.Accepted.{FirstNode, first-node, accepted-file}
 
 -- past the last node

@@ -1,4 +1,4 @@
--- What a node that was read gives: its operands are earlier, its relation is below m, its attributes are special, its set has bit 0 clear.
+-- What passes a check: a legal map, and a node whose operands are earlier, whose relation is below m, whose attributes are special, whose set has bit 0 clear.
 use Prim.Native.Nat.{ℕ, _+_, _*_, _%_, _<_, _≤_}
 use mathlib.Core.Path.{_≡_, refl, sym, ap, subst, _∙_}
 use mathlib.Core.Bool.{Bool, true, false, _||_}
@@ -9,7 +9,7 @@ use lib.Dec.{T, eqb, leb, lit≤}
 use lib.ListN.{length, getD}
 use Rattle.bits.specs.Bit.{bit, bit-first}
 use Rattle.attribute_set.specs.AttrSet.{special}
-use Rattle.attribute_set.specs.Laws.{Clear, clear-set, clear-lacks, has-set}
+use Rattle.attribute_set.specs.Laws.{Clear, clear-set}
 use Rattle.refusal.specs.Number.{numberOf}
 use Rattle.refusal.specs.Chain.{refuse, refuse-has}
 use Rattle.refusal.specs.declared.Refusal.{Refusal}
@@ -17,8 +17,7 @@ use Rattle.node.specs.declared.nodes.Node.{Node}
 use Rattle.node.specs.declared.nodes.Node.the-variants.{Relation, Binary, WithSet, Renaming, ProjectingOut}
 use Rattle.node.specs.declared.reader.Check.{Check}
 use Rattle.node.specs.declared.reader.Check.the-variants.{Legal, Refused}
-use Rattle.node.specs.declared.reader.Reading.the-variants.{Read, Refused as ReadingRefused}
-use Rattle.node.specs.ReadNode.{attributes, sizeOf, valueOf, legal, checkFields, checkNode, Checked, nodeWith, nodeOf, withNode, readNode}
+use Rattle.node.specs.ReadNode.{sizeOf, valueOf, legal, checkFields, checkNode, nodeWith, nodeOf}
 
 -- a legal map is one of five
 pub legal-cases : (map : ℕ) (P : ℕ → Type 0) → P 1 → P 14 → P 26 → P 98 → P 34 → legal map ≡ true → P map
@@ -45,8 +44,8 @@ last-map map ok =
     ok
 
 -- the low bit of two bytes is that of the first
-pub bit-low : (low high : ℕ) → bit (low + high * 256) 0 ≡ eqb (low % 2) 1
-bit-low low high = let same : (low + high * 256) % 2 ≡ low % 2 = omega arith in bit-first (low + high * 256) ∙ ap (λ (x : ℕ). eqb x 1) same
+pub first-bit : (low high : ℕ) → bit (low + high * 256) 0 ≡ eqb (low % 2) 1
+first-bit low high = let same : (low + high * 256) % 2 ≡ low % 2 = omega arith in bit-first (low + high * 256) ∙ ap (λ (x : ℕ). eqb x 1) same
 
 -- node k of a file with m relations
 abbrev pub LegalNode : ℕ → ℕ → Node → Type 0
@@ -141,74 +140,5 @@ passed-is (passed map-is size-is reading) = record { map-legal = map-is; size-is
 pub node-passed : (m k : ℕ) (bytes : List ℕ) (size : ℕ) → checkNode m k bytes ≡ Legal size → Passed m k bytes size
 node-passed m k bytes size e = passed-is (subst (Judged m k (getD bytes 0 0) bytes) e (node-judged m k bytes))
 
-refused-number : {m k map : ℕ} {bytes : List ℕ} {r : Refusal} → Judged m k map bytes (Refused r) → numberOf r ≤ 10
+pub refused-number : {m k map : ℕ} {bytes : List ℕ} {r : Refusal} → Judged m k map bytes (Refused r) → numberOf r ≤ 10
 refused-number (refused h) = h
-
--- ---- checked bytes
-
-pub checked-legal : (bytes : List ℕ) → Checked bytes → legal (getD bytes 0 0) ≡ true
-checked-legal bytes c = node-passed _ _ bytes _ (c .passed) .map-legal
-
-pub checked-some : (bytes : List ℕ) → Checked bytes → 0 < length bytes
-checked-some bytes c =
-    let p = node-passed _ _ bytes _ (c .passed) .reading in
-    let fits = p .fits in
-    let least = p .least in
-    omega arith
-
-module _ (bytes : List ℕ) (map : ℕ) (is : getD bytes 0 0 ≡ map) where
-  -- they are as many as a node with their map has
-  pub checked-long : Checked bytes → sizeOf map ≤ length bytes
-  checked-long c =
-      let p = node-passed _ _ bytes _ (c .passed) in
-      subst (λ (size : ℕ). size ≤ length bytes) (p .size-is ∙ ap sizeOf is) (p .reading .fits)
-
-  -- their node, by their map
-  pub node-is : nodeWith map (valueOf map bytes) ≡ nodeOf bytes
-  unfolding nodeOf
-  node-is = ap (λ (x : ℕ). nodeWith x (valueOf x bytes)) (sym is)
-
--- their set has bit 0 clear
-pub checked-set : (bytes : List ℕ) → getD bytes 0 0 ≡ 26 → Checked bytes → bit (valueOf 26 bytes attributes) 0 ≡ false
-checked-set bytes is c =
-    let ok = subst (LegalNode (c .m) (c .k)) (sym (node-is bytes 26 is)) (node-passed _ _ bytes _ (c .passed) .reading .legal) in
-    sym (has-set _ 0) ∙ clear-lacks _ (ok .1)
-
--- ---- check and reading
-
-module _ (m k : ℕ) (bytes : List ℕ) where
-  pub checked-read : (size : ℕ) → checkNode m k bytes ≡ Legal size → readNode m k bytes ≡ Read (nodeOf bytes) size
-  unfolding readNode
-  checked-read size e = ap (withNode (nodeOf bytes)) e
-
-  pub checked-refused : (r : Refusal) → checkNode m k bytes ≡ Refused r → readNode m k bytes ≡ ReadingRefused r
-  unfolding readNode
-  checked-refused r e = ap (withNode (nodeOf bytes)) e
-
-  pub read-checked : (node : Node) (size : ℕ) → readNode m k bytes ≡ Read node size → (checkNode m k bytes ≡ Legal size) × (node ≡ nodeOf bytes) × (size ≡ sizeOf (getD bytes 0 0)) × (legal (getD bytes 0 0) ≡ true)
-  unfolding readNode
-  read-checked node size = go (checkNode m k bytes) refl
-    where
-      go : (c : Check) → checkNode m k bytes ≡ c → withNode (nodeOf bytes) c ≡ Read node size → (checkNode m k bytes ≡ Legal size) × (node ≡ nodeOf bytes) × (size ≡ sizeOf (getD bytes 0 0)) × (legal (getD bytes 0 0) ≡ true)
-      go (Refused r) e h = absurd (let z : _≡_ {A = ℕ} 0 1 = cc in omega arith)
-      go (Legal s) e h =
-          let same : s ≡ size = cc in
-          let check : checkNode m k bytes ≡ Legal size = e ∙ ap Legal same in
-          let p = node-passed m k bytes size check in
-          (check, cc, p .size-is, p .map-legal)
-
-  pub read-refused : (r : Refusal) → readNode m k bytes ≡ ReadingRefused r → checkNode m k bytes ≡ Refused r
-  unfolding readNode
-  read-refused r = go (checkNode m k bytes) refl
-    where
-      go : (c : Check) → checkNode m k bytes ≡ c → withNode (nodeOf bytes) c ≡ ReadingRefused r → checkNode m k bytes ≡ Refused r
-      go (Refused q) e h = let same : q ≡ r = cc in e ∙ ap Refused same
-      go (Legal s) e h = absurd (let z : _≡_ {A = ℕ} 0 1 = cc in omega arith)
-
-pub node-legal : (m k : ℕ) (bytes : List ℕ) (node : Node) (size : ℕ) → readNode m k bytes ≡ Read node size → LegalReading m k bytes node size
-node-legal m k bytes node size e =
-    let c = read-checked m k bytes node size e in
-    subst (λ (x : Node). LegalReading m k bytes x size) (sym (c .1)) (node-passed m k bytes size (c .0) .reading)
-
-pub node-refused : (m k : ℕ) (bytes : List ℕ) (r : Refusal) → readNode m k bytes ≡ ReadingRefused r → numberOf r ≤ 10
-node-refused m k bytes r e = refused-number (subst (Judged m k (getD bytes 0 0) bytes) (read-refused m k bytes r e) (node-judged m k bytes))

@@ -1,4 +1,5 @@
 pub mod Operators
 pub mod ReadNode
 pub mod Legal
+pub mod Reading
 pub mod Enough

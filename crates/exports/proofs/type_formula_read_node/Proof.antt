@@ -1,7 +1,7 @@
 use mathlib.Core.Path.{sym, ap, _∙_}
 use native.Mathlib.Nat.{mod-eq-of-lt, lt-of-le-of-lt}
 use lib.Dec.{lit<}
-use Rattle.node.specs.Legal.{node-legal}
+use Rattle.node.specs.Reading.{node-legal}
 use Rattle.exports.specs.Numbers.{readingNumber}
 use borrow.Author.Needs.{needs}
 use Rattle.exports.proofs.type_formula_read_node.Statement.{statement}

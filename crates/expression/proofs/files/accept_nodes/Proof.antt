@@ -2,7 +2,7 @@ use Prim.Native.Nat.{_-_, _≤_}
 use mathlib.Core.Path.{_≡_, sym, _∙_}
 use native.Mathlib.Omega.{arith}
 use lib.ListN.{length}
-use Rattle.node.specs.Legal.{checked-read, checked-refused}
+use Rattle.node.specs.Reading.{checked-read, checked-refused}
 use Rattle.expression.proofs.Resume.{outcome, resumed, resumed-start, resumed-next, resumed-refused, resumed-followed, resumed-end, size-fits}
 use borrow.Author.Needs.{needs}
 use Rattle.expression.proofs.files.accept_nodes.Statement.{statement}

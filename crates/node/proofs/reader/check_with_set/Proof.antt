@@ -1,6 +1,6 @@
 use borrow.Author.Tests.{le-ltb, lt-leb, eq-eqb, ne-eqb}
 use Rattle.refusal.specs.Chain.{refuse, chain}
-use Rattle.node.specs.Legal.{bit-low}
+use Rattle.node.specs.Legal.{first-bit}
 use Rattle.node.specs.ReadNode.{checkFields, sizeOf}
 use borrow.Author.Needs.{needs}
 use Rattle.node.proofs.reader.check_with_set.Statement.{statement}
@@ -32,11 +32,11 @@ shared-slice-read-if4 c = search needs
 
 returns-4 : tie.Need-returns-4
 unfolding checkFields sizeOf refuse
-returns-4 c = simp (le-ltb _ _ (c .before .before .before .before .before .before .before .if1 .left), lt-leb _ _ (c .before .before .before .before .before .if2 .left), ← c .before .before .before .in-range .ensures, c .before .before .if3 .left, bit-low, eq-eqb _ _ (c .if4 .taken))
+returns-4 c = simp (le-ltb _ _ (c .before .before .before .before .before .before .before .if1 .left), lt-leb _ _ (c .before .before .before .before .before .if2 .left), ← c .before .before .before .in-range .ensures, c .before .before .if3 .left, first-bit, eq-eqb _ _ (c .if4 .taken))
 
 returns-5 : tie.Need-returns-5
 unfolding checkFields sizeOf refuse
-returns-5 c = simp (le-ltb _ _ (c .before .before .before .before .before .before .before .if1 .left), lt-leb _ _ (c .before .before .before .before .before .if2 .left), ← c .before .before .before .in-range .ensures, c .before .before .if3 .left, bit-low, ne-eqb _ _ (c .if4 .left))
+returns-5 c = simp (le-ltb _ _ (c .before .before .before .before .before .before .before .if1 .left), lt-leb _ _ (c .before .before .before .before .before .if2 .left), ← c .before .before .before .in-range .ensures, c .before .before .if3 .left, first-bit, ne-eqb _ _ (c .if4 .left))
 
 pub check-with-set-spec : {M : Type 1} → statement M
 check-with-set-spec =

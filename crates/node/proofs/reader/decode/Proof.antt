@@ -1,5 +1,6 @@
 use native.Mathlib.Omega.{arith}
-use Rattle.node.specs.Legal.{last-map, checked-legal, checked-some, checked-long, node-is}
+use Rattle.node.specs.Legal.{last-map}
+use Rattle.node.specs.Reading.{checked-legal, checked-some, checked-long, node-is}
 use Rattle.node.specs.ReadNode.{sizeOf}
 use borrow.Author.Needs.{needs}
 use Rattle.node.proofs.reader.decode.Statement.{statement}

@@ -2,7 +2,7 @@ use mathlib.Core.Bool.{true≢false}
 use mathlib.Core.Path.{sym, _∙_}
 use native.Mathlib.Omega.{arith}
 use Rattle.attribute_set.specs.Laws.{built-none, built-set}
-use Rattle.node.specs.Legal.{checked-long, checked-set, node-is}
+use Rattle.node.specs.Reading.{checked-long, checked-set, node-is}
 use Rattle.node.specs.ReadNode.{sizeOf}
 use borrow.Author.Needs.{needs}
 use Rattle.node.proofs.reader.decode_with_set.Statement.{statement}

@@ -1,5 +1,5 @@
 use mathlib.Core.Path.{sym, _∙_}
-use Rattle.node.specs.Legal.{checked-read, checked-refused}
+use Rattle.node.specs.Reading.{checked-read, checked-refused}
 use borrow.Author.Needs.{needs}
 use Rattle.node.proofs.reader.read_node.Statement.{statement}
 use Rattle.node.proofs.reader.read_node.Tie as tie
