@@ -1,22 +1,23 @@
-// The formula of a node by its case, column by column: one loop for each, so that what depends on the node alone is outside.
+// The formula of a node by its operator, column by column: one loop for each, so that what depends on the node alone is outside.
 ghost use Prim.Native.Nat.{_+_, _*_, _≤_, _<_};
 ghost use lib.Dec.{eqb};
 ghost use lib.ListN.{length};
 ghost use Rattle.attribute_set.specs.AttrSet.{hasAttribute};
-ghost use Rattle.column.specs.Steps.{setStep, renamingStep, projectingOutStep, combinationOf};
+ghost use Rattle.node.specs.declared.nodes.SetOp.the-variants.{Selection, Projection};
+ghost use Rattle.column.specs.declared.steps.Combination.the-variants.{Agreeing, Merging, Disjoint};
+ghost use Rattle.column.specs.Steps.{setStep, renamingStep, projectingOutStep};
 ghost use Rattle.column.specs.Column.{unaryColumn, combinedColumn};
 ghost use Rattle.formula.specs.Storage.{columnAt};
 ghost use Rattle.formula.specs.Columns.{Columns};
 use crate::storage::read_column;
 use crate::storage::write_column;
 use attribute_set::AttrSet;
-use column::combination_of;
+use column::Combination;
 use column::combined_column;
 use column::projecting_out_step;
 use column::renaming_column;
 use column::set_step;
 use column::unary_column;
-use node::BinaryOp;
 use node::SetOp;
 
 // A relation's columns are all the same.
@@ -32,17 +33,17 @@ pub fn fill_relation(own: [u8; 64], k: u8, work: &mut [u8])
     }
 }
 
-// An operator of two operands.
-pub fn fill_binary(op: BinaryOp, l: u8, r: u8, k: u8, work: &mut [u8])
+// A union or a difference.
+pub fn fill_union(l: u8, r: u8, k: u8, work: &mut [u8])
     requires { ⌜ k * 1024 + 1024 ≤ length (now work) ⌝ }
     requires { ⌜ (l < k) × (r < k) ⌝ }
-    ensures { λ _. ⌜ Columns (λ c. combinedColumn (combinationOf op) (columnAt (now (work .entry)) l c) (columnAt (now (work .entry)) r c)) (k * 1024) 16 (now (work .entry)) (now (work .exit)) ⌝ }
+    ensures { λ _. ⌜ Columns (λ c. combinedColumn Agreeing (columnAt (now (work .entry)) l c) (columnAt (now (work .entry)) r c)) (k * 1024) 16 (now (work .entry)) (now (work .exit)) ⌝ }
 {
     let start = k as usize * 1024;
     let mut c = 0;
     while c < 16 {
         let column = combined_column(
-            combination_of(op),
+            Combination::Agreeing,
             read_column(work, l, c),
             read_column(work, r, c),
         );
@@ -51,16 +52,75 @@ pub fn fill_binary(op: BinaryOp, l: u8, r: u8, k: u8, work: &mut [u8])
     }
 }
 
-// An operator of one operand and an attribute set.
-pub fn fill_with_set(op: SetOp, l: u8, s: AttrSet, k: u8, work: &mut [u8])
+// A natural join.
+pub fn fill_join(l: u8, r: u8, k: u8, work: &mut [u8])
     requires { ⌜ k * 1024 + 1024 ≤ length (now work) ⌝ }
-    requires { ⌜ l < k ⌝ }
-    ensures { λ _. ⌜ Columns (λ c. unaryColumn (setStep op (hasAttribute s c)) (columnAt (now (work .entry)) l c)) (k * 1024) 16 (now (work .entry)) (now (work .exit)) ⌝ }
+    requires { ⌜ (l < k) × (r < k) ⌝ }
+    ensures { λ _. ⌜ Columns (λ c. combinedColumn Merging (columnAt (now (work .entry)) l c) (columnAt (now (work .entry)) r c)) (k * 1024) 16 (now (work .entry)) (now (work .exit)) ⌝ }
 {
     let start = k as usize * 1024;
     let mut c = 0;
     while c < 16 {
-        let column = unary_column(set_step(op, s.has(c)), read_column(work, l, c));
+        let column = combined_column(
+            Combination::Merging,
+            read_column(work, l, c),
+            read_column(work, r, c),
+        );
+        write_column(&mut work[start..], c, column);
+        c += 1;
+    }
+}
+
+// A product.
+pub fn fill_product(l: u8, r: u8, k: u8, work: &mut [u8])
+    requires { ⌜ k * 1024 + 1024 ≤ length (now work) ⌝ }
+    requires { ⌜ (l < k) × (r < k) ⌝ }
+    ensures { λ _. ⌜ Columns (λ c. combinedColumn Disjoint (columnAt (now (work .entry)) l c) (columnAt (now (work .entry)) r c)) (k * 1024) 16 (now (work .entry)) (now (work .exit)) ⌝ }
+{
+    let start = k as usize * 1024;
+    let mut c = 0;
+    while c < 16 {
+        let column = combined_column(
+            Combination::Disjoint,
+            read_column(work, l, c),
+            read_column(work, r, c),
+        );
+        write_column(&mut work[start..], c, column);
+        c += 1;
+    }
+}
+
+// A selection.
+pub fn fill_selection(l: u8, s: AttrSet, k: u8, work: &mut [u8])
+    requires { ⌜ k * 1024 + 1024 ≤ length (now work) ⌝ }
+    requires { ⌜ l < k ⌝ }
+    ensures { λ _. ⌜ Columns (λ c. unaryColumn (setStep Selection (hasAttribute s c)) (columnAt (now (work .entry)) l c)) (k * 1024) 16 (now (work .entry)) (now (work .exit)) ⌝ }
+{
+    let start = k as usize * 1024;
+    let mut c = 0;
+    while c < 16 {
+        let column = unary_column(
+            set_step(SetOp::Selection, s.has(c)),
+            read_column(work, l, c),
+        );
+        write_column(&mut work[start..], c, column);
+        c += 1;
+    }
+}
+
+// A projection.
+pub fn fill_projection(l: u8, s: AttrSet, k: u8, work: &mut [u8])
+    requires { ⌜ k * 1024 + 1024 ≤ length (now work) ⌝ }
+    requires { ⌜ l < k ⌝ }
+    ensures { λ _. ⌜ Columns (λ c. unaryColumn (setStep Projection (hasAttribute s c)) (columnAt (now (work .entry)) l c)) (k * 1024) 16 (now (work .entry)) (now (work .exit)) ⌝ }
+{
+    let start = k as usize * 1024;
+    let mut c = 0;
+    while c < 16 {
+        let column = unary_column(
+            set_step(SetOp::Projection, s.has(c)),
+            read_column(work, l, c),
+        );
         write_column(&mut work[start..], c, column);
         c += 1;
     }

@@ -3,22 +3,70 @@ ghost use mathlib.Core.Path.{_≡_};
 ghost use Prim.Native.Nat.{_+_, _*_, _^_, _≤_, _<_};
 ghost use lib.ListN.{length};
 ghost use Rattle.bits.specs.Tab.{over};
+ghost use Rattle.attribute_set.specs.AttrSet.{hasAttribute};
 ghost use Rattle.node.specs.Legal.{LegalNode};
 ghost use Rattle.expression.specs.ReadFile.{acceptance, sizeAt};
 ghost use Rattle.expression.specs.declared.files.Acceptance.the-variants.{Accepted};
+ghost use Rattle.column.specs.Steps.{setStep, combinationOf};
+ghost use Rattle.column.specs.Column.{unaryColumn, combinedColumn};
+ghost use Rattle.formula.specs.Storage.{columnAt};
 ghost use Rattle.formula.specs.NodeColumn.{nodeColumns};
 ghost use Rattle.formula.specs.Columns.{Columns};
 ghost use Rattle.formula.specs.Stored.{formulasOf};
 ghost use Rattle.formula.specs.Filling.{Here, FilledTo};
-use crate::columns::fill_binary;
+use crate::columns::fill_join;
+use crate::columns::fill_product;
 use crate::columns::fill_projecting_out;
+use crate::columns::fill_projection;
 use crate::columns::fill_relation;
 use crate::columns::fill_renaming;
-use crate::columns::fill_with_set;
+use crate::columns::fill_selection;
+use crate::columns::fill_union;
+use attribute_set::AttrSet;
 use column::relation_column;
+use node::BinaryOp;
 use node::Node;
+use node::SetOp;
 use node::decode;
 use node::size_of;
+
+// The formula of node k, an operator of two operands.
+fn fill_binary(op: BinaryOp, l: u8, r: u8, k: u8, work: &mut [u8])
+    requires { ⌜ k * 1024 + 1024 ≤ length (now work) ⌝ }
+    requires { ⌜ (l < k) × (r < k) ⌝ }
+    ensures { λ _. ⌜ Columns (λ c. combinedColumn (combinationOf op) (columnAt (now (work .entry)) l c) (columnAt (now (work .entry)) r c)) (k * 1024) 16 (now (work .entry)) (now (work .exit)) ⌝ }
+{
+    match op {
+        BinaryOp::Union => {
+            fill_union(l, r, k, work);
+        }
+        BinaryOp::Difference => {
+            fill_union(l, r, k, work);
+        }
+        BinaryOp::Join => {
+            fill_join(l, r, k, work);
+        }
+        BinaryOp::Product => {
+            fill_product(l, r, k, work);
+        }
+    }
+}
+
+// The formula of node k, an operator of one operand and an attribute set.
+fn fill_with_set(op: SetOp, l: u8, s: AttrSet, k: u8, work: &mut [u8])
+    requires { ⌜ k * 1024 + 1024 ≤ length (now work) ⌝ }
+    requires { ⌜ l < k ⌝ }
+    ensures { λ _. ⌜ Columns (λ c. unaryColumn (setStep op (hasAttribute s c)) (columnAt (now (work .entry)) l c)) (k * 1024) 16 (now (work .entry)) (now (work .exit)) ⌝ }
+{
+    match op {
+        SetOp::Selection => {
+            fill_selection(l, s, k, work);
+        }
+        SetOp::Projection => {
+            fill_projection(l, s, k, work);
+        }
+    }
+}
 
 // The formula of node k, whose operands' formulas stand in the work space.
 fn fill_formula(node: Node, m: u8, k: u8, work: &mut [u8])

@@ -7,30 +7,30 @@ use borrow.Rule.Slice.PartMut.{mid-len}
 use lib.ListN.{length}
 use Rattle.attribute_set.specs.AttrSet.{hasAttribute}
 use Rattle.attribute_set.specs.declared.AttrSet.{AttrSet}
-use Rattle.node.specs.declared.nodes.SetOp.{SetOp}
+use Rattle.node.specs.declared.nodes.SetOp.the-variants.{Projection}
 use Rattle.column.specs.Steps.{setStep}
 use Rattle.column.specs.Column.{unaryColumn}
 use Rattle.formula.specs.Storage.{columnAt}
 use Rattle.formula.specs.Columns.{Columns, columns-none, columns-more, columns-before}
 use borrow.Author.Needs.{needs}
-use Rattle.formula.proofs.columns.fill_with_set.Statement.{statement}
-use Rattle.formula.proofs.columns.fill_with_set.Tie as tie
+use Rattle.formula.proofs.columns.fill_projection.Statement.{statement}
+use Rattle.formula.proofs.columns.fill_projection.Tie as tie
 
 -- column c
-abbrev column : SetOp → ℕ → AttrSet → List ℕ → ℕ → List ℕ
-column op l s work c = unaryColumn (setStep op (hasAttribute s c)) (columnAt work l c)
+abbrev column : ℕ → AttrSet → List ℕ → ℕ → List ℕ
+column l s work c = unaryColumn (setStep Projection (hasAttribute s c)) (columnAt work l c)
 
 abbrev Inv-loop : tie.InvT-loop
-Inv-loop op l s k work₀ start c₀ work c = (c ≤ 16) × Columns (column op l s work₀) (k * 1024) c work₀ work
+Inv-loop l s k work₀ start c₀ work c = (c ≤ 16) × Columns (column l s work₀) (k * 1024) c work₀ work
 
 abbrev μ-loop : tie.MeasureT-loop
-μ-loop op l s k work₀ start c₀ work c = 16 - c
+μ-loop l s k work₀ start c₀ work c = 16 - c
 
 mul-start : tie.Need-mul-start Inv-loop μ-loop
 mul-start c = search needs
 
 loop-holds : tie.Need-loop-holds Inv-loop μ-loop
-loop-holds c = (omega arith, columns-none (column (c .before .args .op) (c .before .args .l) (c .before .args .s) (c .before .args .work .now)) (c .before .args .k * 1024) (c .before .args .work .now))
+loop-holds c = (omega arith, columns-none (column (c .before .args .l) (c .before .args .s) (c .before .args .work .now)) (c .before .args .k * 1024) (c .before .args .work .now))
 
 has-requires : tie.Need-has-requires Inv-loop μ-loop
 has-requires c κs = search needs
@@ -78,8 +78,8 @@ loop-again c =
     let fits = c .before .before .before .before .before .before .before .before .before .before .before .before .pre .0 in
     let below0 = c .before .before .before .before .before .before .before .before .before .before .before .before .pre .1 in
     let taken = c .before .before .before .before .before .before .before .before .before .loop-test .taken in
-    let operand0 = c .before .before .before .before .before .read-column .ensures ∙ columns-before (column (c .before .before .before .before .before .before .before .before .before .before .before .before .args .op) (c .before .before .before .before .before .before .before .before .before .before .before .before .args .l) (c .before .before .before .before .before .before .before .before .before .before .before .before .args .s) (c .before .before .before .before .before .before .before .before .before .before .before .before .args .work .now)) (c .before .before .before .before .before .before .before .before .before .before .before .before .args .k * 1024) (c .before .before .before .before .before .before .before .before .before .before .before .before .args .work .now) (c .before .before .before .before .before .before .before .before .before .before .loop .c) (c .before .before .before .before .before .before .before .before .before .before .before .before .args .l) (c .before .before .before .before .before .before .before .before .before .before .loop .c) (c .before .before .before .before .before .before .before .before .before .before .loop .work) (omega arith) (omega arith) (c .before .before .before .before .before .before .before .before .before .loop-test .taken) (c .before .before .before .before .before .before .before .before .before .before .loop .inv .1) in
-    (omega arith, columns-more (column (c .before .before .before .before .before .before .before .before .before .before .before .before .args .op) (c .before .before .before .before .before .before .before .before .before .before .before .before .args .l) (c .before .before .before .before .before .before .before .before .before .before .before .before .args .s) (c .before .before .before .before .before .before .before .before .before .before .before .before .args .work .now)) (c .before .before .before .before .before .before .before .before .before .before .before .before .args .k * 1024) (c .before .before .before .before .before .before .before .before .before .before .before .before .args .work .now) (c .before .before .before .before .before .before .before .before .before .before .loop .c) (c .before .before .before .before .before .before .before .before .before .before .loop .work) (c .before .before .before .before .unary-column .result) _ (c .before .before .before .before .before .before .before .before .before .loop-test .taken) (omega arith) (search needs) (c .before .before .before .before .unary-column .ensures ∙ ap₂ unaryColumn (c .before .before .before .before .before .before .before .set-step .ensures ∙ ap (setStep (c .before .before .before .before .before .before .before .before .before .before .before .before .args .op)) (c .before .before .before .before .before .before .before .before .has .ensures)) operand0) (c .before .before .write-column .ensures) (c .before .before .before .before .before .before .before .before .before .before .loop .inv .1))
+    let operand0 = c .before .before .before .before .before .read-column .ensures ∙ columns-before (column (c .before .before .before .before .before .before .before .before .before .before .before .before .args .l) (c .before .before .before .before .before .before .before .before .before .before .before .before .args .s) (c .before .before .before .before .before .before .before .before .before .before .before .before .args .work .now)) (c .before .before .before .before .before .before .before .before .before .before .before .before .args .k * 1024) (c .before .before .before .before .before .before .before .before .before .before .before .before .args .work .now) (c .before .before .before .before .before .before .before .before .before .before .loop .c) (c .before .before .before .before .before .before .before .before .before .before .before .before .args .l) (c .before .before .before .before .before .before .before .before .before .before .loop .c) (c .before .before .before .before .before .before .before .before .before .before .loop .work) (omega arith) (omega arith) (c .before .before .before .before .before .before .before .before .before .loop-test .taken) (c .before .before .before .before .before .before .before .before .before .before .loop .inv .1) in
+    (omega arith, columns-more (column (c .before .before .before .before .before .before .before .before .before .before .before .before .args .l) (c .before .before .before .before .before .before .before .before .before .before .before .before .args .s) (c .before .before .before .before .before .before .before .before .before .before .before .before .args .work .now)) (c .before .before .before .before .before .before .before .before .before .before .before .before .args .k * 1024) (c .before .before .before .before .before .before .before .before .before .before .before .before .args .work .now) (c .before .before .before .before .before .before .before .before .before .before .loop .c) (c .before .before .before .before .before .before .before .before .before .before .loop .work) (c .before .before .before .before .unary-column .result) _ (c .before .before .before .before .before .before .before .before .before .loop-test .taken) (omega arith) (search needs) (c .before .before .before .before .unary-column .ensures ∙ ap₂ unaryColumn (c .before .before .before .before .before .before .before .set-step .ensures ∙ ap (setStep Projection) (c .before .before .before .before .before .before .before .before .has .ensures)) operand0) (c .before .before .write-column .ensures) (c .before .before .before .before .before .before .before .before .before .before .loop .inv .1))
 
 same-length : tie.Need-same-length Inv-loop μ-loop
 same-length c = c .before .loop .inv .1 .size
@@ -89,8 +89,8 @@ returns c =
     let all : c .before .loop .c ≡ 16 = omega arith in
     rw all at (c .before .loop .inv .1)
 
-pub fill-with-set-spec : {M : Type 1} → statement M
-fill-with-set-spec =
+pub fill-projection-spec : {M : Type 1} → statement M
+fill-projection-spec =
     tie.close
     (tie.spec
     Inv-loop
