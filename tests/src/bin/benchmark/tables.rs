@@ -82,8 +82,8 @@ fn print_comparisons() {
     }
 }
 
-/// A column of a table: its name, and the operation for each setting.
-type Column<'a> = (String, Operation, &'a [Setting]);
+/// A column of a table: its name, and what makes the operation for each setting.
+type Column<'a> = (String, (Operation, By), &'a [Setting]);
 
 /// The times of a column, each with its ratio to the one before.
 fn with_ratios(times: &[f64]) -> Vec<String> {
@@ -95,14 +95,14 @@ fn with_ratios(times: &[f64]) -> Vec<String> {
     times.iter().enumerate().map(cell).collect()
 }
 
-/// The engine's times as a table; the batches of all its calls alternate. Each row is for
+/// Times as a table; the batches of all its calls alternate. Each row is for
 /// one of the counts and for the setting at its place.
 fn print_doubling(title: &str, (name, counts): (&str, &[u32]), columns: &[Column]) {
     let mut calls: Vec<Call> = Vec::new();
-    for (_, operation, settings) in columns {
+    for (_, (operation, by), settings) in columns {
         for setting in *settings {
             check(*operation, setting);
-            calls.extend(call(*operation, By::Engine, setting));
+            calls.extend(call(*operation, *by, setting));
         }
     }
     let times = medians(&calls);
@@ -117,14 +117,20 @@ fn print_doubling(title: &str, (name, counts): (&str, &[u32]), columns: &[Column
     }
 }
 
-/// The engine as nodes double.
+/// The engine, and a copy of the bytes that Formula writes, as nodes double.
 fn print_nodes() {
     let counts = [8, 16, 32, 64];
     let settings = counts.map(|count| of_nodes(count as u8));
-    let column = |operation| (format!("{operation:?}"), operation, &settings[..]);
+    let column = |operation| {
+        let call = (operation, By::Engine);
+        (format!("{operation:?}"), call, &settings[..])
+    };
+    let mut columns = OPERATIONS.map(column).to_vec();
+    let copy = (Operation::Formula, By::Copy);
+    columns.push(("copy of the formulas".into(), copy, &settings));
     let title = "As nodes double, m 8 and 15 ordinary attributes: nanoseconds, and in brackets \
                  the ratio to the row before.";
-    print_doubling(title, ("n", &counts), &OPERATIONS.map(column));
+    print_doubling(title, ("n", &counts), &columns);
 }
 
 /// The engine as attributes double, for so many nodes.
@@ -135,9 +141,9 @@ fn print_attributes(nodes: usize) {
     let mut columns: Vec<Column> = Vec::new();
     for operation in &OPERATIONS[2..] {
         let name = |lists| format!("{operation:?}, {lists}");
-        columns.push((name("three lists"), *operation, &three));
-        let each = name("one attribute in each list");
-        columns.push((each, *operation, &one_in_each));
+        let call = (*operation, By::Engine);
+        columns.push((name("three lists"), call, &three));
+        columns.push((name("one attribute in each list"), call, &one_in_each));
     }
     let title = format!(
         "As ordinary attributes double, n {nodes} and m 8: nanoseconds, and in brackets the \

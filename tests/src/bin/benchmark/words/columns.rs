@@ -153,8 +153,8 @@ fn write_columns(formula: &mut [u8], column: impl Fn(usize) -> Column) {
     }
 }
 
-/// The formula of a node from those of the earlier nodes: a loop for each case, so that what
-/// depends on the node alone is outside.
+/// The formula of a node from those of the earlier nodes: a loop for each operator, so that
+/// what depends on the node alone is outside.
 #[inline]
 pub fn write_formula(node: Node, relations: u8, earlier: &[u8], formula: &mut [u8]) {
     let read = |operand, column| read_column(earlier, operand, column);
