@@ -1,8 +1,8 @@
 #!/bin/sh
 # Prints the instructions of one call of each operation and its alternatives as a markdown
-# table. Each is counted by callgrind for two numbers of calls; the difference divided by
-# that of the calls leaves out what comes before them. A copy by one repeated instruction
-# counts as an instruction for each byte.
+# table, and those of the engine as nodes double. Each is counted by callgrind for two numbers
+# of calls; the difference divided by that of the calls leaves out what comes before them. A
+# copy by one repeated instruction counts as an instruction for each byte.
 set -eu
 cd "$(dirname "$0")"
 few=5 many=25
@@ -31,4 +31,15 @@ for operation in formula verdict typing apply recover; do
         done
         echo "$row"
     done
+done
+
+echo
+echo "| n | formula | verdict | typing | apply | recover |"
+echo "|---|---|---|---|---|---|"
+for size in 8 16 32 64; do
+    row="| $size |"
+    for operation in formula verdict typing apply recover; do
+        row="$row $(per_call $operation $size engine) |"
+    done
+    echo "$row"
 done
