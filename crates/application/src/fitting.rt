@@ -6,7 +6,7 @@ ghost use Rattle.bits.specs.AllBelow.{allBelow};
 ghost use Rattle.column.specs.Column.{allowedIn};
 ghost use Rattle.formula.specs.Storage.{columnAt};
 ghost use Rattle.membership.specs.Entries.{subsetOf};
-ghost use Rattle.application.specs.Fitting.{variableIn, entriesAllowed, specialsAllowed};
+ghost use Rattle.application.specs.Fitting.{variableIn, specialsAllowed};
 
 // Whether s is allowed in column c of the node's formula.
 fn is_allowed(work: &[u8], node: u8, c: u8, s: u8) -> bool

@@ -1,5 +1,5 @@
 -- Each operator on one attribute: on the allowed and output bits of its operands.
-use mathlib.Core.Bool.{Bool, true, false, cond, not, _&&_, _||_}
+use mathlib.Core.Bool.{Bool, false, cond, not, _&&_, _||_}
 use Rattle.bits.specs.Bit.{differs}
 use Rattle.node.specs.declared.nodes.BinaryOp.{BinaryOp}
 use Rattle.node.specs.declared.nodes.BinaryOp.the-variants.{Union, Difference, Join, Product}

@@ -1,9 +1,8 @@
 -- The column of a node, from the columns of its operands; and that it is the column of the node's cells.
-use Prim.Native.Nat.{ℕ, _+_, _*_, _^_, _≤_, _<_}
+use Prim.Native.Nat.{ℕ, _^_, _<_}
 use mathlib.Core.Path.{_≡_, refl, _∙_}
 use mathlib.Core.Bool.{Bool, not, _&&_}
 use mathlib.Core.List.{List}
-use native.Mathlib.Omega.{arith}
 use lib.Dec.{eqb, ltb}
 use Rattle.bits.specs.Bit.{bit}
 use Rattle.attribute_set.specs.AttrSet.{hasAttribute}

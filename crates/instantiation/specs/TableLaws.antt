@@ -1,8 +1,8 @@
 -- Laws of an instantiation that was read: its lists, and the table that is made of them.
-use Prim.Native.Nat.{ℕ, zero, suc, _+_, _-_, _≤_, _<_}
-use mathlib.Core.Path.{_≡_, refl, sym, ap, _∙_}
+use Prim.Native.Nat.{ℕ, _-_, _≤_, _<_}
+use mathlib.Core.Path.{_≡_, refl, ap, _∙_}
 use mathlib.Core.Bool.{Bool, true, false, cond}
-use mathlib.Core.List.{List, []}
+use mathlib.Core.List.{List}
 use native.Mathlib.Decide.{decLt}
 use native.Mathlib.Omega.{arith}
 use borrow.Author.Tests.{le-ltb, ltb-false}
@@ -15,7 +15,7 @@ use Rattle.refusal.specs.declared.Refusal.{Refusal}
 use Rattle.refusal.specs.declared.Refusal.the-variants.{InputTruncated, RepeatedAttribute, TooManyAttributes}
 use Rattle.membership.specs.Entries.{tableOf}
 use Rattle.membership.specs.TableLaws.{table-count, table-size, table-entries, table-item}
-use Rattle.schema.specs.declared.reading.Judgement.the-variants.{Read, Refused}
+use Rattle.schema.specs.declared.reading.Judgement.the-variants.{Read}
 use Rattle.instantiation.specs.Seen.{nothingSeen, repeatedIn}
 use Rattle.instantiation.specs.Instantiation.{Lists, listsRefused, listsRead, readLists, entriesIn, allListed, subsetsOf, refusedInstantiation, tabled, instantiationReading}
 use Rattle.instantiation.specs.declared.reading.Instantiation.{Instantiation}

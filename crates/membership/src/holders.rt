@@ -1,7 +1,7 @@
 // The attributes that a relation holds.
 ghost use mathlib.Core.Path.{_≡_};
 ghost use Prim.Native.Nat.{_≤_, _<_};
-ghost use lib.ListN.{length, take};
+ghost use lib.ListN.{take};
 ghost use Rattle.membership.specs.Holders.{heldBy, heldList, ItemsFit};
 
 // Attributes in rising order. There are zeros after the last one.

@@ -1,25 +1,19 @@
 -- The second half of demand 2: Apply and Recover undo each other, byte by byte. First in tables: what is read from the bytes that the other has written.
-use Prim.Native.Nat.{ℕ, _+_, _*_, _%_, _^_, _≤_, _<_}
-use mathlib.Core.Path.{_≡_, refl, sym, ap, ap₂, _∙_}
-use mathlib.Core.Bool.{Bool, true, false, _&&_, and-eq-true-iff}
-use mathlib.Core.List.{List, [], _∷_}
+use Prim.Native.Nat.{ℕ, _≤_}
+use mathlib.Core.Path.{_≡_, sym, ap, ap₂, _∙_}
+use mathlib.Core.Bool.{true, false}
+use mathlib.Core.List.{List, []}
 use native.Mathlib.Omega.{arith}
-use borrow.Author.Tests.{ltb-true}
-use lib.Dec.{ltb}
-use lib.ListN.{length, getD, drop, length-append}
-use Rattle.bits.specs.Tab.{tab, length-tab}
+use lib.ListN.{length, getD, drop}
 use Rattle.bits.specs.Word.{Bytes}
-use Rattle.algebra.specs.Expression.{Expression, Legal}
+use Rattle.algebra.specs.Expression.{Expression}
 use Rattle.type_record.specs.Record.{TypeRecord}
-use Rattle.membership.specs.Entries.{subsetOf}
-use Rattle.membership.specs.EnterLaws.{RisingEntries}
-use Rattle.membership.specs.TableLaws.{Below}
 use Rattle.schema.specs.Schema.{recordsRead, readRecords, schemaBytes, recordsOf, entriesOf, mapsOf, schemaReading}
 use Rattle.schema.specs.RecordsLaws.{AllRecords, records-read, records-written}
 use Rattle.schema.specs.EntriesLaws.{table-records}
 use Rattle.schema.specs.TableLaws.{ReadSchema, read-schema}
 use Rattle.instantiation.specs.Seen.{nothingSeen, repeatedIn}
-use Rattle.instantiation.specs.Instantiation.{listsRead, readLists, entriesIn, allListed, subsetsOf, listsOf, listsBytes, mapByte, instantiationBytes, instantiationReading}
+use Rattle.instantiation.specs.Instantiation.{listsRead, readLists, entriesIn, allListed, subsetsOf, listsOf, instantiationBytes, instantiationReading}
 use Rattle.instantiation.specs.ReadLaws.{IsLists, lists-read, lists-written, written-lists, written-subsets}
 use Rattle.instantiation.specs.EntriesLaws.{entries-rising, entries-below, entries-lists, lists-of, lists-once, lists-entries}
 use Rattle.instantiation.specs.TableLaws.{ReadInstantiation, read-instantiation, subsets-size, subsets-none, subsets-small}
@@ -29,7 +23,7 @@ use Rattle.application.specs.SpecialLaws as Special
 use Rattle.application.specs.Fits.{entriesFit, specialsFit}
 use Rattle.application.specs.Apply.{imageBytes}
 use Rattle.application.specs.Recover.{fits, recoveredBytes}
-use Rattle.round_trip.specs.Image.{IsTable, held-positive, image-read, image-entries, image-maps}
+use Rattle.round_trip.specs.Image.{IsTable, held-positive, image-read, image-entries}
 use Rattle.round_trip.specs.Tables.{schema-table, fit-table}
 
 -- ---- an instantiation that fits, its image, and what is recovered from it

@@ -1,10 +1,6 @@
-use mathlib.Core.Path.{_≡_, sym, ap, _∙_}
 use Prim.Native.Nat.{_%_, _<_}
-use mathlib.Core.Bool.{Bool, _&&_}
 use native.Mathlib.Omega.{arith}
-use borrow.Author.Tests.{lt-ltb, le-ltb}
-use Rattle.bits.specs.Bit.{bit-test}
-use Rattle.application.specs.Fitting.{allowed-at}
+use borrow.Author.Tests.{lt-ltb}
 use borrow.Author.Needs.{needs}
 use Rattle.application.proofs.fitting.is_variable.Statement.{statement}
 use Rattle.application.proofs.fitting.is_variable.Tie as tie

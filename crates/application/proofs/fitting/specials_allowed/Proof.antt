@@ -1,4 +1,4 @@
-use Prim.Native.Nat.{ℕ, _+_, _-_, _≤_, _<_}
+use Prim.Native.Nat.{_+_, _-_, _≤_}
 use mathlib.Core.Path.{_≡_, refl, sym, _∙_}
 use mathlib.Core.Bool.{true}
 use native.Mathlib.Omega.{arith}
@@ -7,8 +7,7 @@ use lib.ListN.{getD}
 use Rattle.bits.specs.AllBelow.{allBelow, all-next, not-all}
 use Rattle.column.specs.Column.{allowedIn}
 use Rattle.formula.specs.Storage.{columnAt}
-use Rattle.membership.specs.Entries.{subsetOf}
-use Rattle.application.specs.Fitting.{variableIn, specialsAllowed}
+use Rattle.application.specs.Fitting.{specialsAllowed}
 use borrow.Author.Needs.{needs}
 use Rattle.application.proofs.fitting.specials_allowed.Statement.{statement}
 use Rattle.application.proofs.fitting.specials_allowed.Tie as tie

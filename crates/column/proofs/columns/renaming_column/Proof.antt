@@ -1,4 +1,4 @@
-use mathlib.Core.Path.{_≡_, sym, ap, _∙_}
+use mathlib.Core.Path.{sym, ap, _∙_}
 use mathlib.Core.Bool.{Bool, cond}
 use Rattle.column.specs.declared.steps.Unary.{Unary}
 use Rattle.column.specs.Steps.{introducingStep, projectingOutStep}

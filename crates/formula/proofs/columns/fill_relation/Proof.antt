@@ -1,12 +1,12 @@
-use Prim.Native.Nat.{ℕ, _+_, _-_, _*_, _≤_, _<_}
-use mathlib.Core.Path.{_≡_, ap, ap₂, _∙_}
+use Prim.Native.Nat.{ℕ, _-_, _*_, _≤_}
+use mathlib.Core.Path.{_≡_}
 use mathlib.Core.List.{List}
 use native.Mathlib.Nat.{le-refl}
 use native.Mathlib.Omega.{arith}
 use borrow.Rule.Slice.PartMut.{mid-len}
 use lib.ListN.{length}
 use mathlib.Core.Path.{refl}
-use Rattle.formula.specs.Columns.{Columns, columns-none, columns-more, columns-before}
+use Rattle.formula.specs.Columns.{Columns, columns-none, columns-more}
 use borrow.Author.Needs.{needs}
 use Rattle.formula.proofs.columns.fill_relation.Statement.{statement}
 use Rattle.formula.proofs.columns.fill_relation.Tie as tie
