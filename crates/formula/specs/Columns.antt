@@ -7,9 +7,9 @@ use native.Mathlib.Nat.{eq-or-lt-of-le}
 use native.Mathlib.Omega.{arith}
 use borrow.Rule.Slice.PartMut.{putMid, midOf}
 use lib.ListN.{length, getD}
-use lib.Seq.{paste, length-paste, ext-getD}
+use lib.Seq.{paste, length-paste}
 use Rattle.formula.specs.Storage.{columnAt}
-use Rattle.formula.specs.StorageLaws.{lent-paste, paste-inside, paste-outside, column-byte, column-size}
+use Rattle.formula.specs.StorageLaws.{lent-paste, paste-inside, paste-outside, column-byte, column-size, column-is}
 
 -- the first c columns of the formula that starts there are these; every other byte is as it was
 pub record Columns (column : ℕ → List ℕ) (start c : ℕ) (old work : List ℕ) : Type 0 where
@@ -58,6 +58,5 @@ module _ (column : ℕ → List ℕ) (start : ℕ) (old : List ℕ) where
   -- the formulas before it are as they were
   pub columns-before : (c l d : ℕ) (work : List ℕ) → l * 1024 + 1024 ≤ start → start ≤ length old → d < 16 → Columns column start c old work → columnAt work l d ≡ columnAt old l d
   columns-before c l d work below fits few w =
-      ext-getD 0 (columnAt work l d) (columnAt old l d) (column-size work l d (let s = w .size in omega arith) ∙ sym (column-size old l d (omega arith)))
-      (λ i h. let inside : i < 64 = (let s = column-size work l d (let s = w .size in omega arith) in omega arith) in
-      column-byte work l d i inside ∙ w .outside (l * 1024 + d * 64 + i) (inl (omega arith)) ∙ sym (column-byte old l d i inside))
+      column-is work l d (columnAt old l d) (let s = w .size in omega arith) (column-size old l d (omega arith))
+      (λ i h. w .outside (l * 1024 + d * 64 + i) (inl (omega arith)) ∙ sym (column-byte old l d i h))

@@ -5,8 +5,7 @@ use mathlib.Core.List.{List}
 use mathlib.Core.Logic.{inl, inr}
 use native.Mathlib.Decide.{decLe}
 use native.Mathlib.Omega.{arith}
-use lib.ListN.{length, getD, take, drop, length-drop}
-use lib.Seq.{ext-getD, length-take-le, getD-take, getD-drop}
+use lib.ListN.{length, getD, take, drop}
 use Rattle.bits.specs.Tab.{over}
 use Rattle.bits.specs.Written.{Written, written-all}
 use Rattle.node.specs.Legal.{LegalNode}
@@ -18,6 +17,7 @@ use Rattle.expression.specs.Accepted.{accepted-file}
 use Rattle.expression.specs.Walk.{Walk, walk-next, Decoded, read-decoded}
 use Rattle.algebra.specs.Expression.{Expression}
 use Rattle.formula.specs.Storage.{columnAt}
+use Rattle.formula.specs.StorageLaws.{column-is}
 use Rattle.formula.specs.Columns.{Columns}
 use Rattle.column.specs.ColumnLaws.{column-length}
 use Rattle.formula.specs.Expressions.{expressionAt, expression-is}
@@ -69,16 +69,9 @@ stored-at file m k c i hc hi =
 
 -- a column that was filled is read back
 pub filled-column : (file : List ℕ) (m p : ℕ) (old work : List ℕ) (l c : ℕ) → FilledTo file m p old work → p ≤ length work → l * 1024 + 1024 ≤ p → c < 16 → columnAt work l c ≡ cellColumn m (expressionAt file l) c
-unfolding columnAt
 filled-column file m p old work l c filled fits within hc =
-    let rest = length-drop (l * 1024 + c * 64) work in
-    let size = length-take-le 64 (drop (l * 1024 + c * 64) work) (omega arith) in
-    ext-getD 0 (take 64 (drop (l * 1024 + c * 64) work)) (cellColumn m (expressionAt file l) c) (size ∙ sym (cell-length m (expressionAt file l) c))
-    (λ i h. let below : i < 64 = omega arith in
-    getD-take 64 (drop (l * 1024 + c * 64) work) i 0 below
-    ∙ getD-drop (l * 1024 + c * 64) work i 0
-    ∙ filled .front (l * 1024 + c * 64 + i) (omega arith)
-    ∙ stored-at file m l c i hc below)
+    column-is work l c (cellColumn m (expressionAt file l) c) (omega arith) (cell-length m (expressionAt file l) c)
+    (λ i h. filled .front (l * 1024 + c * 64 + i) (omega arith) ∙ stored-at file m l c i hc h)
 
 -- the next column of a node, from the columns that stand there already
 next-column : (file : List ℕ) (m : ℕ) (work : List ℕ) (k c : ℕ) → c < 16 → LegalNode m k (nodeAt file k) → k * 1024 ≤ length work → FilledTo file m (k * 1024) work work → nodeColumns (2 ^ m) (nodeAt file k) work c ≡ cellColumn m (expressionAt file k) c

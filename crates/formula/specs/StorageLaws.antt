@@ -83,3 +83,10 @@ column-byte work k c i h = getD-take 64 (drop (k * 1024 + c * 64) work) i 0 h �
 pub column-size : (work : List ℕ) (k c : ℕ) → k * 1024 + c * 64 + 64 ≤ length work → length (columnAt work k c) ≡ 64
 unfolding columnAt
 column-size work k c h = let rest = length-drop (k * 1024 + c * 64) work in length-take-le 64 (drop (k * 1024 + c * 64) work) (omega arith)
+
+-- a column is known by its bytes
+pub column-is : (work : List ℕ) (k c : ℕ) (column : List ℕ) → k * 1024 + c * 64 + 64 ≤ length work → length column ≡ 64 → ((i : ℕ) → i < 64 → getD work (k * 1024 + c * 64 + i) 0 ≡ getD column i 0) → columnAt work k c ≡ column
+column-is work k c column fits long same =
+    let size = column-size work k c fits in
+    ext-getD 0 (columnAt work k c) column (size ∙ sym long)
+    (λ i h. let below : i < 64 = omega arith in column-byte work k c i below ∙ same i below)
