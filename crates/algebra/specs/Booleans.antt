@@ -43,8 +43,3 @@ excludes false r = (λ e h k. false≢true h, λ h. refl)
 pub neither : (p q : Bool) → (not (p || q) ≡ true) ↔ ((not p ≡ true) × (not q ≡ true))
 neither true q = (λ e. absurd (false≢true e), λ h. h .0)
 neither false q = (λ e. (refl, e), λ h. h .1)
-
-pub has-lacks : (p q : Bool) → (p && not q ≡ true) ↔ ((p ≡ true) × (q ≡ false))
-has-lacks true true = (λ e. absurd (false≢true e), λ h. sym (h .1))
-has-lacks true false = (λ e. (refl, refl), λ h. refl)
-has-lacks false q = (λ e. absurd (false≢true e), λ h. h .0)

@@ -1,12 +1,12 @@
 -- The laws of columns: a set of special attributes cannot tell an attribute from its column.
-use Prim.Native.Nat.{ℕ, _≤_}
+use Prim.Native.Nat.{ℕ}
 use mathlib.Core.Path.{_≡_, refl, sym, ap, _∙_}
 use mathlib.Core.Bool.{Bool, true, false, true≢false}
 use borrow.Author.Tests.{eqb-true}
 use lib.Dec.{eqb}
 use Rattle.bits.specs.Booleans.{is-false}
 use Rattle.attribute_set.specs.AttrSet.{special}
-use Rattle.attribute_set.specs.Laws.{special-above, special-zero}
+use Rattle.attribute_set.specs.Laws.{special-zero}
 use Rattle.types.specs.Types.{Attrs, _⊆_, column}
 use Rattle.types.specs.Laws.{column-of-special, column-of-other}
 
@@ -30,9 +30,6 @@ absent-zero s named = absent s named 0 special-zero
 
 alike-zero : (a : ℕ) → special a ≡ false → Alike 0 a
 alike-zero a h s named = absent-zero s named ∙ sym (absent s named a h)
-
-pub alike-ordinary : (a : ℕ) → 16 ≤ a → Alike 0 a
-alike-ordinary a least = alike-zero a (special-above a least)
 
 pub alike-column : (a : ℕ) → Alike (column a) a
 alike-column a = go (special a) refl

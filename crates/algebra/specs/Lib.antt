@@ -1,10 +1,8 @@
 pub mod Expression
 pub mod Rules
 pub mod Cell
-pub mod Infer
 pub mod Booleans
 pub mod Columns
 pub mod CellLaws
 pub mod TypedCells
-pub mod InferCells
 pub mod ByAttribute

@@ -17,6 +17,8 @@ use Rattle.expression.specs.declared.files.Acceptance.the-variants.{Accepted, R
 use Rattle.expression.specs.Admission.{after, sliced}
 use Rattle.expression.specs.AdmissionLaws.{sliced-passed}
 use Rattle.algebra.specs.Expression.{Expression, Legal}
+use Rattle.formulas.specs.Formula.{typeVariable}
+use Rattle.column.specs.Column.{allowedIn}
 use Rattle.formula.specs.Expressions.{expressionAt}
 use Rattle.formula.specs.Storage.{columnAt}
 use Rattle.formula.specs.Stored.{cellColumn, formulasOf, admitted}
@@ -37,9 +39,9 @@ use Rattle.typing.specs.Typing.{tableAnswer, tableOut, afterSchema}
 use Rattle.typing.specs.TypingLaws.{ReadTable, answer-typed, out-typed}
 use Rattle.typing.specs.declared.operation.Answer.{Answer}
 use Rattle.typing.specs.declared.operation.Answer.the-variants.{Typed, Untyped, Refused as TypingRefused}
-use Rattle.application.specs.Special.{mapsFrom}
-use Rattle.application.specs.SpecialLaws.{maps-length, maps-even}
-use Rattle.application.specs.Fitting.{variableIn, entriesAllowed, specialsAllowed}
+use Rattle.membership.specs.Special.{mapsFrom}
+use Rattle.membership.specs.SpecialLaws.{maps-length, maps-even}
+use Rattle.application.specs.Fitting.{entriesAllowed, specialsAllowed}
 use Rattle.application.specs.Fits.{entriesFit, specialsFit, entries-stored, specials-stored, fits-typed}
 use Rattle.application.specs.Apply.{afterFit, imageBytes, outputBytes, tableApplied, tableImage, tableOutput, entriesOf, readApplied, readImage, readOutput, readSpace, applyAnswer, applySpace, applySchema, applyOut}
 use Rattle.application.specs.declared.applying.Application.{Application}
@@ -61,12 +63,12 @@ pub record ReadSubsets (subsets items : List ℕ) (count : ℕ) : Type 0 where
   pub zeros : (i : ℕ) → count ≤ i → getD items i 0 ≡ 0
 
 -- the test of the entries in memory is that of the entries
-pub entries-tested : (file : List ℕ) (m k : ℕ) (work items : List ℕ) (count : ℕ) → Filled file m k work → count ≤ length items → (t : Bool) → t ≡ allBelow count (λ i. variableIn (columnAt work k 0) (subsetOf (getD items i 0))) → t ≡ entriesFit m (expressionAt file k) (take count items)
+pub entries-tested : (file : List ℕ) (m k : ℕ) (work items : List ℕ) (count : ℕ) → Filled file m k work → count ≤ length items → (t : Bool) → t ≡ allBelow count (λ i. typeVariable (allowedIn (columnAt work k 0)) (subsetOf (getD items i 0))) → t ≡ entriesFit m (expressionAt file k) (take count items)
 unfolding entriesAllowed
 entries-tested file m k work items count filled enough t is =
     is
-    ∙ all-same count (λ i. variableIn (columnAt work k 0) (subsetOf (getD items i 0))) (λ i. variableIn (columnAt work k 0) (subsetOf (getD (take count items) i 0))) (λ i h. ap (λ (x : ℕ). variableIn (columnAt work k 0) (subsetOf x)) (sym (getD-take count items i 0 h)))
-    ∙ ap (λ (n : ℕ). allBelow n (λ i. variableIn (columnAt work k 0) (subsetOf (getD (take count items) i 0)))) (sym (length-take-le count items enough))
+    ∙ all-same count (λ i. typeVariable (allowedIn (columnAt work k 0)) (subsetOf (getD items i 0))) (λ i. typeVariable (allowedIn (columnAt work k 0)) (subsetOf (getD (take count items) i 0))) (λ i h. ap (λ (x : ℕ). typeVariable (allowedIn (columnAt work k 0)) (subsetOf x)) (sym (getD-take count items i 0 h)))
+    ∙ ap (λ (n : ℕ). allBelow n (λ i. typeVariable (allowedIn (columnAt work k 0)) (subsetOf (getD (take count items) i 0)))) (sym (length-take-le count items enough))
     ∙ entries-stored work k m (expressionAt file k) (filled .columns) (take count items)
 
 -- ---- what a table gives: the answer, the image and the output record
@@ -123,25 +125,25 @@ module _ (m : ℕ) (e : Expression) (subsets entries : List ℕ) where
 
 module _ (file : List ℕ) (m k : ℕ) (few : m ≤ 8) (legal : Legal m (expressionAt file k)) (work subsets items : List ℕ) (count : ℕ) (filled : Filled file m k work) (table : ReadSubsets subsets items count) where
   -- the tests of the code
-  entries-found : (t : Bool) → t ≡ allBelow count (λ i. variableIn (columnAt work k 0) (subsetOf (getD items i 0))) → t ≡ entriesFit m (expressionAt file k) (take count items)
+  entries-found : (t : Bool) → t ≡ allBelow count (λ i. typeVariable (allowedIn (columnAt work k 0)) (subsetOf (getD items i 0))) → t ≡ entriesFit m (expressionAt file k) (take count items)
   entries-found = entries-tested file m k work items count filled (let size = table .size in let most = table .few in omega arith)
 
   specials-found : (t : Bool) → t ≡ specialsAllowed work k subsets → t ≡ specialsFit m (expressionAt file k) subsets
   specials-found t is = is ∙ specials-stored work k m (expressionAt file k) (filled .columns) subsets (table .small)
 
   module _ (schema out : List ℕ) where
-    pub variable-refused : (t : Bool) → t ≡ false → t ≡ allBelow count (λ i. variableIn (columnAt work k 0) (subsetOf (getD items i 0))) → (Refused TypeVariable ≡ tableApplied m (expressionAt file k) subsets (take count items)) × ((schema ≡ tableImage m (expressionAt file k) subsets (take count items) schema) × (out ≡ tableOutput m (expressionAt file k) subsets (take count items) out))
+    pub variable-refused : (t : Bool) → t ≡ false → t ≡ allBelow count (λ i. typeVariable (allowedIn (columnAt work k 0)) (subsetOf (getD items i 0))) → (Refused TypeVariable ≡ tableApplied m (expressionAt file k) subsets (take count items)) × ((schema ≡ tableImage m (expressionAt file k) subsets (take count items) schema) × (out ≡ tableOutput m (expressionAt file k) subsets (take count items) out))
     variable-refused t fails is =
         let gives = entries-refused m (expressionAt file k) subsets (take count items) schema out (sym (entries-found t is) ∙ fails) in
         (sym (gives .0), (sym (gives .1 .0), sym (gives .1 .1)))
 
-    pub special-refused : (t u : Bool) → t ≡ true → t ≡ allBelow count (λ i. variableIn (columnAt work k 0) (subsetOf (getD items i 0))) → u ≡ false → u ≡ specialsAllowed work k subsets → (Refused SpecialSubset ≡ tableApplied m (expressionAt file k) subsets (take count items)) × ((schema ≡ tableImage m (expressionAt file k) subsets (take count items) schema) × (out ≡ tableOutput m (expressionAt file k) subsets (take count items) out))
+    pub special-refused : (t u : Bool) → t ≡ true → t ≡ allBelow count (λ i. typeVariable (allowedIn (columnAt work k 0)) (subsetOf (getD items i 0))) → u ≡ false → u ≡ specialsAllowed work k subsets → (Refused SpecialSubset ≡ tableApplied m (expressionAt file k) subsets (take count items)) × ((schema ≡ tableImage m (expressionAt file k) subsets (take count items) schema) × (out ≡ tableOutput m (expressionAt file k) subsets (take count items) out))
     special-refused t u holds is fails is′ =
         let gives = specials-refused m (expressionAt file k) subsets (take count items) schema out (sym (entries-found t is) ∙ holds) (sym (specials-found u is′) ∙ fails) in
         (sym (gives .0), (sym (gives .1 .0), sym (gives .1 .1)))
 
     -- both tests hold: the table types the node
-    module _ (t u : Bool) (holds : t ≡ true) (is : t ≡ allBelow count (λ i. variableIn (columnAt work k 0) (subsetOf (getD items i 0)))) (holds′ : u ≡ true) (is′ : u ≡ specialsAllowed work k subsets) (maps : List ℕ) (maps-are : maps ≡ mapsFrom subsets) where
+    module _ (t u : Bool) (holds : t ≡ true) (is : t ≡ allBelow count (λ i. typeVariable (allowedIn (columnAt work k 0)) (subsetOf (getD items i 0)))) (holds′ : u ≡ true) (is′ : u ≡ specialsAllowed work k subsets) (maps : List ℕ) (maps-are : maps ≡ mapsFrom subsets) where
       fit : entriesFit m (expressionAt file k) (take count items) ≡ true
       fit = sym (entries-found t is) ∙ holds
 

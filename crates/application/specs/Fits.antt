@@ -14,6 +14,7 @@ use Rattle.bits.specs.Bit.{bit, bit-none}
 use Rattle.algebra.specs.Expression.{Expression, Legal}
 use Rattle.algebra.specs.Cell.{plain, ok}
 use Rattle.algebra.specs.CellLaws.{cell-depends, cell-none}
+use Rattle.formulas.specs.Formula.{typeVariable}
 use Rattle.column.specs.Column.{allowedIn}
 use Rattle.formula.specs.Storage.{columnAt}
 use Rattle.formula.specs.Stored.{allowedBit, cellColumn}
@@ -23,17 +24,15 @@ use Rattle.membership.specs.Entries.{subsetOf}
 use Rattle.typing.specs.Output.{specialHolders, typedIn}
 use Rattle.typing.specs.OutputLaws.{all-typed}
 use Rattle.typing.specs.OutputRecord.{entry-cell}
-use Rattle.application.specs.Special.{mapsFrom}
-use Rattle.application.specs.SpecialLaws.{map-bit}
+use Rattle.membership.specs.Special.{mapsFrom}
+use Rattle.membership.specs.SpecialLaws.{map-bit}
 use Rattle.application.specs.Fitting.{entriesAllowed, specialsAllowed}
 
--- "The type variables are the s above 0 allowed in column 0."
-abbrev pub variable : ℕ → Expression → ℕ → Bool
-variable m e s = ltb 0 s && allowedBit m e 0 s
-
+-- the subset of each entry is a type variable
 unfoldable pub entriesFit : ℕ → Expression → List ℕ → Bool
-entriesFit m e entries = allBelow (length entries) (λ i. variable m e (subsetOf (getD entries i 0)))
+entriesFit m e entries = allBelow (length entries) (λ i. typeVariable (allowedBit m e 0) (subsetOf (getD entries i 0)))
 
+-- the subset of each special attribute is allowed in its column
 unfoldable pub specialsFit : ℕ → Expression → List ℕ → Bool
 specialsFit m e subsets = allBelow 15 (λ i. allowedBit m e (i + 1) (getD subsets (i + 1) 0))
 
@@ -44,12 +43,12 @@ module _ (m : ℕ) (e : Expression) where
   unfolding entriesFit
   entry-fits entries fit i h =
       let s = subsetOf (getD entries i 0) in
-      let passes = all-in (length entries) (λ i. variable m e (subsetOf (getD entries i 0))) fit i h in
+      let passes = all-in (length entries) (λ i. typeVariable (allowedBit m e 0) (subsetOf (getD entries i 0))) fit i h in
       (ltb-true 0 s (and-left (ltb 0 s) (allowedBit m e 0 s) passes), and-right (ltb 0 s) (allowedBit m e 0 s) passes)
 
   pub fit-entries : (entries : List ℕ) → ((i : ℕ) → i < length entries → (1 ≤ subsetOf (getD entries i 0)) × (allowedBit m e 0 (subsetOf (getD entries i 0)) ≡ true)) → entriesFit m e entries ≡ true
   unfolding entriesFit
-  fit-entries entries each = in-all (length entries) (λ i. variable m e (subsetOf (getD entries i 0))) (λ i h. ap₂ _&&_ (lt-ltb 0 (subsetOf (getD entries i 0)) (each i h .0)) (each i h .1))
+  fit-entries entries each = in-all (length entries) (λ i. typeVariable (allowedBit m e 0) (subsetOf (getD entries i 0))) (λ i h. ap₂ _&&_ (lt-ltb 0 (subsetOf (getD entries i 0)) (each i h .0)) (each i h .1))
 
   pub special-fits : (subsets : List ℕ) → specialsFit m e subsets ≡ true → (i : ℕ) → 1 ≤ i → i ≤ 15 → allowedBit m e i (getD subsets i 0) ≡ true
   unfolding specialsFit

@@ -1,26 +1,22 @@
 -- A membership table against a node's stored formula: "Each subset must be allowed in its column and each standing bit a type variable." (document 01)
 use Prim.Native.Nat.{ℕ, _+_, _*_, _/_, _%_, _<_}
 use mathlib.Core.Path.{_≡_, ap, _∙_}
-use mathlib.Core.Bool.{Bool, _&&_}
+use mathlib.Core.Bool.{Bool}
 use mathlib.Core.List.{List}
 use native.Mathlib.Omega.{arith}
-use lib.Dec.{ltb}
 use lib.ListN.{length, getD}
 use Rattle.bits.specs.AllBelow.{allBelow}
 use Rattle.bits.specs.Bit.{bit}
+use Rattle.formulas.specs.Formula.{typeVariable}
 use Rattle.membership.specs.Entries.{subsetOf}
 use Rattle.column.specs.Column.{allowedIn}
 use Rattle.column.specs.ColumnLaws.{allowed-bit}
 use Rattle.formula.specs.Storage.{columnAt}
 use Rattle.formula.specs.StorageLaws.{column-byte}
 
--- "The type variables are the s above 0 allowed in column 0."
-abbrev pub variableIn : List ℕ → ℕ → Bool
-variableIn column s = ltb 0 s && allowedIn column s
-
 -- the subset of each entry is a type variable of node k
 unfoldable pub entriesAllowed : List ℕ → ℕ → List ℕ → Bool
-entriesAllowed work k entries = allBelow (length entries) (λ i. variableIn (columnAt work k 0) (subsetOf (getD entries i 0)))
+entriesAllowed work k entries = allBelow (length entries) (λ i. typeVariable (allowedIn (columnAt work k 0)) (subsetOf (getD entries i 0)))
 
 -- the subset of each special attribute is allowed in its column
 unfoldable pub specialsAllowed : List ℕ → ℕ → List ℕ → Bool

@@ -1,8 +1,8 @@
-pub mod Special
 pub mod Fitting
 pub mod Fits
 pub mod Apply
 pub mod Recover
-pub mod SpecialLaws
 pub mod ApplyLaws
 pub mod RecoverLaws
+pub mod StandingFit
+pub mod WorkSpace

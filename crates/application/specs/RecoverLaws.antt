@@ -6,12 +6,13 @@ use mathlib.Core.List.{List}
 use lib.ListN.{length, getD, take}
 use native.Mathlib.Omega.{arith}
 use Rattle.bits.specs.AllBelow.{allBelow}
-use Rattle.bits.specs.Booleans.{is-false}
 use Rattle.bits.specs.Tab.{over}
 use Rattle.refusal.specs.declared.Refusal.{Refusal}
 use Rattle.expression.specs.declared.files.Acceptance.the-variants.{Accepted, Refused as FileRefused}
 use Rattle.expression.specs.Admission.{sliced}
 use Rattle.algebra.specs.Expression.{Expression}
+use Rattle.formulas.specs.Formula.{typeVariable}
+use Rattle.column.specs.Column.{allowedIn}
 use Rattle.formula.specs.Expressions.{expressionAt}
 use Rattle.formula.specs.Storage.{columnAt}
 use Rattle.formula.specs.Stored.{formulasOf, admitted}
@@ -20,10 +21,10 @@ use Rattle.schema.specs.Schema.{schemaReading}
 use Rattle.schema.specs.declared.reading.Judgement.the-variants.{Read, Refused as ReadRefused}
 use Rattle.schema.specs.declared.reading.Schema.{Schema}
 use Rattle.typing.specs.TypingLaws.{ReadTable}
-use Rattle.application.specs.Special.{subsetsFrom}
+use Rattle.membership.specs.Special.{subsetsFrom}
 use Rattle.instantiation.specs.Instantiation.{listsOf, instantiationBytes, WritesFrom}
-use Rattle.application.specs.SpecialLaws.{subsets-small, subsets-size}
-use Rattle.application.specs.Fitting.{variableIn, specialsAllowed}
+use Rattle.membership.specs.SpecialLaws.{subsets-small, subsets-size}
+use Rattle.application.specs.Fitting.{specialsAllowed}
 use Rattle.application.specs.Fits.{entriesFit, specialsFit, specials-stored}
 use Rattle.application.specs.Apply.{readSpace}
 use Rattle.application.specs.ApplyLaws.{Filled, entries-tested}
@@ -42,14 +43,10 @@ module _ (m : ℕ) (e : Expression) (special entries : List ℕ) where
   unfolding tableRecovered tableInstantiation
   recovered-refused out no-fit = rw no-fit (refl, refl)
 
-  -- and the other way: where it says untyped, the table does not fit
-  pub untyped-refused : tableRecovered m e special entries ≡ Untyped → fits m e special entries ≡ false
-  untyped-refused said = is-false (fits m e special entries) (λ fit. let both = sym said ∙ recovered-fits entries fit .0 in let z : _≡_ {A = ℕ} 0 1 = cc in omega arith)
-
 -- ---- over a table
 
 module _ (file : List ℕ) (m k : ℕ) (work special items : List ℕ) (count : ℕ) (filled : Filled file m k work) (table : ReadTable special items count) (out : List ℕ) where
-  entries-found : (t : Bool) → t ≡ allBelow count (λ i. variableIn (columnAt work k 0) (subsetOf (getD items i 0))) → t ≡ entriesFit m (expressionAt file k) (take count items)
+  entries-found : (t : Bool) → t ≡ allBelow count (λ i. typeVariable (allowedIn (columnAt work k 0)) (subsetOf (getD items i 0))) → t ≡ entriesFit m (expressionAt file k) (take count items)
   entries-found = entries-tested file m k work items count filled (let size = table .writes .size in let few = table .writes .few in omega arith)
 
   specials-found : (subsets : List ℕ) (t : Bool) → subsets ≡ subsetsFrom special → t ≡ specialsAllowed work k subsets → t ≡ specialsFit m (expressionAt file k) (subsetsFrom special)
@@ -61,13 +58,13 @@ module _ (file : List ℕ) (m k : ℕ) (work special items : List ℕ) (count : 
   untyped : fits m (expressionAt file k) special (take count items) ≡ false → Results Untyped out
   untyped no-fit = let gives = recovered-refused m (expressionAt file k) special (take count items) out no-fit in (sym (gives .0), sym (gives .1))
 
-  pub entry-untyped : (t : Bool) → t ≡ false → t ≡ allBelow count (λ i. variableIn (columnAt work k 0) (subsetOf (getD items i 0))) → Results Untyped out
+  pub entry-untyped : (t : Bool) → t ≡ false → t ≡ allBelow count (λ i. typeVariable (allowedIn (columnAt work k 0)) (subsetOf (getD items i 0))) → Results Untyped out
   entry-untyped t fails is = untyped (ap (λ (b : Bool). b && specialsFit m (expressionAt file k) (subsetsFrom special)) (sym (entries-found t is) ∙ fails))
 
   pub special-untyped : (subsets : List ℕ) (t : Bool) → t ≡ false → subsets ≡ subsetsFrom special → t ≡ specialsAllowed work k subsets → Results Untyped out
   special-untyped subsets t fails are is = untyped (ap (λ (b : Bool). entriesFit m (expressionAt file k) (take count items) && b) (sym (specials-found subsets t are is) ∙ fails) ∙ and-false (entriesFit m (expressionAt file k) (take count items)))
 
-  pub table-recovered : (t u : Bool) (subsets : List ℕ) (size : ℕ) (written : List ℕ) → t ≡ true → t ≡ allBelow count (λ i. variableIn (columnAt work k 0) (subsetOf (getD items i 0))) → subsets ≡ subsetsFrom special → u ≡ true → u ≡ specialsAllowed work k subsets → size ≡ length (instantiationBytes subsets (listsOf (take count items))) → written ≡ over (instantiationBytes subsets (listsOf (take count items))) out → Results (Recovered size) written
+  pub table-recovered : (t u : Bool) (subsets : List ℕ) (size : ℕ) (written : List ℕ) → t ≡ true → t ≡ allBelow count (λ i. typeVariable (allowedIn (columnAt work k 0)) (subsetOf (getD items i 0))) → subsets ≡ subsetsFrom special → u ≡ true → u ≡ specialsAllowed work k subsets → size ≡ length (instantiationBytes subsets (listsOf (take count items))) → written ≡ over (instantiationBytes subsets (listsOf (take count items))) out → Results (Recovered size) written
   table-recovered t u subsets size written holds is are holds′ is′ size-is wrote =
       let gives = recovered-fits m (expressionAt file k) special (take count items) out (ap₂ _&&_ (sym (entries-found t is) ∙ holds) (sym (specials-found subsets u are is′) ∙ holds′)) in (
         ap Recovered (size-is ∙ ap (λ (x : List ℕ). length (instantiationBytes x (listsOf (take count items)))) are) ∙ sym (gives .0),

@@ -10,11 +10,11 @@ ghost use Rattle.application.specs.Apply.{tableApplied, tableImage, tabl
 ghost use Rattle.application.specs.ApplyLaws.{ReadSubsets, Filled};
 use crate::fitting::entries_allowed;
 use crate::fitting::specials_allowed;
-use crate::special::maps_from;
 use expression::Acceptance;
 use formula::admit;
 use formula::fill;
 use instantiation::read_instantiation;
+use membership::maps_from;
 use refusal::Refusal;
 use schema::Judgement;
 use schema::write_schema;

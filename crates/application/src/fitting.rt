@@ -3,10 +3,11 @@ ghost use mathlib.Core.Path.{_≡_};
 ghost use Prim.Native.Nat.{_+_, _*_, _≤_, _<_};
 ghost use lib.ListN.{length, getD};
 ghost use Rattle.bits.specs.AllBelow.{allBelow};
+ghost use Rattle.formulas.specs.Formula.{typeVariable};
 ghost use Rattle.column.specs.Column.{allowedIn};
 ghost use Rattle.formula.specs.Storage.{columnAt};
 ghost use Rattle.membership.specs.Entries.{subsetOf};
-ghost use Rattle.application.specs.Fitting.{variableIn, specialsAllowed};
+ghost use Rattle.application.specs.Fitting.{specialsAllowed};
 
 // Whether s is allowed in column c of the node's formula.
 fn is_allowed(work: &[u8], node: u8, c: u8, s: u8) -> bool
@@ -20,7 +21,7 @@ fn is_allowed(work: &[u8], node: u8, c: u8, s: u8) -> bool
 // Whether the entry's subset is a type variable.
 fn is_variable(work: &[u8], node: u8, e: u32) -> bool
     requires { ⌜ node * 1024 + 1024 ≤ length (now work) ⌝ }
-    ensures { λ r. ⌜ r ≡ variableIn (columnAt (now (work .entry)) node 0) (subsetOf e) ⌝ }
+    ensures { λ r. ⌜ r ≡ typeVariable (allowedIn (columnAt (now (work .entry)) node 0)) (subsetOf e) ⌝ }
 {
     let s = (e % 256) as u8;
     if s == 0 {
@@ -32,7 +33,7 @@ fn is_variable(work: &[u8], node: u8, e: u32) -> bool
 // Whether the subset of each entry is a type variable of the node.
 pub fn entries_allowed(work: &[u8], node: u8, items: &[u32], count: usize) -> bool
     requires { ⌜ (count ≤ length (now items)) × (node * 1024 + 1024 ≤ length (now work)) ⌝ }
-    ensures { λ r. ⌜ r ≡ allBelow count (λ i. variableIn (columnAt (now (work .entry)) node 0) (subsetOf (getD (now (items .entry)) i 0))) ⌝ }
+    ensures { λ r. ⌜ r ≡ allBelow count (λ i. typeVariable (allowedIn (columnAt (now (work .entry)) node 0)) (subsetOf (getD (now (items .entry)) i 0))) ⌝ }
 {
     let mut i = 0;
     while i < count {

@@ -2,7 +2,6 @@
 mod applying;
 mod fitting;
 mod recovering;
-mod special;
 
 pub use applying::Application;
 pub use applying::apply;

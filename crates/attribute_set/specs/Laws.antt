@@ -1,9 +1,8 @@
 -- The laws of attribute sets: what building, adding and testing do to each other, and that bit 0 stays clear.
 use Prim.Native.Nat.{ℕ, _^_, _≤_}
-use mathlib.Core.Path.{_≡_, refl, sym, ap, ap₂, subst, _∙_}
+use mathlib.Core.Path.{_≡_, refl, ap, _∙_}
 use mathlib.Core.Bool.{Bool, true, false, cond, _&&_, _||_, or-comm}
 use native.Mathlib.Omega.{arith}
-use borrow.Author.Tests.{ne-eqb}
 use lib.Dec.{eqb}
 use lib.Bits.{bitOr}
 use Rattle.bits.specs.Bit.{bit, bit-none, bit-or, bit-power}
@@ -11,7 +10,7 @@ use Rattle.bits.specs.Booleans.{is-false}
 use Rattle.bits.specs.Range.{in-range, range-in}
 use Rattle.attribute_set.specs.declared.AttrSet.{AttrSet}
 use Rattle.attribute_set.specs.declared.Built.the-variants.{Set, NoSet}
-use Rattle.attribute_set.specs.AttrSet.{special, hasAttribute, emptySet, bitsOf, setOf, fromBits, withAttribute}
+use Rattle.attribute_set.specs.AttrSet.{special, hasAttribute, emptySet, setOf, fromBits, withAttribute}
 
 pub special-range : (a : ℕ) → special a ≡ true → (1 ≤ a) × (a ≤ 15)
 unfolding special
@@ -35,10 +34,6 @@ pub has-empty : (a : ℕ) → hasAttribute emptySet a ≡ false
 unfolding hasAttribute
 has-empty a = bit-none a
 
-pub bits-set : (bits : ℕ) → bitsOf (setOf bits) ≡ bits
-unfolding setOf
-bits-set bits = refl
-
 pub has-set : (bits a : ℕ) → hasAttribute (setOf bits) a ≡ bit bits a
 unfolding hasAttribute setOf
 has-set bits a = refl
@@ -60,18 +55,6 @@ pub clear-lacks : (s : AttrSet) → Clear s → hasAttribute s 0 ≡ false
 unfolding Clear
 clear-lacks s h = h
 
-pub clear-empty : Clear emptySet
-unfolding Clear
-clear-empty = has-empty 0
-
-pub clear-with : (s : AttrSet) (a : ℕ) → Clear s → Clear (withAttribute s a)
-unfolding Clear
-clear-with s a h = has-with s a 0 ∙ ap₂ _||_ (go (special a) refl) h
-  where
-    go : (t : Bool) → special a ≡ t → t && eqb a 0 ≡ false
-    go true e = let h = special-range a e in ne-eqb a 0 (λ z. omega arith)
-    go false e = refl
-
 -- building refuses exactly where bit 0 stands, and else gives the set with these bits, bit 0 clear
 pub built-none : (bits : ℕ) → fromBits bits ≡ NoSet → bit bits 0 ≡ true
 unfolding fromBits
@@ -92,6 +75,3 @@ built-set bits s = go (bit bits 0)
 pub clear-set : (bits : ℕ) → bit bits 0 ≡ false → Clear (setOf bits)
 unfolding Clear
 clear-set bits h = has-set bits 0 ∙ h
-
-pub clear-built : (bits : ℕ) (s : AttrSet) → fromBits bits ≡ Set s → Clear s
-clear-built bits s e = let h = built-set bits s e in subst Clear (sym (h .1)) (clear-set bits (h .0))

@@ -1,7 +1,7 @@
 -- A test at each number below a bound.
 use Prim.Native.Nat.{ℕ, zero, suc, _+_, _<_}
 use mathlib.Core.Path.{_≡_, refl, sym, ap, ap₂, _∙_}
-use mathlib.Core.Bool.{Bool, true, false, _&&_, and-eq-true-iff}
+use mathlib.Core.Bool.{Bool, true, false, _&&_, true≢false, and-eq-true-iff}
 use mathlib.Core.Logic.{_⊎_, inl, inr}
 use native.Mathlib.Nat.{eq-or-lt-of-le, le-of-suc-le-suc}
 use native.Mathlib.Numerals.{add-one}
@@ -37,6 +37,15 @@ not-all n test i l e = go (allBelow n test) refl
     go : (t : Bool) → allBelow n test ≡ t → t ≡ false
     go true h = sym (all-in n test h i l) ∙ e
     go false h = refl
+
+-- one that fails, where not all pass
+pub all-fails : (n : ℕ) (test : ℕ → Bool) → allBelow n test ≡ false → (i : ℕ) × ((i < n) × (test i ≡ false))
+all-fails zero test h = absurd (true≢false h)
+all-fails (suc n) test h = go (test n) refl (all-fails n test) h
+  where
+    go : (t : Bool) → test n ≡ t → (allBelow n test ≡ false → (i : ℕ) × ((i < n) × (test i ≡ false))) → t && allBelow n test ≡ false → (i : ℕ) × ((i < suc n) × (test i ≡ false))
+    go true e rest h = let found = rest h in let less = found .1 .0 in (found .0, (omega arith, found .1 .1))
+    go false e rest h = (n, (omega arith, e))
 
 -- two tests that agree below the bound
 pub all-same : (n : ℕ) (f g : ℕ → Bool) → ((i : ℕ) → i < n → f i ≡ g i) → allBelow n f ≡ allBelow n g

@@ -12,10 +12,6 @@ use Rattle.bits.specs.Pack.{pack, pack-same, pack-below}
 unfoldable pub packFrom : ℕ → (ℕ → Bool) → ℕ → ℕ
 packFrom n f i = pack (n - i) (λ j. f (i + j))
 
-pub from-with : (n : ℕ) (f : ℕ → Bool) (i : ℕ) → packFrom n f i ≡ pack (n - i) (λ j. f (i + j))
-unfolding packFrom
-from-with n f i = refl
-
 pub from-none : (n : ℕ) (f : ℕ → Bool) → packFrom n f n ≡ 0
 unfolding packFrom pack
 from-none n f = rw (sub-self n)

@@ -6,7 +6,7 @@ use native.Mathlib.Omega.{arith}
 use native.Mathlib.Decide.{decLe}
 use native.Mathlib.Nat.{add-zero, le-of-suc-le-suc}
 use lib.ListN.{length, getD, take, drop, replicate, length-append, length-drop, List·getD-append}
-use lib.Seq.{ext-getD, getD-append-add, getD-drop, drop-drop, drop-append-add, take-append-seam}
+use lib.Seq.{ext-getD, getD-append-add, getD-drop, drop-at, drop-drop, drop-append-add, take-append-seam}
 
 module _ {A : Type 0} where
   -- f 0, f 1, .., n elements
@@ -102,6 +102,11 @@ module _ {A : Type 0} where
   pub over-length : (a old : List A) → length a ≤ length old → length (over a old) ≡ length old
   unfolding over
   over-length a old h = length-append a (drop (length a) old) ∙ (let l = length-drop (length a) old in omega arith)
+
+  -- the same written twice
+  pub over-twice : (a old : List A) → over a (over a old) ≡ over a old
+  unfolding over
+  over-twice a old = ap (λ (l : List A). a ++ l) (drop-at a (drop (length a) old) (length a) refl)
 
   pub over-front : (a old : List A) (i : ℕ) (d : A) → i < length a → getD (over a old) i d ≡ getD a i d
   unfolding over

@@ -1,5 +1,5 @@
 -- The starred examples of document 01.
-use Prim.Native.Nat.{ℕ}
+use Prim.Native.Nat.{ℕ, zero, suc}
 use mathlib.Core.Bool.{Bool, true, false}
 use mathlib.Core.List.{List, [], _∷_}
 
@@ -84,6 +84,11 @@ e6 =
       typings = [];
     }
 
+-- one column for each number below n, all with the same subsets
+abbrev pub columnsBelow : ℕ → List ℕ → List ℕ → List Column
+columnsBelow zero a o = []
+columnsBelow (suc n) a o = column n a o ∷ columnsBelow n a o
+
 -- r0 × r0, m 1: only s = 0 allowed anywhere; typable
 abbrev pub e7 : Case
 e7 =
@@ -91,7 +96,7 @@ e7 =
       file = 1 ∷ 2 ∷ 1 ∷ 0 ∷ 14 ∷ 0 ∷ 0 ∷ 4 ∷ [];
       relations = 1;
       nodes = 2;
-      columns = column 0 (0 ∷ []) [] ∷ column 1 (0 ∷ []) [] ∷ column 15 (0 ∷ []) [] ∷ [];
+      columns = columnsBelow 16 (0 ∷ []) [];
       blocked = 16;
       witness = 0 ∷ 0 ∷ [];
       typings = typed (0 ∷ 0 ∷ []) (0 ∷ 0 ∷ []) ∷ untyped (2 ∷ 0 ∷ []) ∷ [];
@@ -104,7 +109,7 @@ e8 =
       file = 1 ∷ 2 ∷ 1 ∷ 0 ∷ 26 ∷ 0 ∷ 6 ∷ 0 ∷ 0 ∷ [];
       relations = 1;
       nodes = 2;
-      columns = column 0 (0 ∷ 1 ∷ []) [] ∷ column 1 (0 ∷ 1 ∷ []) [] ∷ column 15 (0 ∷ 1 ∷ []) [] ∷ [];
+      columns = columnsBelow 16 (0 ∷ 1 ∷ []) [];
       blocked = 16;
       witness = 0 ∷ 0 ∷ [];
       typings = typed (3 ∷ 0 ∷ 1 ∷ 16 ∷ 0 ∷ []) (0 ∷ 0 ∷ []) ∷ [];

@@ -26,14 +26,15 @@ use Rattle.formulas.specs.Truth.{left, right}
 use Rattle.formula.specs.Expressions.{expressionAt, earlier}
 use Rattle.formula.specs.Stored.{allowedBit, outputBit, admitted}
 use Rattle.formula.specs.StoredLaws.{admitted-passes}
-use Rattle.verdict.specs.Witness.{recordWord, recordByte as witnessByte}
-use Rattle.verdict.specs.Verdict.{judged, verdictAnswer, verdictSchema}
-use Rattle.verdict.specs.Cells.{subsetOf, blockedOf, witnessOf, verdict-answer, verdict-schema}
+use Rattle.verdict.specs.Lowest.{lowestOf, blockedBy, blockedOf, chosenBy}
+use Rattle.verdict.specs.Verdict.{witnessBytes, witnessOf, judged, judgement, judgedSchema, verdictAnswer, verdictSchema}
+use Rattle.verdict.specs.VerdictLaws.{verdict-passes}
 use Rattle.type_record.specs.Lists.{readFrom, readList, listed}
 use Rattle.type_record.specs.Record.{readRecord, recordSize, recordAt, recordByte, recordBytes}
 use Rattle.type_record.specs.RecordBytes.{record-length}
 use Rattle.membership.specs.Entries.{enter}
-use Rattle.schema.specs.Schema.{Records, recordsRefused, recordsRead, readRecords, entriesOf, mapsOf}
+use Rattle.membership.specs.Special.{mapOf, mapsFrom}
+use Rattle.schema.specs.Schema.{Records, recordsRefused, recordsRead, readRecords, schemaBytes, entriesOf, mapsOf, recordsOf}
 use Rattle.typing.specs.Output.{typedIn, outputMap, outputList}
 use Rattle.typing.specs.Typing.{typedAnswer, tableAnswer, typedOut, tableOut, typingAnswer, typingOut}
 use Rattle.typing.specs.TypingLaws.{typing-records}
@@ -65,7 +66,7 @@ AllHold m e (c ∷ cs) = ColumnHolds m e c × AllHold m e cs
 
 -- what Verdict does on the last node, in slices that are long enough: the answer, and the schema slice with the witness or as it was
 pub record VerdictHolds (x : Case) (work schema : List ℕ) : Type 0 where
-  pub answer : verdictAnswer (x .file) (x .nodes - 1) (length work) (length schema) ≡ judged (ltb (x .blocked) 16) (x .blocked) (x .relations)
+  pub answer : verdictAnswer (x .file) (x .nodes - 1) (length work) (length schema) ≡ judged (ltb (x .blocked) 16) (x .blocked) (x .witness)
   pub slice : verdictSchema (x .file) (x .nodes - 1) (length work) schema ≡ cond (ltb (x .blocked) 16) schema (over (x .witness) schema)
 
 -- what Typing does on the last node under a schema, in a slice that is long enough: the answer, and the slice with the output record or as it was
@@ -163,21 +164,21 @@ columns-hold m e (c ∷ cs) t =
       columns-hold m e cs (right (same (passing (2 ^ m) (allowedBit m e (c .number))) (c .allowed) && same (passing (2 ^ m) (outputBit m e (c .number))) (c .output)) (columnsPass m e cs) t),
     )
 
-witness-is : (untypable : Bool) (w w′ schema : List ℕ) → T (witnessPasses untypable w w′) → cond untypable schema (over w schema) ≡ cond untypable schema (over w′ schema)
+witness-is : (untypable : Bool) (blocked : ℕ) (w w′ schema : List ℕ) → T (witnessPasses untypable w w′) → (judged untypable blocked w ≡ judged untypable blocked w′) × (cond untypable schema (over w schema) ≡ cond untypable schema (over w′ schema))
 unfolding witnessPasses
-witness-is true w w′ schema t = refl
-witness-is false w w′ schema t = ap (λ (l : List ℕ). over l schema) (same-is w w′ t)
+witness-is true blocked w w′ schema t = (refl, refl)
+witness-is false blocked w w′ schema t = let is = same-is w w′ t in (ap (judged false blocked) is, ap (λ (l : List ℕ). over l schema) is)
 
 verdict-holds : (x : Case) → acceptance (x .file) ≡ Accepted (x .relations) (x .nodes) → blockedOf (x .relations) (lastOf x) ≡ x .blocked → T (witnessPasses (ltb (x .blocked) 16) (witnessOf (x .relations) (lastOf x)) (x .witness)) → 0 < x .nodes → (work schema : List ℕ) → x .nodes * 1024 ≤ length work → 4104 ≤ length schema → VerdictHolds x work schema
+unfolding judgement judgedSchema blockedOf witnessOf
 verdict-holds x accepted blocked t some work schema space slice =
     let admits = admitted-passes (x .file) (x .nodes - 1) (length work) (record { accepted = accepted; node = omega arith; workSpace = space }) in
     let goes = sliced-passes (admitted (x .file) (x .nodes - 1) (length work)) (length schema) 4104 admits slice in
+    let results = verdict-passes (x .file) (x .nodes - 1) work schema (x .relations) (x .nodes) goes in
+    let same = witness-is (ltb (x .blocked) 16) (x .blocked) (witnessOf (x .relations) (lastOf x)) (x .witness) schema t in
     record {
-      answer = verdict-answer (x .file) (x .nodes - 1) work schema (x .relations) (x .nodes) goes ∙ ap (λ (b : ℕ). judged (ltb b 16) b (x .relations)) blocked;
-      slice =
-          verdict-schema (x .file) (x .nodes - 1) work schema (x .relations) (x .nodes) goes
-          ∙ ap (λ (b : ℕ). cond (ltb b 16) schema (over (witnessOf (x .relations) (lastOf x)) schema)) blocked
-          ∙ witness-is (ltb (x .blocked) 16) (witnessOf (x .relations) (lastOf x)) (x .witness) schema t;
+      answer = sym (results .0) ∙ ap (λ (b : ℕ). judged (ltb b 16) b (witnessOf (x .relations) (lastOf x))) blocked ∙ same .0;
+      slice = sym (results .1 .1) ∙ ap (λ (b : ℕ). cond (ltb b 16) schema (over (witnessOf (x .relations) (lastOf x)) schema)) blocked ∙ same .1;
     }
 
 output-is : (t t′ : Bool) (e : Expression) (special entries record-is out : List ℕ) → T (outputPasses t t′ (recordBytes (outputMap e special) (outputList e entries)) record-is) → (typedAnswer t e entries ≡ cond t′ (Typed (length record-is)) Untyped) × (typedOut t e special entries out ≡ cond t′ (over record-is out) out)
@@ -242,5 +243,5 @@ each-holds (x ∷ xs) t (suc i) h = each-holds xs (right (passes x) (every xs) t
 
 -- the theorem: every case of the table holds; antt computes the test
 pub examples-hold : (i : ℕ) → i < length table → Holds (getD table i none)
-unfolding every passes same accepts columnsPass witnessPasses outputPasses recordsPass typingsPass readRecords readRecord readList readFrom recordSize recordAt listed word entriesOf mapsOf enter typedIn outputMap recordBytes recordByte passing subsetOf blockedOf witnessOf witnessByte recordWord pack tab bit lowestFrom allowedBit outputBit expressionAt earlier acceptance parse header readNodes readNode checkNode checkFields sizeOf nodeOf refuse inRange special hasAttribute setOf binaryOf setOpOf entryAt nodeEntries table
+unfolding every passes same accepts columnsPass witnessPasses outputPasses recordsPass typingsPass readRecords readRecord readList readFrom recordSize recordAt listed word entriesOf mapsOf enter typedIn outputMap recordBytes recordByte passing lowestOf blockedBy blockedOf chosenBy witnessBytes witnessOf schemaBytes recordsOf mapsFrom mapOf pack tab bit lowestFrom allowedBit outputBit expressionAt earlier acceptance parse header readNodes readNode checkNode checkFields sizeOf nodeOf refuse inRange special hasAttribute setOf binaryOf setOpOf entryAt nodeEntries table
 examples-hold = each-holds table tt

@@ -4,9 +4,9 @@ use mathlib.Core.Path.{_≡_, refl, ap, _∙_}
 use mathlib.Core.Bool.{Bool, true, false}
 use mathlib.Core.List.{List}
 use native.Mathlib.Omega.{arith}
-use borrow.Author.Tests.{lt-ltb, le-ltb, le-leb, lt-leb, leb-true, leb-false, ltb-false}
+use borrow.Author.Tests.{lt-ltb, le-ltb, le-leb, lt-leb, leb-false, ltb-false}
 use lib.Dec.{ltb, leb, lit≤}
-use Rattle.refusal.specs.Chain.{refuse-stops, refuse-passes, refuse-past}
+use Rattle.refusal.specs.Chain.{refuse-stops, refuse-passes, refuse-past, refuse-has}
 use Rattle.refusal.specs.Number.{numberOf}
 use Rattle.refusal.specs.declared.Refusal.{Refusal}
 use Rattle.refusal.specs.declared.Refusal.the-variants.{NodeNumber, ResultSlice}
@@ -43,6 +43,15 @@ module _ (a : Acceptance) (test : ℕ → Bool) (q : Refusal) where
           let same : n ≡ n′ = cc in
           (is, ap test same ∙ past .0)
 
+-- the refusal of a test is its own or came before
+pub tested-number : (a : Acceptance) (test : ℕ → Bool) (q : Refusal) (most : ℕ) → ((r : Refusal) → a ≡ Refused r → numberOf r ≤ most) → numberOf q ≤ most → (r : Refusal) → tested a test q ≡ Refused r → numberOf r ≤ most
+unfolding tested
+tested-number a test q most before own r e = go a refl e
+  where
+    go : (b : Acceptance) → a ≡ b → tested b test q ≡ Refused r → numberOf r ≤ most
+    go (Refused p) is said = before r (is ∙ said)
+    go (Accepted m n) is said = refuse-has (λ (b : Acceptance). b ≡ Refused r → numberOf r ≤ most) Refused (test n) q (Accepted m n) (λ same. let here : q ≡ r = cc in rw (← here) own) (λ passes other. absurd (let z : _≡_ {A = ℕ} 0 1 = cc in omega arith)) said
+
 -- ---- 13
 
 module _ (a : Acceptance) (size least : ℕ) where
@@ -57,6 +66,10 @@ module _ (a : Acceptance) (size least : ℕ) where
   pub sliced-passes : {m n : ℕ} → a ≡ Accepted m n → least ≤ size → sliced a size least ≡ Accepted m n
   unfolding sliced
   sliced-passes e h = tested-passes a (λ n. ltb size least) ResultSlice e (le-ltb size least h)
+
+  pub sliced-number : (most : ℕ) → 13 ≤ most → ((r : Refusal) → a ≡ Refused r → numberOf r ≤ most) → (r : Refusal) → sliced a size least ≡ Refused r → numberOf r ≤ most
+  unfolding sliced
+  sliced-number most enough before r e = tested-number a (λ n. ltb size least) ResultSlice most before enough r e
 
   pub sliced-passed : {m n : ℕ} → sliced a size least ≡ Accepted m n → (a ≡ Accepted m n) × (least ≤ size)
   unfolding sliced
@@ -83,12 +96,5 @@ module _ (file : List ℕ) (k : ℕ) where
 
   -- no later refusal comes of it
   pub asked-number : {r : Refusal} → asked file k ≡ Refused r → numberOf r ≤ 11
-  asked-number {r} e = go (acceptance file) refl
-    where
-      node : (m n : ℕ) → acceptance file ≡ Accepted m n → (t : Bool) → leb n k ≡ t → numberOf r ≤ 11
-      node m n is true h = let stops = asked-stops is (leb-true n k h) in let same : NodeNumber ≡ r = cc in rw (← same) (lit≤ tt)
-      node m n is false h = absurd (let found = asked-passes is (leb-false n k h) in let z : _≡_ {A = ℕ} 0 1 = cc in omega arith)
-
-      go : (a : Acceptance) → acceptance file ≡ a → numberOf r ≤ 11
-      go (Refused q) is = let stops = asked-refused is in let same : q ≡ r = cc in let h = file-refused file q is in rw (← same) (omega arith)
-      go (Accepted m n) is = node m n is (leb n k) refl
+  unfolding asked
+  asked-number {r} e = tested-number (acceptance file) (λ n. leb n k) NodeNumber 11 (λ q is. let h = file-refused file q is in omega arith) (lit≤ tt) r e

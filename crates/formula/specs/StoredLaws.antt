@@ -1,22 +1,23 @@
 -- Laws of Formula and of test 12: the answer and the work space in each case, and what stands at a node's column afterwards.
 use Prim.Native.Nat.{ℕ, _*_, _^_, _≤_, _<_}
-use mathlib.Core.Path.{_≡_, refl, ap, _∙_}
+use mathlib.Core.Path.{_≡_, refl, sym, ap, _∙_}
 use mathlib.Core.Bool.{Bool, true, false, _&&_}
 use mathlib.Core.List.{List}
 use native.Mathlib.Omega.{arith}
 use borrow.Author.Tests.{lt-ltb, le-ltb, ltb-true, ltb-false}
-use lib.Dec.{ltb}
+use lib.Dec.{ltb, lit≤}
 use lib.ListN.{length}
 use Rattle.bits.specs.Bit.{bit}
 use Rattle.bits.specs.Booleans.{and-left, and-right}
-use Rattle.bits.specs.Tab.{tab, length-tab, getD-tab, over, over-length, over-front, over-back}
+use Rattle.bits.specs.Tab.{tab, length-tab, getD-tab, over, over-length, over-twice, over-front, over-back}
+use Rattle.refusal.specs.Number.{numberOf}
 use Rattle.refusal.specs.declared.Refusal.{Refusal}
 use Rattle.refusal.specs.declared.Refusal.the-variants.{WorkSpace}
 use Rattle.expression.specs.declared.files.Acceptance.{Acceptance}
 use Rattle.expression.specs.declared.files.Acceptance.the-variants.{Accepted, Refused}
 use Rattle.expression.specs.ReadFile.{acceptance}
 use Rattle.expression.specs.Admission.{asked}
-use Rattle.expression.specs.AdmissionLaws.{tested-refused, tested-stops, tested-passes, passed, asked-passes, asked-passed}
+use Rattle.expression.specs.AdmissionLaws.{tested-refused, tested-stops, tested-passes, passed, tested-number, asked-passes, asked-passed, asked-number}
 use Rattle.algebra.specs.Expression.{Expression}
 use Rattle.algebra.specs.Cell.{plain, out, ok}
 use Rattle.formula.specs.Expressions.{expressionAt}
@@ -63,6 +64,11 @@ module _ (file : List ℕ) (k space : ℕ) where
   unfolding admitted
   admitted-passes a = spaced-passes (asked file k) space (asked-passes file k (a .accepted) (a .node)) (a .workSpace)
 
+  -- no later refusal comes of it
+  pub admitted-number : (r : Refusal) → admitted file k space ≡ Refused r → numberOf r ≤ 12
+  unfolding admitted spaced
+  admitted-number r e = tested-number (asked file k) (λ n. ltb space (n * 1024)) WorkSpace 12 (λ q is. let h = asked-number file k is in omega arith) (lit≤ tt) r e
+
 -- ---- Formula
 
 pub answer-filled : (file : List ℕ) (space m n : ℕ) → acceptance file ≡ Accepted m n → n * 1024 ≤ space → formulaAnswer file space ≡ Accepted m n
@@ -77,9 +83,33 @@ pub space-refused : (file work : List ℕ) (r : Refusal) → formulaAnswer file 
 unfolding formulaSpace
 space-refused file work r e = rw e
 
+formulas-length : (file : List ℕ) (m n : ℕ) → length (formulasOf file m n) ≡ n * 1024
+unfolding formulasOf
+formulas-length file m n = length-tab (n * 1024) (storedByte file m)
+
 pub space-filled : (file work : List ℕ) (m n : ℕ) → formulaAnswer file (length work) ≡ Accepted m n → formulaSpace file work ≡ over (formulasOf file m n) work
 unfolding formulaSpace
 space-filled file work m n e = rw e
+
+-- filling it again changes nothing
+pub space-again : (file work : List ℕ) → formulaSpace file (formulaSpace file work) ≡ formulaSpace file work
+space-again file work = go (formulaAnswer file (length work)) refl
+  where
+    go : (a : Acceptance) → formulaAnswer file (length work) ≡ a → formulaSpace file (formulaSpace file work) ≡ formulaSpace file work
+    go (Refused r) e = rw (space-refused file work r e) (space-refused file work r e)
+    go (Accepted m n) e =
+        let enough = answer-file file (length work) m n e in
+        let size = formulas-length file m n in
+        let space = enough .1 in
+        let same = over-length (formulasOf file m n) work (omega arith) in
+        rw (space-filled file work m n e)
+        (space-filled file (over (formulasOf file m n) work) m n (rw same e) ∙ over-twice (formulasOf file m n) work)
+
+-- an operation that fills the work space, 1 to 12 being passed, leaves it as Formula does
+pub admitted-space : (file : List ℕ) (k : ℕ) (work : List ℕ) (m n : ℕ) → admitted file k (length work) ≡ Accepted m n → over (formulasOf file m n) work ≡ formulaSpace file work
+admitted-space file k work m n e =
+    let admits = admitted-passed file k (length work) e in
+    sym (space-filled file work m n (answer-filled file (length work) m n (admits .accepted) (admits .workSpace)))
 
 -- ---- what stands there: column c of node k is the column of its expression's cells
 
@@ -93,21 +123,6 @@ stored-column file work m n fits k c hk hc =
       size = whole;
       front = λ i h. over-front (tab (n * 1024) (storedByte file m)) work i 0 (omega arith) ∙ getD-tab (n * 1024) (storedByte file m) i 0 h;
       back = λ i h. over-back (tab (n * 1024) (storedByte file m)) work i 0 (omega arith);
-    })
-    (omega arith)
-    (omega arith)
-    hc
-
--- and in the formulas by themselves
-pub formulas-column : (file : List ℕ) (m n k c : ℕ) → k < n → c < 16 → columnAt (formulasOf file m n) k c ≡ cellColumn m (expressionAt file k) c
-unfolding formulasOf
-formulas-column file m n k c hk hc =
-    let size = length-tab (n * 1024) (storedByte file m) in
-    filled-column file m (n * 1024) (tab (n * 1024) (storedByte file m)) (tab (n * 1024) (storedByte file m)) k c
-    (record {
-      size = refl;
-      front = λ i h. getD-tab (n * 1024) (storedByte file m) i 0 h;
-      back = λ i h. refl;
     })
     (omega arith)
     (omega arith)

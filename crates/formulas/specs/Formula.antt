@@ -12,9 +12,13 @@ pub record Formula : Type 0 where
   pub allowed : ℕ → ℕ → Bool
   pub output : ℕ → ℕ → Bool
 
--- "The type variables are the s above 0 allowed in column 0."
+-- "The type variables are the s above 0 allowed in column 0.": by which subsets column 0 allows
+abbrev pub typeVariable : (ℕ → Bool) → ℕ → Bool
+typeVariable allowed s = ltb 0 s && allowed s
+
+-- of a formula: a subset of its relations
 abbrev pub isVariable : Formula → ℕ → Bool
-isVariable F s = ltb 0 s && ltb s (2 ^ F .relations) && F .allowed 0 s
+isVariable F s = ltb s (2 ^ F .relations) && typeVariable (F .allowed 0) s
 
 -- the formula allows each attribute as the assignment has it, and its output is t
 pub record Fits (F : Formula) (A : Assignment) (t : Attrs) (a : ℕ) : Type 0 where

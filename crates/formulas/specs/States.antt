@@ -13,7 +13,7 @@ use Rattle.attribute_set.specs.AttrSet.{special}
 use Rattle.attribute_set.specs.Laws.{special-range, special-in}
 use Rattle.types.specs.Types.{Attrs, IsType, Assignment, IsAssignment, ordinary, column, holders}
 use Rattle.types.specs.Laws.{finite-by, finite-bound, column-of-special, column-of-other, holders-bit, holders-below}
-use Rattle.formulas.specs.Formula.{Formula, Fits, isVariable}
+use Rattle.formulas.specs.Formula.{Formula, Fits, typeVariable, isVariable}
 use Rattle.formulas.specs.Truth.{is-true, is-false, by-true, decided, both, left, right}
 use Rattle.formulas.specs.Search.{Below, found, missing, search-below}
 
@@ -107,18 +107,17 @@ variable F s = (out, into)
   where
     out : T (isVariable F s) → Variable F s
     out h =
-        let k = left (ltb 0 s && ltb s (2 ^ F .relations)) (F .allowed 0 s) h in
+        let k = right (ltb s (2 ^ F .relations)) (typeVariable (F .allowed 0) s) h in
         record {
-          some = ltb→lt 0 s (left (ltb 0 s) (ltb s (2 ^ F .relations)) k);
-          below = ltb→lt s (2 ^ F .relations) (right (ltb 0 s) (ltb s (2 ^ F .relations)) k);
-          allowed = is-true (F .allowed 0 s) (right (ltb 0 s && ltb s (2 ^ F .relations)) (F .allowed 0 s) h);
+          some = ltb→lt 0 s (left (ltb 0 s) (F .allowed 0 s) k);
+          below = ltb→lt s (2 ^ F .relations) (left (ltb s (2 ^ F .relations)) (typeVariable (F .allowed 0) s) h);
+          allowed = is-true (F .allowed 0 s) (right (ltb 0 s) (F .allowed 0 s) k);
         }
 
     into : Variable F s → T (isVariable F s)
     into v =
-        both (ltb 0 s && ltb s (2 ^ F .relations)) (F .allowed 0 s)
-        (both (ltb 0 s) (ltb s (2 ^ F .relations)) (lt→ltb 0 s (v .some)) (lt→ltb s (2 ^ F .relations) (v .below)))
-        (by-true (v .allowed))
+        both (ltb s (2 ^ F .relations)) (typeVariable (F .allowed 0) s) (lt→ltb s (2 ^ F .relations) (v .below))
+        (both (ltb 0 s) (F .allowed 0 s) (lt→ltb 0 s (v .some)) (by-true (v .allowed)))
 
 -- what fitting says of an attribute, with its column and its holders
 pub fits-at : (F : Formula) (A : Assignment) (t : Attrs) (a c s : ℕ) → column a ≡ c → holders (F .relations) A a ≡ s → Fits F A t a ↔ (F .allowed c s ≡ true) × (F .output c s ≡ t a)

@@ -14,3 +14,5 @@ pub mod ChainLaws
 pub mod MapLaws
 pub mod TableLaws
 pub mod SortedLists
+pub mod ListZero
+pub mod StandingBits

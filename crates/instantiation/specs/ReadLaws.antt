@@ -39,6 +39,10 @@ module _ (bytes : List ℕ) (ls : List (List ℕ)) (below : Bytes bytes) (enough
         below = λ s. all-at ls (read .all) s .below;
       }
 
+  -- the bits of the lists that are not empty stand, and no other
+  pub lists-standing : (s : ℕ) → s < 256 → standing bytes s ≡ some (getD ls s [])
+  lists-standing s h = let same : 0 + s ≡ s = omega arith in ap (standing bytes) (sym same) ∙ read .stands s h
+
   -- ---- writing what was read
 
   subset-bytes : take 15 bytes ≡ tab 15 (λ i. getD (subsetsOf bytes) (i + 1) 0)

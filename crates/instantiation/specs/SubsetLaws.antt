@@ -56,6 +56,25 @@ member-holders p s (e ∷ es) h a m = go (eqb (subsetOf e) s) refl (eqb a (attri
         omega arith)
     go false apart false other rest m = rest m
 
+-- an attribute that is listed under s is that of an entry with the subset s
+pub subset-found : (s : ℕ) (es : List ℕ) → 1 ≤ length (withSubset s es) → (i : ℕ) × (i < length es) × (subsetOf (getD es i 0) ≡ s)
+subset-found s [] h = absurd (omega arith)
+subset-found s (e ∷ es) h = go (eqb (subsetOf e) s) refl (subset-found s es) h
+  where
+    go : (b : Bool) → eqb (subsetOf e) s ≡ b → (1 ≤ length (withSubset s es) → (i : ℕ) × (i < length es) × (subsetOf (getD es i 0) ≡ s)) → 1 ≤ length (cond b (attributeOf e ∷ withSubset s es) (withSubset s es)) → (i : ℕ) × (i < length (e ∷ es)) × (subsetOf (getD (e ∷ es) i 0) ≡ s)
+    go true is rest h = (0, omega arith, eqb-true (subsetOf e) s is)
+    go false other rest h = let found = rest h in let less = found .1 in (suc (found .0), omega arith, found .2)
+
+-- and each entry's attribute is listed under its subset
+pub subset-some : (es : List ℕ) (i : ℕ) → i < length es → 1 ≤ length (withSubset (subsetOf (getD es i 0)) es)
+subset-some [] i h = absurd (omega arith)
+subset-some (e ∷ es) zero h = rw (eq-eqb (subsetOf e) (subsetOf e) refl) (omega arith)
+subset-some (e ∷ es) (suc i) h = go (eqb (subsetOf e) (subsetOf (getD es i 0))) (subset-some es i (omega arith))
+  where
+    go : (b : Bool) → 1 ≤ length (withSubset (subsetOf (getD es i 0)) es) → 1 ≤ length (cond b (attributeOf e ∷ withSubset (subsetOf (getD es i 0)) es) (withSubset (subsetOf (getD es i 0)) es))
+    go true rest = omega arith
+    go false rest = rest
+
 -- no attribute has the empty subset
 pub subset-none : (es : List ℕ) → Positive es → withSubset 0 es ≡ []
 subset-none [] h = refl

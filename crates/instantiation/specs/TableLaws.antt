@@ -1,23 +1,29 @@
 -- Laws of an instantiation that was read: its lists, and the table that is made of them.
-use Prim.Native.Nat.{ℕ, _-_, _≤_, _<_}
-use mathlib.Core.Path.{_≡_, refl, ap, _∙_}
+use Prim.Native.Nat.{ℕ, zero, suc, _+_, _-_, _*_, _≤_, _<_}
+use mathlib.Core.Path.{_≡_, refl, sym, ap, subst, _∙_}
 use mathlib.Core.Bool.{Bool, true, false, cond}
-use mathlib.Core.List.{List}
+use mathlib.Core.List.{List, [], _∷_}
 use native.Mathlib.Decide.{decLt}
 use native.Mathlib.Omega.{arith}
 use borrow.Author.Tests.{le-ltb, ltb-false}
-use lib.Dec.{eqb, ltb, lit<}
+use lib.Dec.{eqb, ltb, lit<, lit≤}
 use lib.ListN.{length, getD, take, drop, List·getD-eq-default}
 use lib.Seq.{take-all}
 use Rattle.bits.specs.Tab.{tab, length-tab, getD-tab}
 use Rattle.bits.specs.Word.{Bytes}
+use Rattle.refusal.specs.Number.{numberOf}
 use Rattle.refusal.specs.declared.Refusal.{Refusal}
 use Rattle.refusal.specs.declared.Refusal.the-variants.{InputTruncated, RepeatedAttribute, TooManyAttributes}
 use Rattle.membership.specs.Entries.{tableOf}
 use Rattle.membership.specs.TableLaws.{table-count, table-size, table-entries, table-item}
-use Rattle.schema.specs.declared.reading.Judgement.the-variants.{Read}
+use Rattle.type_record.specs.declared.lists.ListReading.{ListReading}
+use Rattle.type_record.specs.declared.lists.ListReading.the-variants.{Listed, Refused as ListRefused}
+use Rattle.type_record.specs.Lists.{readList, listed}
+use Rattle.type_record.specs.ListLaws.{list-number}
+use Rattle.schema.specs.declared.reading.Judgement.the-variants.{Read, Refused}
 use Rattle.instantiation.specs.Seen.{nothingSeen, repeatedIn}
-use Rattle.instantiation.specs.Instantiation.{Lists, listsRefused, listsRead, readLists, entriesIn, allListed, subsetsOf, refusedInstantiation, tabled, instantiationReading}
+use Rattle.instantiation.specs.Instantiation.{Lists, listsRefused, listsRead, standing, precede, follow, readLists, entriesIn, allListed, subsetsOf, refusedInstantiation, tabled, instantiationReading}
+use Rattle.instantiation.specs.ReadStep.{read-clear, read-stands}
 use Rattle.instantiation.specs.declared.reading.Instantiation.{Instantiation}
 
 -- an instantiation that was read from these bytes, with its lists
@@ -57,6 +63,57 @@ pub read-instantiation : (bytes : List ℕ) (ls : List (List ℕ)) → 47 ≤ le
 unfolding instantiationReading
 read-instantiation bytes ls enough read once few =
     record { long = enough; read = read; once = once; few = few; is = rw (le-ltb (length bytes) 47 enough, read, once, le-ltb 255 (length (entriesIn ls)) few) }
+
+-- ---- it is refused by 14 to 19
+
+abbrev Early : Lists → Type 0
+Early (listsRead ls) = Unit {0}
+Early (listsRefused r) = numberOf r ≤ 17
+
+preceded-early : (l : List ℕ) (ls : Lists) → Early ls → Early (precede l ls)
+preceded-early l (listsRead ls) h = h
+preceded-early l (listsRefused r) h = h
+
+lists-early : (whole : List ℕ) (left s : ℕ) (bytes : List ℕ) → Early (readLists whole left s bytes)
+unfolding readLists
+lists-early whole zero s [] = tt
+lists-early whole zero s (b ∷ bs) = lit≤ tt
+lists-early whole (suc left) s bytes = go (standing whole s) refl (λ after. lists-early whole left (s + 1) after)
+  where
+    followed : (r : ListReading) → readList bytes ≡ r → ((after : List ℕ) → Early (readLists whole left (s + 1) after)) → Early (follow r bytes (readLists whole left (s + 1)))
+    followed (ListRefused r) reading rest = let most = list-number bytes r reading in omega arith
+    followed (Listed n) reading rest = preceded-early (listed n bytes) (readLists whole left (s + 1) (drop (n * 2 + 1) bytes)) (rest (drop (n * 2 + 1) bytes))
+
+    go : (b : Bool) → standing whole s ≡ b → ((after : List ℕ) → Early (readLists whole left (s + 1) after)) → Early (readLists whole (suc left) s bytes)
+    go true stands rest = subst Early (sym (read-stands whole left s bytes stands)) (followed (readList bytes) refl rest)
+    go false clear rest = subst Early (sym (read-clear whole left s bytes clear)) (preceded-early [] (readLists whole left (s + 1) bytes) (rest bytes))
+
+refused-by : (q r : Refusal) → refusedInstantiation q .judgement ≡ Refused r → q ≡ r
+unfolding refusedInstantiation
+refused-by q r e = cc
+
+pub reading-number : (bytes : List ℕ) (r : Refusal) → instantiationReading bytes .judgement ≡ Refused r → numberOf r ≤ 19
+unfolding instantiationReading
+reading-number bytes r e = long (ltb (length bytes) 47) e
+  where
+    number : (q : Refusal) → numberOf q ≤ 19 → refusedInstantiation q .judgement ≡ Refused r → numberOf r ≤ 19
+    number q most said = rw (← refused-by q r said) most
+
+    counted : (ls : List (List ℕ)) (t : Bool) → cond t (refusedInstantiation TooManyAttributes) (record { judgement = Read; subsets = subsetsOf bytes; entries = tableOf (entriesIn ls) }) .judgement ≡ Refused r → numberOf r ≤ 19
+    counted ls true said = number TooManyAttributes (lit≤ tt) said
+    counted ls false said = absurd (let z : _≡_ {A = ℕ} 0 1 = cc in omega arith)
+
+    unrepeated : (ls : List (List ℕ)) (t : Bool) → cond t (refusedInstantiation RepeatedAttribute) (cond (ltb 255 (length (entriesIn ls))) (refusedInstantiation TooManyAttributes) (record { judgement = Read; subsets = subsetsOf bytes; entries = tableOf (entriesIn ls) })) .judgement ≡ Refused r → numberOf r ≤ 19
+    unrepeated ls true said = number RepeatedAttribute (lit≤ tt) said
+    unrepeated ls false said = counted ls (ltb 255 (length (entriesIn ls))) said
+
+    listed-so : (ls : Lists) → Early ls → tabled ls bytes .judgement ≡ Refused r → numberOf r ≤ 19
+    listed-so (listsRefused q) early said = number q (omega arith) said
+    listed-so (listsRead ls) early said = unrepeated ls (repeatedIn nothingSeen (allListed ls)) said
+
+    long : (t : Bool) → cond t (refusedInstantiation InputTruncated) (tabled (readLists bytes 256 0 (drop 47 bytes)) bytes) .judgement ≡ Refused r → numberOf r ≤ 19
+    long true said = number InputTruncated (lit≤ tt) said
+    long false said = listed-so (readLists bytes 256 0 (drop 47 bytes)) (lists-early bytes 256 0 (drop 47 bytes)) said
 
 -- ---- what stands in its table
 

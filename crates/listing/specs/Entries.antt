@@ -4,6 +4,7 @@ use mathlib.Core.Bool.{Bool, cond, _&&_}
 use mathlib.Core.List.{List, [], _∷_, _++_}
 use lib.Dec.{ltb}
 use Rattle.bits.specs.Bit.{bit}
+use Rattle.formulas.specs.Formula.{typeVariable}
 use Rattle.column.specs.Column.{allowedIn, outputIn}
 use Rattle.listing.specs.declared.entries.Kind.{Kind}
 use Rattle.listing.specs.declared.entries.Kind.the-variants.{Variables, Output, Signed}
@@ -19,7 +20,7 @@ KindFits Signed = Unit
 
 -- whether subset s is in the list
 abbrev pub listed : Kind → List ℕ → ℕ → Bool
-listed (Variables r) column s = ltb 0 s && allowedIn column s && bit s r
+listed (Variables r) column s = typeVariable (allowedIn column) s && bit s r
 listed Output column s = ltb 0 s && outputIn column s
 listed Signed column s = allowedIn column s
 

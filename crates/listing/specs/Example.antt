@@ -1,4 +1,4 @@
--- The text of E1, as document 01 prints it.
+-- The texts of E1, as document 01 prints it, and of E5, an untypable node.
 use mathlib.Core.Path.{_≡_, refl}
 use mathlib.Core.List.{List, [], _∷_}
 use Prim.Native.Nat.{ℕ}
@@ -12,7 +12,7 @@ use Rattle.node.specs.ReadNode.{sizeOf, checkFields, checkNode, nodeOf, readNod
 use Rattle.expression.specs.ReadFile.{acceptance, parse, header, readNodes, entryAt, entriesOf}
 use Rattle.formula.specs.Expressions.{expressionAt, earlier}
 use Rattle.formula.specs.Stored.{allowedBit, outputBit}
-use Rattle.verdict.specs.Cells.{subsetOf, blockedOf}
+use Rattle.verdict.specs.Lowest.{lowestOf, blockedBy, blockedOf}
 use Rattle.text.specs.Each.{each}
 use Rattle.text.specs.Characters.{subsetText, hexDigit, decimal}
 use Rattle.listing.specs.Text.{textOf, listing, nodeLine, relationLine, outLine, attributeLine, namedBelow, isBlocked}
@@ -31,5 +31,20 @@ pub e1-text :
     ∷ 97 ∷ 49 ∷ 58 ∷ 32 ∷ 48 ∷ 49 ∷ 45 ∷ 32 ∷ 48 ∷ 53 ∷ 43 ∷ 10
     ∷ 97 ∷ 50 ∷ 58 ∷ 32 ∷ 48 ∷ 50 ∷ 43 ∷ 32 ∷ 48 ∷ 54 ∷ 43 ∷ 10
     ∷ 97 ∷ 51 ∷ 58 ∷ 32 ∷ 48 ∷ 51 ∷ 43 ∷ 32 ∷ 48 ∷ 52 ∷ 43 ∷ 32 ∷ 48 ∷ 55 ∷ 43 ∷ 10 ∷ []
-unfolding textOf listing nodeLine relationLine outLine attributeLine namedBelow isBlocked each subsetText hexDigit decimal acceptance expressionAt allowedBit outputBit bit subsetOf blockedOf lowestFrom hasAttribute parse header readNodes readNode checkNode checkFields sizeOf nodeOf refuse inRange entryAt entriesOf earlier special setOf binaryOf setOpOf
+unfolding textOf listing nodeLine relationLine outLine attributeLine namedBelow isBlocked each subsetText hexDigit decimal acceptance expressionAt allowedBit outputBit bit lowestOf blockedBy blockedOf lowestFrom hasAttribute parse header readNodes readNode checkNode checkFields sizeOf nodeOf refuse inRange entryAt entriesOf earlier special setOf binaryOf setOpOf
 e1-text = refl
+
+-- σ{1,2}(π{2,3}(r0))
+abbrev pub e5 : List ℕ
+e5 = 1 ∷ 3 ∷ 1 ∷ 0 ∷ 26 ∷ 0 ∷ 6 ∷ 12 ∷ 0 ∷ 26 ∷ 1 ∷ 5 ∷ 6 ∷ 0 ∷ []
+
+pub e5-text :
+    textOf e5 ≡
+    110 ∷ 111 ∷ 100 ∷ 101 ∷ 32 ∷ 50 ∷ 32 ∷ 117 ∷ 110 ∷ 116 ∷ 121 ∷ 112 ∷ 97 ∷ 98 ∷ 108 ∷ 101 ∷ 10
+    ∷ 114 ∷ 48 ∷ 58 ∷ 32 ∷ 48 ∷ 49 ∷ 10
+    ∷ 111 ∷ 117 ∷ 116 ∷ 58 ∷ 10
+    ∷ 97 ∷ 49 ∷ 58 ∷ 10
+    ∷ 97 ∷ 50 ∷ 58 ∷ 32 ∷ 48 ∷ 49 ∷ 43 ∷ 10
+    ∷ 97 ∷ 51 ∷ 58 ∷ 32 ∷ 48 ∷ 49 ∷ 43 ∷ 10 ∷ []
+unfolding textOf listing nodeLine relationLine outLine attributeLine namedBelow isBlocked each subsetText hexDigit decimal acceptance expressionAt allowedBit outputBit bit lowestOf blockedBy blockedOf lowestFrom hasAttribute parse header readNodes readNode checkNode checkFields sizeOf nodeOf refuse inRange entryAt entriesOf earlier special setOf binaryOf setOpOf
+e5-text = refl

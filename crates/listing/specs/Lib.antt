@@ -6,4 +6,5 @@ pub mod LineLaws
 pub mod Naming
 pub mod ListingLaws
 pub mod Enough
+pub mod Theorems
 pub mod Example

@@ -1,7 +1,7 @@
 -- The lines off the columns in the work space are the lines of the text.
 use Prim.Native.Nat.{ℕ, _+_, _-_, _≤_, _<_}
-use mathlib.Core.Path.{_≡_, ap, ap₂, _∙_}
-use mathlib.Core.Bool.{Bool, cond, _&&_}
+use mathlib.Core.Path.{_≡_, refl, sym, ap, ap₂, _∙_}
+use mathlib.Core.Bool.{Bool, true, false, cond, _&&_}
 use mathlib.Core.List.{List, [], _∷_, _++_, append-nil}
 use native.Mathlib.Omega.{arith}
 use lib.Dec.{ltb}
@@ -9,17 +9,19 @@ use Rattle.bits.specs.Bit.{bit}
 use Rattle.attribute_set.specs.declared.AttrSet.{AttrSet}
 use Rattle.attribute_set.specs.AttrSet.{hasAttribute}
 use Rattle.algebra.specs.Expression.{Expression}
+use Rattle.formulas.specs.Formula.{typeVariable}
 use Rattle.expression.specs.ReadFile.{nodeAt}
 use Rattle.formula.specs.Expressions.{expressionAt}
 use Rattle.formula.specs.Storage.{columnAt}
 use Rattle.formula.specs.Stored.{allowedBit, outputBit, cellColumn}
+use Rattle.formula.specs.StoredLaws.{output-within}
 use Rattle.formula.specs.NodeColumn.{cell-allowed, cell-output}
-use Rattle.verdict.specs.Verdict.{blockedIn}
-use Rattle.verdict.specs.Cells.{blocked-cells}
+use Rattle.verdict.specs.Lowest.{lowestAt, blockedBy}
+use Rattle.verdict.specs.LowestLaws.{blocked-cells}
 use Rattle.listing.specs.declared.entries.Kind.the-variants.{Variables, Output, Signed}
 use Rattle.text.specs.Characters.{decimal, subsetText, newline}
 use Rattle.text.specs.Each.{each}
-use Rattle.listing.specs.Text.{whenSo, isBlocked, verdictText, nodeLine, relationLine, outLine, attributeLine, namedBelow, listing}
+use Rattle.listing.specs.Text.{whenSo, someBlocked, isBlocked, verdictText, nodeLine, relationLine, outLine, attributeLine, namedBelow, listing}
 use Rattle.text.specs.Each.{each-same}
 use Rattle.listing.specs.Entries.{entryText, listText}
 use Rattle.listing.specs.Lines.{nodeText, label, lineText, relationText, outText, attributeText, attributesText, linesText}
@@ -28,13 +30,23 @@ use Rattle.listing.specs.Naming.{Named, named-is}
 -- ---- lists off an expression's columns
 
 module _ (m : ℕ) (e : Expression) where
-  variables-list : (r : ℕ) → listText (Variables r) (cellColumn m e 0) ≡ each 256 (λ s. whenSo (ltb 0 s && allowedBit m e 0 s && bit s r) (subsetText s))
+  variables-list : (r : ℕ) → listText (Variables r) (cellColumn m e 0) ≡ each 256 (λ s. whenSo (typeVariable (allowedBit m e 0) s && bit s r) (subsetText s))
   unfolding entryText
   variables-list r = each-same 256 _ _ (λ s h. rw (cell-allowed m e 0 s h, append-nil))
 
-  output-list : listText Output (cellColumn m e 0) ≡ each 256 (λ s. whenSo (ltb 0 s && outputBit m e 0 s) (subsetText s))
+  -- a subset in the output of column 0 is allowed in it
+  output-variable : (s : ℕ) → ltb 0 s && outputBit m e 0 s ≡ typeVariable (allowedBit m e 0) s && outputBit m e 0 s
+  output-variable s = go (ltb 0 s) (allowedBit m e 0 s) (outputBit m e 0 s) (output-within m e 0 s)
+    where
+      go : (some allowed output : Bool) → (output ≡ true → allowed ≡ true) → some && output ≡ (some && allowed) && output
+      go false allowed output within = refl
+      go true true output within = refl
+      go true false true within = sym (within refl)
+      go true false false within = refl
+
+  output-list : listText Output (cellColumn m e 0) ≡ each 256 (λ s. whenSo (typeVariable (allowedBit m e 0) s && outputBit m e 0 s) (subsetText s))
   unfolding entryText
-  output-list = each-same 256 _ _ (λ s h. rw (cell-output m e 0 s h, append-nil))
+  output-list = each-same 256 _ _ (λ s h. rw (cell-output m e 0 s h, append-nil, output-variable s))
 
   signed-list : (i : ℕ) → listText Signed (cellColumn m e i) ≡ each 256 (λ s. whenSo (allowedBit m e i s) (subsetText s ++ (cond (outputBit m e i s) 43 45 ∷ [])))
   unfolding entryText
@@ -55,11 +67,11 @@ module _ (m : ℕ) (e : Expression) where
 -- ---- lines off a work space that holds the columns of expression e at a node
 
 module _ (work : List ℕ) (node m : ℕ) (e : Expression) (columns : (c : ℕ) → c < 16 → columnAt work node c ≡ cellColumn m e c) where
-  blocked-is : ltb (blockedIn work node) 16 ≡ isBlocked m e
+  blocked-is : someBlocked (blockedBy (lowestAt work node)) ≡ isBlocked m e
   unfolding isBlocked
-  blocked-is = ap (λ (x : ℕ). ltb x 16) (blocked-cells work node m e columns)
+  blocked-is = ap someBlocked (blocked-cells work node m e columns)
 
-  node-line : nodeText (ltb (blockedIn work node) 16) node ≡ nodeLine m e node
+  node-line : nodeText (someBlocked (blockedBy (lowestAt work node))) node ≡ nodeLine m e node
   unfolding nodeText nodeLine
   node-line = ap (λ (b : Bool). (110 ∷ 111 ∷ 100 ∷ 101 ∷ 32 ∷ []) ++ decimal node ++ verdictText b ++ newline) blocked-is
 

@@ -2,16 +2,15 @@
 use Prim.Native.Nat.{ℕ, _+_}
 use mathlib.Core.Bool.{Bool}
 use mathlib.Core.List.{List, [], _∷_, _++_}
-use lib.Dec.{ltb}
 use Rattle.attribute_set.specs.declared.AttrSet.{AttrSet}
 use Rattle.attribute_set.specs.AttrSet.{hasAttribute}
 use Rattle.formula.specs.Storage.{columnAt}
-use Rattle.verdict.specs.Verdict.{blockedIn}
+use Rattle.verdict.specs.Lowest.{lowestAt, blockedBy}
 use Rattle.listing.specs.declared.entries.Kind.{Kind}
 use Rattle.listing.specs.declared.entries.Kind.the-variants.{Variables, Output, Signed}
 use Rattle.text.specs.Characters.{decimal, newline}
 use Rattle.text.specs.Each.{each}
-use Rattle.listing.specs.Text.{whenSo, verdictText}
+use Rattle.listing.specs.Text.{whenSo, someBlocked, verdictText}
 use Rattle.listing.specs.Entries.{listText}
 
 unfoldable pub nodeText : Bool → ℕ → List ℕ
@@ -39,7 +38,7 @@ attributesText work node named = each 15 (λ j. attributeText work node named (j
 
 unfoldable pub linesText : List ℕ → ℕ → ℕ → AttrSet → List ℕ
 linesText work m node named =
-    nodeText (ltb (blockedIn work node) 16) node
+    nodeText (someBlocked (blockedBy (lowestAt work node))) node
     ++ each m (relationText (columnAt work node 0))
     ++ outText (columnAt work node 0)
     ++ attributesText work node named

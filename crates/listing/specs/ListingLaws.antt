@@ -6,8 +6,8 @@ use mathlib.Core.List.{List, [], _∷_, _++_}
 use native.Mathlib.Omega.{arith}
 use borrow.Author.Tests.{lt-ltb, le-ltb}
 use lib.Dec.{ltb, lit≤}
-use lib.ListN.{length, drop, length-append}
-use Rattle.bits.specs.Tab.{over, over-with}
+use lib.ListN.{length, take, drop, length-append}
+use Rattle.bits.specs.Tab.{over, over-with, take-over}
 use Rattle.refusal.specs.Chain.{refuse, refuse-stops, refuse-passes, refuse-past}
 use Rattle.refusal.specs.Number.{numberOf}
 use Rattle.refusal.specs.declared.Refusal.{Refusal}
@@ -117,7 +117,7 @@ module _ {A : Type 0} (space size : ℕ) (stop : Refusal → A) (go : A) where
       refuse-passes stop (ltb space 65536) WorkSpace (refuse stop (ltb size 32768) ResultSlice go) (le-ltb space 65536 h)
       ∙ refuse-stops stop (ltb size 32768) ResultSlice go (lt-ltb size 32768 k)
 
-  checked-goes : ltb space 65536 ≡ false → ltb size 32768 ≡ false → checked space size stop go ≡ go
+  pub checked-goes : ltb space 65536 ≡ false → ltb size 32768 ≡ false → checked space size stop go ≡ go
   checked-goes h k =
       refuse-passes stop (ltb space 65536) WorkSpace (refuse stop (ltb size 32768) ResultSlice go) h
       ∙ refuse-passes stop (ltb size 32768) ResultSlice go k
@@ -143,18 +143,41 @@ module _ (file work text : List ℕ) where
         (front .0 ∙ sym (checked-goes (length work) (length text) (λ r. text) _ enough room), space ∙ sym (checked-goes (length work) (length text) (λ r. work) _ enough room)),
       )
 
--- the text fits its slice
-pub listed-fits : (file : List ℕ) (space : ℕ) (text text′ : List ℕ) (n : ℕ) → text′ ≡ listedText file space text → listedAnswer file space (length text) ≡ Text n → n ≤ length text′
-unfolding listedAnswer listedText
-listed-fits file space text text′ n t e =
-    let work = refuse-past Refused (ltb space 65536) WorkSpace (refuse Refused (ltb (length text) 32768) ResultSlice (Text (length (textOf file)))) (never WorkSpace) e in
-    let room = refuse-past Refused (ltb (length text) 32768) ResultSlice (Text (length (textOf file))) (never ResultSlice) (work .1) in
-    let is : length (textOf file) ≡ n = sized (room .1) in
-    let whole = ap length (t ∙ checked-goes space (length text) (λ r. text) (over (textOf file) text) (work .0) (room .0) ∙ over-with (textOf file) text) ∙ length-append (textOf file) (drop (length (textOf file)) text) in
-    omega arith
+-- ---- slices in which a file is listed
+
+-- both tests are passed, and n is the text's length
+pub record ListedIn (file : List ℕ) (space size n : ℕ) : Type 0 where
+  pub enough : ltb space 65536 ≡ false
+  pub room : ltb size 32768 ≡ false
+  pub size-is : length (textOf file) ≡ n
+
+pub listed-in : (file : List ℕ) (space size n : ℕ) → listedAnswer file space size ≡ Text n → ListedIn file space size n
+unfolding listedAnswer
+listed-in file space size n e =
+    let work = refuse-past Refused (ltb space 65536) WorkSpace (refuse Refused (ltb size 32768) ResultSlice (Text (length (textOf file)))) (never WorkSpace) e in
+    let text = refuse-past Refused (ltb size 32768) ResultSlice (Text (length (textOf file))) (never ResultSlice) (work .1) in
+    record { enough = work .0; room = text .0; size-is = sized (text .1) }
   where
     never : (r : Refusal) → Refused r ≡ Text n → ⊥
     never r q = let z : _≡_ {A = ℕ} 0 1 = cc in omega arith
 
     sized : {a b : ℕ} → Text a ≡ Text b → a ≡ b
     sized q = cc
+
+-- the text slice holds the text, and after it what it held
+pub listed-over : (file : List ℕ) (space : ℕ) (text : List ℕ) (n : ℕ) → listedAnswer file space (length text) ≡ Text n → listedText file space text ≡ over (textOf file) text
+unfolding listedText
+listed-over file space text n e =
+    let listed = listed-in file space (length text) n e in
+    checked-goes space (length text) (λ r. text) (over (textOf file) text) (listed .enough) (listed .room)
+
+-- its first n bytes are the text
+pub listed-whole : (file : List ℕ) (space : ℕ) (text : List ℕ) (n : ℕ) → listedAnswer file space (length text) ≡ Text n → take n (listedText file space text) ≡ textOf file
+listed-whole file space text n e = rw (listed-over file space text n e, ← listed-in file space (length text) n e .size-is) (take-over (textOf file) text)
+
+-- the text fits its slice
+pub listed-fits : (file : List ℕ) (space : ℕ) (text text′ : List ℕ) (n : ℕ) → text′ ≡ listedText file space text → listedAnswer file space (length text) ≡ Text n → n ≤ length text′
+listed-fits file space text text′ n t e =
+    let is = listed-in file space (length text) n e .size-is in
+    let whole = ap length (t ∙ listed-over file space text n e ∙ over-with (textOf file) text) ∙ length-append (textOf file) (drop (length (textOf file)) text) in
+    omega arith

@@ -9,6 +9,7 @@ use Rattle.text.specs.Each.{each}
 use Rattle.attribute_set.specs.AttrSet.{hasAttribute}
 use Rattle.refusal.specs.Number.{numberOf}
 use Rattle.algebra.specs.Expression.{Expression}
+use Rattle.formulas.specs.Formula.{typeVariable}
 use Rattle.node.specs.declared.nodes.Node.{Node}
 use Rattle.node.specs.declared.nodes.Node.the-variants.{Relation, Binary, WithSet, Renaming, ProjectingOut}
 use Rattle.expression.specs.declared.files.Acceptance.{Acceptance}
@@ -16,7 +17,7 @@ use Rattle.expression.specs.declared.files.Acceptance.the-variants.{Accepted, R
 use Rattle.expression.specs.ReadFile.{acceptance, nodeAt}
 use Rattle.formula.specs.Expressions.{expressionAt}
 use Rattle.formula.specs.Stored.{allowedBit, outputBit}
-use Rattle.verdict.specs.Cells.{blockedOf}
+use Rattle.verdict.specs.Lowest.{blockedOf}
 
 -- what is printed where a test holds
 abbrev pub whenSo : Bool → List ℕ → List ℕ
@@ -25,9 +26,13 @@ whenSo false text = []
 
 -- ---- lines
 
+-- the lowest special attribute whose column allows nothing, or 16: whether there is one
+abbrev pub someBlocked : ℕ → Bool
+someBlocked lowest = ltb lowest 16
+
 -- "untypable": some special column allows nothing
 unfoldable pub isBlocked : ℕ → Expression → Bool
-isBlocked m e = ltb (blockedOf m e) 16
+isBlocked m e = someBlocked (blockedOf m e)
 
 -- " typable" or " untypable"
 abbrev pub verdictText : Bool → List ℕ
@@ -38,13 +43,13 @@ verdictText false = 32 ∷ 116 ∷ 121 ∷ 112 ∷ 97 ∷ 98 ∷ 108 ∷ 101 ∷
 unfoldable pub nodeLine : ℕ → Expression → ℕ → List ℕ
 nodeLine m e k = (110 ∷ 111 ∷ 100 ∷ 101 ∷ 32 ∷ []) ++ decimal k ++ verdictText (isBlocked m e) ++ newline
 
--- "per relation its variables": "The type variables are the s above 0 allowed in column 0"
+-- "per relation its variables"
 unfoldable pub relationLine : ℕ → Expression → ℕ → List ℕ
-relationLine m e r = (114 ∷ []) ++ decimal r ++ (58 ∷ []) ++ each 256 (λ s. whenSo (ltb 0 s && allowedBit m e 0 s && bit s r) (subsetText s)) ++ newline
+relationLine m e r = (114 ∷ []) ++ decimal r ++ (58 ∷ []) ++ each 256 (λ s. whenSo (typeVariable (allowedBit m e 0) s && bit s r) (subsetText s)) ++ newline
 
 -- "output variables"
 unfoldable pub outLine : ℕ → Expression → List ℕ
-outLine m e = (111 ∷ 117 ∷ 116 ∷ 58 ∷ []) ++ each 256 (λ s. whenSo (ltb 0 s && outputBit m e 0 s) (subsetText s)) ++ newline
+outLine m e = (111 ∷ 117 ∷ 116 ∷ 58 ∷ []) ++ each 256 (λ s. whenSo (typeVariable (allowedBit m e 0) s && outputBit m e 0 s) (subsetText s)) ++ newline
 
 -- "its allowed subsets, + where in the output, - where not"
 unfoldable pub attributeLine : ℕ → Expression → ℕ → List ℕ

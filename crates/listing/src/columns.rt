@@ -1,11 +1,10 @@
 // The bits of a node's columns, and whether the node can be typed.
 ghost use mathlib.Core.Path.{_≡_};
 ghost use Prim.Native.Nat.{_+_, _*_, _≤_, _<_};
-ghost use lib.Dec.{ltb};
 ghost use lib.ListN.{length};
 ghost use Rattle.column.specs.Column.{allowedIn, outputIn};
-ghost use Rattle.verdict.specs.Verdict.{blockedIn};
-use verdict::first_blocked;
+ghost use Rattle.verdict.specs.Lowest.{lowestAt, blockedBy};
+ghost use Rattle.listing.specs.Text.{someBlocked};
 use verdict::lowest_subsets;
 
 // Whether subset s is allowed in the column.
@@ -27,7 +26,8 @@ pub fn output_in(column: [u8; 64], s: usize) -> bool
 // Whether some special column of the node allows nothing.
 pub fn is_blocked(work: &[u8], node: u8) -> bool
     requires { ⌜ node * 1024 + 1024 ≤ length (now work) ⌝ }
-    ensures { λ r. ⌜ r ≡ ltb (blockedIn (now (work .entry)) node) 16 ⌝ }
+    ensures { λ r. ⌜ r ≡ someBlocked (blockedBy (lowestAt (now (work .entry)) node)) ⌝ }
 {
-    first_blocked(lowest_subsets(work, node)) < 16
+    let subsets = lowest_subsets(work, node);
+    subsets.blocked < 16
 }

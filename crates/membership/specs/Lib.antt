@@ -6,3 +6,5 @@ pub mod TableLaws
 pub mod Holders
 pub mod HolderLaws
 pub mod Holding
+pub mod Special
+pub mod SpecialLaws

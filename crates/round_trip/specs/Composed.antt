@@ -1,7 +1,7 @@
 -- Apply, and then Recover on the schema just written: the same instantiation, byte by byte, where nothing is refused.
 use Prim.Native.Nat.{ℕ, _≤_, _<_}
-use mathlib.Core.Path.{_≡_, refl, sym, ap₂, _∙_}
-use mathlib.Core.Bool.{cond}
+use mathlib.Core.Path.{_≡_, refl, sym, ap, _∙_}
+use mathlib.Core.Bool.{Bool, true, false, cond}
 use mathlib.Core.List.{List}
 use native.Mathlib.Omega.{arith}
 use borrow.Author.Tests.{lt-ltb, le-ltb}
@@ -11,14 +11,18 @@ use Rattle.bits.specs.Tab.{over}
 use Rattle.bits.specs.Word.{Bytes}
 use Rattle.refusal.specs.declared.Refusal.{Refusal}
 use Rattle.refusal.specs.declared.Refusal.the-variants.{ResultSlice}
+use Rattle.formula.specs.Stored.{formulaSpace}
+use Rattle.formula.specs.StoredLaws.{space-again}
 use Rattle.application.specs.Apply.{applyAnswer, applySpace, applySchema, applyOut}
 use Rattle.application.specs.Recover.{recoverAnswer, recoverSpace, recoverOut}
-use Rattle.round_trip.specs.Theorems.{applies-admits, apply-size, apply-fits, apply-recover}
+use Rattle.application.specs.WorkSpace.{refusalFills, applyFills, recoverFills, apply-space, recover-space}
+use Rattle.round_trip.specs.Undoing.{applies-admits, apply-fits}
 use Rattle.round_trip.specs.Unrefused.{applied-applies}
+use Rattle.round_trip.specs.Theorems.{apply-filled, apply-recover}
 use Rattle.application.specs.declared.applying.Application.{Application}
 use Rattle.application.specs.declared.applying.Application.the-variants.{Applied, Refused as ApplyRefused}
 use Rattle.application.specs.declared.recovering.Recovery.{Recovery}
-use Rattle.application.specs.declared.recovering.Recovery.the-variants.{Recovered, Refused}
+use Rattle.application.specs.declared.recovering.Recovery.the-variants.{Recovered, Untyped, Refused}
 
 -- what comes back: the instantiation's length, or Apply's refusal
 abbrev pub back : Application → ℕ → Recovery
@@ -40,14 +44,15 @@ backOut (ApplyRefused r) bytes recovered = recovered
 unfoldable pub roundTripOut : Application → List ℕ → List ℕ → List ℕ
 roundTripOut a bytes recovered = cond (ltb (length recovered) 812) recovered (backOut a bytes recovered)
 
--- the work space: as Apply leaves it, and once more as Recover does
-abbrev pub spaceAfter : Application → List ℕ → ℕ → List ℕ → List ℕ → ℕ → List ℕ
-spaceAfter (Applied size width) file k image filled length = recoverSpace file k (take size image) filled length
-spaceAfter (ApplyRefused r) file k image filled length = filled
+-- the work space: as Apply leaves it, since Recover fills it with the same formulas
+unfoldable pub roundTripSpace : List ℕ → ℕ → List ℕ → List ℕ → ℕ → ℕ → ℕ → List ℕ
+roundTripSpace file k bytes work size outSize instantiationSize = unlessShort instantiationSize work (applySpace file k bytes work size outSize)
 
-unfoldable pub roundTripSpace : List ℕ → ℕ → List ℕ → List ℕ → List ℕ → List ℕ → ℕ → List ℕ
-roundTripSpace file k bytes work schema out size =
-    unlessShort size work (spaceAfter (applyAnswer file k bytes (length work) (length schema) (length out)) file k (applySchema file k bytes (length work) schema (length out)) (applySpace file k bytes work (length schema) (length out)) size)
+-- which answers come with a work space that is filled: all but the refusals before 20
+abbrev pub roundTripFills : Recovery → Bool
+roundTripFills (Recovered size) = true
+roundTripFills Untyped = false
+roundTripFills (Refused r) = refusalFills r
 
 module _ (file : List ℕ) (k : ℕ) (bytes work schema out recovered : List ℕ) where
   abbrev answer : Application
@@ -56,7 +61,7 @@ module _ (file : List ℕ) (k : ℕ) (bytes work schema out recovered : List ℕ
   abbrev Trip : Recovery → List ℕ → List ℕ → List ℕ → List ℕ → Type 0
   Trip a space image output written =
       (a ≡ roundTrip answer (length bytes) (length recovered))
-      × ((space ≡ roundTripSpace file k bytes work schema out (length recovered))
+      × ((space ≡ roundTripSpace file k bytes work (length schema) (length out) (length recovered))
       × ((image ≡ unlessShort (length recovered) schema (applySchema file k bytes (length work) schema (length out)))
       × ((output ≡ unlessShort (length recovered) out (applyOut file k bytes (length work) (length schema) out))
       × (written ≡ roundTripOut answer bytes recovered))))
@@ -80,19 +85,34 @@ module _ (file : List ℕ) (k : ℕ) (bytes work schema out recovered : List ℕ
   trip-applied h below size width said filled image output same filled-is image-is output-is a space written answered spaced wrote =
       let found = applied-applies file k bytes (length work) (length schema) (length out) size width (sym said) in
       let applies = found .1 .1 .1 in
-      let sizes = apply-size file k bytes work schema out (found .0) (found .1 .0) (found .1 .1 .0) applies size width (sym said) in
       let enough = applies-admits applies .workSpace in
-      let results = apply-recover file k bytes work schema out (found .0) (found .1 .0) (found .1 .1 .0) below applies filled recovered (omega arith) h in
+      let results = apply-recover file k bytes work schema out below size width (sym said) (found .0) (found .1 .0) (applies-admits applies .accepted) filled recovered (omega arith) h in
+      let recovering = ap (λ (x : List ℕ). recoverAnswer file k (take size x) (length filled) (length recovered)) image-is ∙ results .0 in
+      let first = apply-filled file k bytes work schema out size width (sym said) in
+      let again = recover-space file k (take size image) filled (length recovered) ∙ ap (λ (o : Recovery). cond (recoverFills o) (formulaSpace file filled) filled) recovering in
       rw (le-ltb (length recovered) 812 h, ← said) (
-        answered ∙ ap₂ (λ (n : ℕ) (x : List ℕ). recoverAnswer file k (take n x) (length filled) (length recovered)) sizes image-is ∙ results .0,
+        answered ∙ recovering,
         (
-          spaced ∙ ap₂ (λ (x y : List ℕ). recoverSpace file k (take size x) y (length recovered)) image-is filled-is,
+          spaced ∙ again ∙ ap (formulaSpace file) (filled-is ∙ first) ∙ space-again file work ∙ sym first,
           (
             image-is,
             (
               output-is,
-              wrote ∙ ap₂ (λ (n : ℕ) (x : List ℕ). recoverOut file k (take n x) (length filled) recovered) sizes image-is ∙ results .1,
+              wrote ∙ ap (λ (x : List ℕ). recoverOut file k (take size x) (length filled) recovered) image-is ∙ results .1,
             ),
           ),
         ),
       )
+
+-- the work space afterwards holds Formula's formulas where the answer came with them, and else what it held
+pub round-trip-space : (file : List ℕ) (k : ℕ) (bytes work : List ℕ) (size outSize instantiationSize : ℕ) → roundTripSpace file k bytes work size outSize instantiationSize ≡ cond (roundTripFills (roundTrip (applyAnswer file k bytes (length work) size outSize) (length bytes) instantiationSize)) (formulaSpace file work) work
+unfolding roundTripSpace roundTrip
+round-trip-space file k bytes work size outSize instantiationSize = short (ltb instantiationSize 812)
+  where
+    same : (a : Application) → cond (applyFills a) (formulaSpace file work) work ≡ cond (roundTripFills (back a (length bytes))) (formulaSpace file work) work
+    same (Applied s w) = refl
+    same (ApplyRefused r) = refl
+
+    short : (t : Bool) → cond t work (applySpace file k bytes work size outSize) ≡ cond (roundTripFills (cond t (Refused ResultSlice) (back (applyAnswer file k bytes (length work) size outSize) (length bytes)))) (formulaSpace file work) work
+    short true = refl
+    short false = apply-space file k bytes work size outSize ∙ same (applyAnswer file k bytes (length work) size outSize)

@@ -1,9 +1,7 @@
-pub mod Bounds
-pub mod Image
 pub mod Tables
 pub mod RoundTrip
-pub mod ListZero
-pub mod Theorems
+pub mod Undoing
 pub mod Unrefused
 pub mod Link
+pub mod Theorems
 pub mod Composed

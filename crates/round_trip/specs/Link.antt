@@ -1,4 +1,4 @@
--- The link to demand 3: where Apply applies, the bytes that it read are an instantiation of the node's stored formula, in the sense of demand 3, whose image is the assignment that the schema written means and whose output is the type of the output record written.
+-- The link to demand 3, in tables: the bytes of an instantiation that fits are an instantiation of the node's stored formula, in the sense of demand 3, with the image and the output of its table. Theorems says it of what Apply leaves.
 use Prim.Native.Nat.{ℕ, zero, suc, _*_, _^_, _≤_, _<_}
 use mathlib.Core.Path.{_≡_, refl, sym, subst, _∙_}
 use mathlib.Core.Logic.{_↔_, Iff·trans}
@@ -29,26 +29,29 @@ use Rattle.formula.specs.Stored.{formulaSpace}
 use Rattle.verdict.specs.StoredFormula.{formulaIn}
 use Rattle.verdict.specs.Theorems.{principal}
 use Rattle.type_record.specs.Record.{TypeRecord, typeOf}
+use Rattle.type_record.specs.RecordBytes.{IsRecord}
 use Rattle.type_record.specs.RecordTypes.{type-of-special, type-of-other, record-type}
 use Rattle.membership.specs.Entries.{holdersIn}
 use Rattle.membership.specs.HolderLaws.{held-member}
-use Rattle.schema.specs.Schema.{noRecord, assignmentOf, recordsOf}
+use Rattle.schema.specs.Schema.{noRecord, assignmentOf, recordsOf, entriesOf, mapsOf}
 use Rattle.schema.specs.RecordsLaws.{AllRecords}
 use Rattle.typing.specs.OutputRecord.{outputRecord}
 use Rattle.typing.specs.TableTyped.{table-rules, output-record}
+use Rattle.typing.specs.Theorems.{RecordOf}
 use Rattle.instantiation.specs.Instantiation.{entriesIn, subsetsOf}
 use Rattle.instantiation.specs.Seen.{nothingSeen}
 use Rattle.instantiation.specs.ReadLaws.{IsLists, lists-read}
 use Rattle.instantiation.specs.Apart.{once-apart}
 use Rattle.instantiation.specs.Owners.{lists-holders}
 use Rattle.instantiation.specs.TableLaws.{subsets-none}
-use Rattle.application.specs.Special.{mapsFrom}
-use Rattle.application.specs.SpecialLaws.{map-bit}
+use Rattle.membership.specs.Special.{mapsFrom}
+use Rattle.membership.specs.SpecialLaws.{map-bit}
+use Rattle.application.specs.Apply.{outputBytes}
 use Rattle.application.specs.Fits.{fits-typed}
 use Rattle.round_trip.specs.Tables.{subsets-below}
-use Rattle.round_trip.specs.Image.{IsTable, image-size, image-records, image-maps, image-entries, image-at, holders-held}
+use Rattle.schema.specs.Image.{IsTable, image-size, image-records, image-maps, image-entries, image-at, holders-held}
 use Rattle.round_trip.specs.RoundTrip.{applied-table}
-use Rattle.round_trip.specs.Theorems.{Applies, applies-admits}
+use Rattle.round_trip.specs.Undoing.{Applies, applies-admits}
 
 -- an instantiation whose subsets and lists are those of the bytes
 pub record AreBytes {F : Formula} (I : Instantiation F) (bytes : List ℕ) (ls : List (List ℕ)) : Type 0 where
@@ -80,17 +83,32 @@ module _ (file : List ℕ) (k : ℕ) (bytes work schema out : List ℕ) (m n : �
   abbrev output : TypeRecord
   output = outputRecord (expressionAt file k) (mapsFrom (subsetsOf bytes)) (entriesIn ls)
 
+  size : length image ≡ m
+  size = image-size m few (mapsFrom (subsetsOf bytes)) (entriesIn ls) table
+
+  all : AllRecords image
+  all = image-records m few (mapsFrom (subsetsOf bytes)) (entriesIn ls) table
+
+  maps : mapsOf image ≡ mapsFrom (subsetsOf bytes)
+  maps = image-maps m few (mapsFrom (subsetsOf bytes)) (entriesIn ls) table
+
+  entries : entriesOf image ≡ entriesIn ls
+  entries = image-entries m few (mapsFrom (subsetsOf bytes)) (entriesIn ls) table
+
+  is-output : IsRecord output
+  is-output = rw (maps, entries) at (output-record m few (expressionAt file k) legal image all size (rw entries (a .read .few)))
+
+  -- the output record is that of its type
+  pub output-is-record : RecordOf (typeOf (outputRecord (expressionAt file k) (mapsFrom (subsetsOf bytes)) (entriesIn ls))) (outputBytes (expressionAt file k) (subsetsOf bytes) (entriesIn ls))
+  unfolding outputRecord
+  output-is-record = record { record-is = output; is = is-output; bytes-are = refl; means = λ x. refl }
+
   -- an instantiation with that image and that output
-  apply-instantiation : (work′ : List ℕ) → n * 1024 ≤ length work′ → (I : Instantiation (formulaIn (formulaSpace file work′) m k)) × (HasImage I A × HasOutput I (typeOf output))
-  apply-instantiation work′ enough =
-      let size = image-size m few (mapsFrom (subsetsOf bytes)) (entriesIn ls) table in
-      let all = image-records m few (mapsFrom (subsetsOf bytes)) (entriesIn ls) table in
-      let maps = image-maps m few (mapsFrom (subsetsOf bytes)) (entriesIn ls) table in
-      let entries = image-entries m few (mapsFrom (subsetsOf bytes)) (entriesIn ls) table in
+  image-instantiation : (work′ : List ℕ) → n * 1024 ≤ length work′ → (I : Instantiation (formulaIn (formulaSpace file work′) m k)) × (HasImage I A × HasOutput I (typeOf output))
+  image-instantiation work′ enough =
       let typed = fits-typed m few (expressionAt file k) legal (subsetsOf bytes) (entriesIn ls) (subsets-none bytes) (a .entries) (a .special) in
       let rules = rw (maps, entries) at (table-rules m few (expressionAt file k) legal image all size (rw (maps, entries) typed)) in
-      let is = rw (maps, entries) at (output-record m few (expressionAt file k) legal image all size (rw entries (a .read .few))) in
-      principal file m n (applies-admits a .accepted) k (applies-admits a .node) work′ enough A (λ r h. all-types image all r (omega arith)) (typeOf output) (record-type output is) .0 rules
+      principal file m n (applies-admits a .accepted) k (applies-admits a .node) work′ enough A (λ r h. let count = size in all-types image all r (omega arith)) (typeOf output) (record-type output is-output) .0 rules
 
   -- ---- the assignment, by the bytes
 
@@ -170,8 +188,8 @@ module _ (file : List ℕ) (k : ℕ) (bytes work schema out : List ℕ) (m n : �
     are-bytes : AreBytes I bytes ls
     are-bytes = record { subsets = subset-bytes; lists = λ s v x. (list-bytes s v x, bytes-list s v x) }
 
-  -- the bytes are an instantiation of the node's stored formula, with the image and the output that Apply writes
+  -- the bytes are an instantiation of the node's stored formula, with the image and the output of the table
   pub bytes-instantiation : (work′ : List ℕ) → n * 1024 ≤ length work′ → (I : Instantiation (formulaIn (formulaSpace file work′) m k)) × (AreBytes I bytes ls × (HasImage I (assignmentOf (recordsOf m (mapsFrom (subsetsOf bytes)) (entriesIn ls))) × HasOutput I (typeOf (outputRecord (expressionAt file k) (mapsFrom (subsetsOf bytes)) (entriesIn ls)))))
   bytes-instantiation work′ enough =
-      let i = apply-instantiation work′ enough in
+      let i = image-instantiation work′ enough in
       (i .0, (are-bytes (formulaIn (formulaSpace file work′) m k) refl (i .0) (i .1 .0), i .1))

@@ -11,20 +11,20 @@ use Rattle.type_record.specs.Record.{TypeRecord}
 use Rattle.schema.specs.Schema.{recordsRead, readRecords, schemaBytes, recordsOf, entriesOf, mapsOf, schemaReading}
 use Rattle.schema.specs.RecordsLaws.{AllRecords, records-read, records-written}
 use Rattle.schema.specs.EntriesLaws.{table-records}
-use Rattle.schema.specs.TableLaws.{ReadSchema, read-schema}
+use Rattle.schema.specs.TableLaws.{ReadSchema}
 use Rattle.instantiation.specs.Seen.{nothingSeen, repeatedIn}
 use Rattle.instantiation.specs.Instantiation.{listsRead, readLists, entriesIn, allListed, subsetsOf, listsOf, instantiationBytes, instantiationReading}
 use Rattle.instantiation.specs.ReadLaws.{IsLists, lists-read, lists-written, written-lists, written-subsets}
 use Rattle.instantiation.specs.EntriesLaws.{entries-rising, entries-below, entries-lists, lists-of, lists-once, lists-entries}
 use Rattle.instantiation.specs.TableLaws.{ReadInstantiation, read-instantiation, subsets-size, subsets-none, subsets-small}
-use Rattle.application.specs.Special.{mapsFrom, subsetsFrom}
-use Rattle.application.specs.SpecialLaws.{subsets-back, maps-back, subset-zero}
-use Rattle.application.specs.SpecialLaws as Special
+use Rattle.membership.specs.Special.{mapsFrom, subsetsFrom}
+use Rattle.membership.specs.SpecialLaws.{subsets-back, maps-back, subset-zero}
+use Rattle.membership.specs.SpecialLaws as Special
 use Rattle.application.specs.Fits.{entriesFit, specialsFit}
 use Rattle.application.specs.Apply.{imageBytes}
-use Rattle.application.specs.Recover.{fits, recoveredBytes}
-use Rattle.round_trip.specs.Image.{IsTable, held-positive, image-read, image-entries}
-use Rattle.round_trip.specs.Tables.{schema-table, fit-table}
+use Rattle.application.specs.Recover.{recoveredBytes}
+use Rattle.schema.specs.Image.{IsTable, held-positive, image-schema as table-schema, schema-table}
+use Rattle.round_trip.specs.Tables.{fit-table}
 
 -- ---- an instantiation that fits, its image, and what is recovered from it
 
@@ -37,11 +37,7 @@ module _ (m : ℕ) (few : m ≤ 8) (e : Expression) (bytes : List ℕ) (below : 
 
   -- the image is read as the table that was applied
   pub image-schema : ReadSchema m (imageBytes m (subsetsOf bytes) (entriesIn ls)) (schemaReading m (imageBytes m (subsetsOf bytes) (entriesIn ls))) (recordsOf m (mapsFrom (subsetsOf bytes)) (entriesIn ls))
-  image-schema =
-      let back = image-entries m few (mapsFrom (subsetsOf bytes)) (entriesIn ls) applied-table in
-      read-schema m (imageBytes m (subsetsOf bytes) (entriesIn ls)) (recordsOf m (mapsFrom (subsetsOf bytes)) (entriesIn ls))
-      (image-read m few (mapsFrom (subsetsOf bytes)) (entriesIn ls) applied-table)
-      (rw back most)
+  image-schema = table-schema m few (mapsFrom (subsetsOf bytes)) (entriesIn ls) applied-table
 
   -- what is recovered from that table is the instantiation
   pub recovered-same : getD ls 0 [] ≡ [] → recoveredBytes (mapsFrom (subsetsOf bytes)) (entriesIn ls) ≡ bytes
@@ -57,9 +53,6 @@ module _ (m : ℕ) (few : m ≤ 8) (schema : List ℕ) (below : Bytes schema) (t
 
   pub recovered-table : IsTable m (mapsOf ts) (entriesOf ts)
   recovered-table = schema-table m ts few (records .0) (records .1) most
-
-  abbrev written : List ℕ
-  written = recoveredBytes (mapsOf ts) (entriesOf ts)
 
   written-lists-are : IsLists (listsOf (entriesOf ts))
   written-lists-are = lists-of (entriesOf ts) (recovered-table .rising) (recovered-table .below) most

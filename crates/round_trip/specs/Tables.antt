@@ -1,13 +1,11 @@
 -- Which tables there are: those of schemas, and those of instantiations that fit. A table fits a node exactly where it types it.
 use Prim.Native.Nat.{ℕ, zero, suc, _^_, _≤_, _<_}
-use mathlib.Core.Path.{_≡_, ap, ap₂, _∙_}
+use mathlib.Core.Path.{_≡_, ap₂, _∙_}
 use mathlib.Core.Bool.{true, _&&_}
-use mathlib.Core.List.{List, [], _∷_}
+use mathlib.Core.List.{List, []}
 use native.Mathlib.Nat.{lt-of-lt-of-le}
-use native.Mathlib.Decide.{decLt}
 use native.Mathlib.Omega.{arith}
-use lib.Dec.{lit<}
-use lib.ListN.{length, getD, List·getD-eq-default}
+use lib.ListN.{length, getD}
 use lib.Pow.{pow-pos}
 use Rattle.bits.specs.Bit.{bit}
 use Rattle.algebra.specs.Expression.{Expression, Legal}
@@ -16,57 +14,19 @@ use Rattle.algebra.specs.CellLaws.{cell-depends}
 use Rattle.bits.specs.Booleans.{same-test, and-left, and-right}
 use Rattle.formula.specs.Stored.{allowedBit}
 use Rattle.formula.specs.StoredLaws.{allowed-is, allowed-below}
-use Rattle.type_record.specs.Record.{TypeRecord}
 use Rattle.membership.specs.Entries.{subsetOf}
 use Rattle.membership.specs.EnterLaws.{RisingEntries}
 use Rattle.membership.specs.TableLaws.{Below}
-use Rattle.schema.specs.Schema.{noRecord, entriesOf, mapsOf}
-use Rattle.schema.specs.RecordsLaws.{AllRecords}
-use Rattle.schema.specs.EntriesLaws.{entries-rising, entries-below}
-use Rattle.schema.specs.TableLaws.{maps-at, maps-is, maps-size}
 use Rattle.typing.specs.Output.{specialHolders, typedIn}
 use Rattle.typing.specs.OutputLaws.{typed-special, typed-entry}
 use Rattle.typing.specs.OutputRecord.{entry-cell}
-use Rattle.application.specs.Special.{mapsFrom, subsetsFrom}
-use Rattle.application.specs.SpecialLaws.{maps-length, maps-even, maps-small as subset-maps-small, maps-empty as subset-maps-empty, subset-bit, subset-below, subset-zero, maps-back}
-use Rattle.round_trip.specs.Bounds.{Held, schema-held, held-at, at-held}
-use Rattle.application.specs.Fits.{entriesFit, specialsFit, entry-fits, fit-entries, special-fits, fit-specials, fits-typed}
-use Rattle.round_trip.specs.Image.{IsTable}
+use Rattle.membership.specs.Special.{mapsFrom, subsetsFrom}
+use Rattle.membership.specs.SpecialLaws.{maps-length, maps-even, maps-small as subset-maps-small, maps-empty as subset-maps-empty, subset-bit, subset-below, subset-zero, maps-back}
+use Rattle.schema.specs.Bounds.{held-at}
+use Rattle.application.specs.Fits.{entriesFit, specialsFit, fit-entries, special-fits, fit-specials, fits-typed}
+use Rattle.schema.specs.Image.{IsTable}
 use Rattle.application.specs.Recover.{fits}
-
--- ---- of schemas
-
-record-small : (ts : List TypeRecord) → AllRecords ts → (r : ℕ) → getD ts r noRecord .map < 65536
-record-small [] all r = lit< tt
-record-small (t ∷ ts) all zero = all .0 .small
-record-small (t ∷ ts) all (suc r) = record-small ts (all .1) r
-
-maps-small : (ts : List TypeRecord) → AllRecords ts → (r : ℕ) → getD (mapsOf ts) r 0 < 65536
-maps-small ts all r = go (decLt r 8)
-  where
-    go : Dec (r < 8) → getD (mapsOf ts) r 0 < 65536
-    go (yes h) = rw (maps-is ts r h) (record-small ts all r)
-    go (no h) = let size = maps-size ts in rw (List·getD-eq-default (mapsOf ts) 0 {n = r} (omega arith)) (lit< tt)
-
-maps-empty : (ts : List TypeRecord) (r : ℕ) → length ts ≤ r → getD (mapsOf ts) r 0 ≡ 0
-maps-empty ts r past = go (decLt r 8)
-  where
-    go : Dec (r < 8) → getD (mapsOf ts) r 0 ≡ 0
-    go (yes h) = maps-is ts r h ∙ ap (λ (t : TypeRecord). t .map) (List·getD-eq-default ts noRecord {n = r} past)
-    go (no h) = let size = maps-size ts in List·getD-eq-default (mapsOf ts) 0 {n = r} (omega arith)
-
-pub schema-table : (m : ℕ) (ts : List TypeRecord) → m ≤ 8 → length ts ≡ m → AllRecords ts → length (entriesOf ts) ≤ 255 → IsTable m (mapsOf ts) (entriesOf ts)
-schema-table m ts few size all fits =
-    record {
-      size = maps-size ts;
-      even = maps-at ts all;
-      small = maps-small ts all;
-      empty = λ r h. maps-empty ts r (omega arith);
-      few = fits;
-      rising = entries-rising ts (omega arith) all;
-      below = entries-below ts (omega arith) all;
-      held = schema-held m ts few (omega arith);
-    }
+use Rattle.application.specs.StandingFit.{fit-held}
 
 -- ---- of instantiations
 
@@ -74,12 +34,6 @@ module _ (m : ℕ) (few : m ≤ 8) (e : Expression) (subsets es : List ℕ) (non
   pub subsets-below : (i : ℕ) → i < 16 → getD subsets i 0 < 2 ^ m
   subsets-below zero h = rw none (pow-pos m)
   subsets-below (suc i) h = allowed-below m e (suc i) (getD subsets (suc i) 0) (special-fits m e subsets special (suc i) (omega arith) (omega arith))
-
-  pub held-entries : Held m es
-  held-entries =
-      at-held m es
-      (λ i h. let fits = entry-fits m e es fit i h in
-      (fits .0, allowed-below m e 0 (subsetOf (getD es i 0)) (fits .1)))
 
   pub fit-table : length es ≤ 255 → RisingEntries 15 es → Below 16777216 es → IsTable m (mapsFrom subsets) es
   fit-table fits rising below =
@@ -91,7 +45,7 @@ module _ (m : ℕ) (few : m ≤ 8) (e : Expression) (subsets es : List ℕ) (non
         few = fits;
         rising = rising;
         below = below;
-        held = held-entries;
+        held = fit-held m e es fit;
       }
 
 -- ---- a table fits a node exactly where it types it

@@ -1,231 +1,194 @@
--- The second half of demand 2: "Apply and Recover undo each other byte by byte", for every accepted file and node; that Recover says untyped exactly when Typing does; that Apply's output record is Typing's for the schema that Apply writes; and that what Apply accepts is an instantiation of the stored formula in the sense of demand 3. A reader needs, besides this page:
---   applyAnswer, applySchema, applyOut    what Apply leaves, by its contract     (Apply)
---   recoverAnswer, recoverOut             what Recover leaves, by its contract   (Recover)
+-- The second half of demand 2, and the link to demand 3, of what Apply and Recover leave in their slices: "Apply and Recover undo each other byte by byte"; Recover recovers exactly where the rules derive a type; Apply's output record is Typing's for the schema that Apply writes; and the bytes that Apply accepts are an instantiation of the stored formula in the sense of demand 3. A reader needs, besides this page:
+--   applyAnswer, applySpace, applySchema, applyOut   what Apply leaves, by its contract   (crate application, Apply)
+--   recoverAnswer, recoverOut             what Recover leaves, by its contract   (crate application, Recover)
 --   typingAnswer, typingOut               what Typing leaves, by its contract    (crate typing, Typing)
---   admitted, sliced                      refusals 1 to 12, and 13               (crate formula, Stored; crate expression, Admission)
-use Prim.Native.Nat.{ℕ, _*_, _≤_, _<_}
+--   Typed                                 the typing rules                       (crate algebra, Rules)
+--   Recovers                              that Recover refuses nothing, and the records of the schema   (Undoing)
+--   readRecords, assignmentOf             a schema's records, and the assignment that they mean   (crate schema, Schema)
+--   RecordOf                              the record of a type                   (crate typing, Theorems)
+--   Instantiation, HasImage, HasOutput    instantiations, image and output       (crate formulas, Instantiation)
+--   AreBytes                              an instantiation that has the subsets and lists of bytes   (Link)
+use Prim.Native.Nat.{ℕ, _*_, _≤_}
 use mathlib.Core.Path.{_≡_, refl, sym, ap, ap₂, _∙_}
 use mathlib.Core.Logic.{_↔_}
-use mathlib.Core.Bool.{true, _&&_, and-eq-true-iff}
+use mathlib.Core.Bool.{Bool, true, false, cond}
 use mathlib.Core.List.{List}
 use native.Mathlib.Omega.{arith}
-use lib.ListN.{length, take}
+use lib.ListN.{length, take, drop}
 use Rattle.bits.specs.Tab.{over, take-over}
 use Rattle.bits.specs.Word.{Bytes}
+use Rattle.types.specs.Types.{Attrs}
 use Rattle.algebra.specs.Expression.{Legal}
+use Rattle.algebra.specs.Rules.{Typed}
 use Rattle.expression.specs.declared.files.Acceptance.the-variants.{Accepted}
 use Rattle.expression.specs.ReadFile.{acceptance}
 use Rattle.expression.specs.Accepted.{accepted-file}
-use Rattle.expression.specs.Admission.{asked, sliced}
-use Rattle.expression.specs.AdmissionLaws.{sliced-passes, asked-passes}
+use Rattle.formulas.specs.Formula.{Formula}
+use Rattle.formulas.specs.Instantiation.{Instantiation, HasImage, HasOutput}
 use Rattle.formula.specs.Expressions.{expressionAt, expression-legal}
-use Rattle.formula.specs.Stored.{admitted}
-use Rattle.formula.specs.StoredLaws.{Admits, admitted-passes}
-use Rattle.type_record.specs.Record.{TypeRecord, recordSize}
-use Rattle.schema.specs.Schema.{recordsRead, readRecords, recordsOf, entriesOf, mapsOf, schemaReading}
-use Rattle.schema.specs.RecordsLaws.{schema-most}
-use Rattle.schema.specs.TableLaws.{ReadSchema, read-schema, read-entries}
-use Rattle.schema.specs.declared.reading.Schema.{Schema}
-use Rattle.instantiation.specs.Instantiation.{entriesIn, subsetsOf, listsOf, instantiationReading}
-use Rattle.instantiation.specs.ReadLaws.{lists-read, written-long}
-use Rattle.instantiation.specs.TableLaws.{ReadInstantiation, subsets-none}
-use Rattle.instantiation.specs.TableLaws as Instantiations
-use Rattle.instantiation.specs.declared.reading.Instantiation.{Instantiation}
-use Rattle.typing.specs.Output.{typedIn, outputList}
+use Rattle.formula.specs.Stored.{formulaSpace}
+use Rattle.verdict.specs.StoredFormula.{formulaIn}
+use Rattle.type_record.specs.Record.{TypeRecord, typeOf}
+use Rattle.type_record.specs.RecordBytes.{record-length}
+use Rattle.membership.specs.Special.{mapsFrom}
+use Rattle.schema.specs.Schema.{recordsRead, readRecords, assignmentOf, recordsOf, entriesOf, mapsOf}
+use Rattle.schema.specs.RecordsLaws.{AllRecords, records-read}
+use Rattle.instantiation.specs.Instantiation.{listsRead, readLists, entriesIn, subsetsOf}
+use Rattle.typing.specs.Output.{typedIn, outputMap, outputList}
+use Rattle.typing.specs.OutputRecord.{outputRecord}
+use Rattle.typing.specs.TableTyped.{table-rules, rules-table}
 use Rattle.typing.specs.Typing.{typingAnswer, typingOut}
-use Rattle.typing.specs.TypingLaws.{answer-typed, answer-untyped, out-typed, untyped-answer, typing-records}
-use Rattle.typing.specs.declared.operation.Answer.the-variants.{Typed, Untyped as TypingUntyped}
-use Rattle.application.specs.Special.{mapsFrom, subsetsFrom}
-use Rattle.application.specs.SpecialLaws.{subsets-back}
-use Rattle.application.specs.Fits.{entriesFit, specialsFit, fits-typed}
-use Rattle.application.specs.Apply.{imageBytes, outputBytes, tableApplied, tableImage, tableOutput, applyAnswer, applySchema, applyOut}
-use Rattle.application.specs.ApplyLaws as Applying
-use Rattle.application.specs.Recover.{fits, recoveredBytes, tableRecovered, tableInstantiation, recoverAnswer, recoverOut}
-use Rattle.application.specs.RecoverLaws as Recovering
-use Rattle.round_trip.specs.Image.{IsTable, image-size, image-records, image-maps, image-entries}
-use Rattle.round_trip.specs.Tables.{fits-same, held-entries}
-use Rattle.round_trip.specs.ListZero.{list-zero}
-use Rattle.round_trip.specs.RoundTrip.{applied-table, image-schema, recovered-same, recovered-table, written-instantiation, written-table, image-same}
+use Rattle.typing.specs.Theorems.{RecordOf, typing-untyped}
+use Rattle.typing.specs.declared.operation.Answer.the-variants.{Typed as TypedAnswer, Untyped as TypingUntyped}
+use Rattle.application.specs.Apply.{imageBytes, outputBytes, applyAnswer, applySpace, applySchema, applyOut}
+use Rattle.application.specs.Recover.{recoveredBytes, recoverAnswer, recoverOut}
+use Rattle.application.specs.WorkSpace.{applyFills, apply-space}
+use Rattle.application.specs.declared.applying.Application.{Application}
 use Rattle.application.specs.declared.applying.Application.the-variants.{Applied}
 use Rattle.application.specs.declared.recovering.Recovery.the-variants.{Recovered, Untyped}
+use Rattle.round_trip.specs.Undoing.{Recovers, Applies, applies-admits, apply-table, apply-size, read-image, applied-recovered, applied-typing, recovered-typed, recovered-untyped, recovered-applied}
+use Rattle.round_trip.specs.Unrefused.{applied-applies, recovered-recovers}
+use Rattle.round_trip.specs.Link.{AreBytes, bytes-instantiation, output-is-record}
 
--- ---- Recover on a schema with these records
+-- ---- Apply answered that it applied, with a schema of `size` bytes and an output record of `width` bytes
 
--- nothing is refused: node k of an accepted file, a schema with these records, a work space and an instantiation slice that are long enough
-pub record Recovers (file : List ℕ) (k : ℕ) (schema : List ℕ) (space size m n : ℕ) (ts : List TypeRecord) : Type 0 where
-  pub accepted : acceptance file ≡ Accepted m n
-  pub node : k < n
-  pub workSpace : n * 1024 ≤ space
-  pub slice : 812 ≤ size
-  pub read : readRecords m schema ≡ recordsRead ts
-  pub few : length (entriesOf ts) ≤ 255
+-- these bytes are an instantiation of a formula: it has the subsets and the lists that they say, its image is the assignment that the schema means, and its output is the type that the record means
+pub record InstantiationOf (F : Formula) (m : ℕ) (bytes schema output : List ℕ) : Type 0 where
+  pub instantiation : Instantiation F
+  pub lists : List (List ℕ)
+  pub listed : readLists bytes 256 0 (drop 47 bytes) ≡ listsRead lists
+  pub are : AreBytes instantiation bytes lists
+  pub records : List TypeRecord
+  pub read : readRecords m schema ≡ recordsRead records
+  pub has-image : HasImage instantiation (assignmentOf records)
+  pub type : Attrs
+  pub is-record : RecordOf type output
+  pub has-output : HasOutput instantiation type
 
-recover-table : (file : List ℕ) (k : ℕ) (schema work out : List ℕ) (m n : ℕ) (ts : List TypeRecord) → Recovers file k schema (length work) (length out) m n ts → (recoverAnswer file k schema (length work) (length out) ≡ tableRecovered m (expressionAt file k) (mapsOf ts) (entriesOf ts)) × (recoverOut file k schema (length work) out ≡ tableInstantiation m (expressionAt file k) (mapsOf ts) (entriesOf ts) out)
-recover-table file k schema work out m n ts r =
-    let made = read-schema m schema ts (r .read) (r .few) in
-    let judged = ap (λ (s : Schema). s .judgement) (made .is) in
-    let special = ap (λ (s : Schema). s .special) (made .is) in
-    let entries = read-entries m schema (schemaReading m schema) ts made in
-    let table = Recovering.read-goes file m n (expressionAt file k) (schemaReading m schema) work out judged _ _ _ refl refl refl in
-    let goes = Recovering.recover-goes file k schema work out m n (sliced-passes (admitted file k (length work)) (length out) 812 (admitted-passes file k (length work) (record { accepted = r .accepted; node = r .node; workSpace = r .workSpace })) (r .slice)) _ _ _ refl refl refl in (
-      sym (goes .0) ∙ sym (table .0) ∙ ap₂ (tableRecovered m (expressionAt file k)) special entries,
-      sym (goes .1 .1) ∙ sym (table .1 .1) ∙ ap₂ (λ (x y : List ℕ). tableInstantiation m (expressionAt file k) x y out) special entries,
-    )
+module _ (file : List ℕ) (k : ℕ) (bytes work schema out : List ℕ) (size width : ℕ) (applied : applyAnswer file k bytes (length work) (length schema) (length out) ≡ Applied size width) where
+  -- the work space then holds Formula's formulas
+  pub apply-filled : applySpace file k bytes work (length schema) (length out) ≡ formulaSpace file work
+  apply-filled = apply-space file k bytes work (length schema) (length out) ∙ ap (λ (a : Application). cond (applyFills a) (formulaSpace file work) work) applied
 
--- ---- Apply on an instantiation with these lists
+-- the parts that Apply has written, in its table
+module _ (file : List ℕ) (k : ℕ) (bytes work schema out : List ℕ) (m n : ℕ) (ls : List (List ℕ)) (a : Applies file k bytes (length work) (length schema) (length out) m n ls) (size width : ℕ) (applied : applyAnswer file k bytes (length work) (length schema) (length out) ≡ Applied size width) where
+  schema-part : take size (applySchema file k bytes (length work) schema (length out)) ≡ imageBytes m (subsetsOf bytes) (entriesIn ls)
+  schema-part =
+      ap₂ take (apply-size file k bytes work schema out m n ls a size width applied .0) (apply-table file k bytes work schema out m n ls a .1 .0)
+      ∙ take-over (imageBytes m (subsetsOf bytes) (entriesIn ls)) schema
 
--- nothing is refused: node k of an accepted file, an instantiation with these lists whose table fits the node, and slices that are long enough
-pub record Applies (file : List ℕ) (k : ℕ) (bytes : List ℕ) (space size outSize m n : ℕ) (ls : List (List ℕ)) : Type 0 where
-  pub goes : sliced (sliced (admitted file k space) size 4104) outSize 513 ≡ Accepted m n
-  pub read : ReadInstantiation bytes (instantiationReading bytes) ls
-  pub entries : entriesFit m (expressionAt file k) (entriesIn ls) ≡ true
-  pub special : specialsFit m (expressionAt file k) (subsetsOf bytes) ≡ true
+  output-part : take width (applyOut file k bytes (length work) (length schema) out) ≡ outputBytes (expressionAt file k) (subsetsOf bytes) (entriesIn ls)
+  output-part =
+      ap₂ take (apply-size file k bytes work schema out m n ls a size width applied .1 ∙ sym (record-length (outputMap (expressionAt file k) (mapsFrom (subsetsOf bytes))) (outputList (expressionAt file k) (entriesIn ls)))) (apply-table file k bytes work schema out m n ls a .1 .1)
+      ∙ take-over (outputBytes (expressionAt file k) (subsetsOf bytes) (entriesIn ls)) out
 
-pub applies-admits : {file : List ℕ} {k : ℕ} {bytes : List ℕ} {space size outSize m n : ℕ} {ls : List (List ℕ)} → Applies file k bytes space size outSize m n ls → Admits file k space m n
-applies-admits {file} {k} {bytes} {space} {size} {outSize} a = Applying.apply-passed file k space size outSize (a .goes) .0
-
-apply-table : (file : List ℕ) (k : ℕ) (bytes work schema out : List ℕ) (m n : ℕ) (ls : List (List ℕ)) → Applies file k bytes (length work) (length schema) (length out) m n ls → (applyAnswer file k bytes (length work) (length schema) (length out) ≡ Applied (length (imageBytes m (subsetsOf bytes) (entriesIn ls))) (recordSize (length (outputList (expressionAt file k) (entriesIn ls))))) × ((applySchema file k bytes (length work) schema (length out) ≡ over (imageBytes m (subsetsOf bytes) (entriesIn ls)) schema) × (applyOut file k bytes (length work) (length schema) out ≡ over (outputBytes (expressionAt file k) (subsetsOf bytes) (entriesIn ls)) out))
-apply-table file k bytes work schema out m n ls a =
-    let r = a .read in
-    let judged = ap (λ (i : Instantiation). i .judgement) (r .is) in
-    let subsets = ap (λ (i : Instantiation). i .subsets) (r .is) in
-    let entries = Instantiations.read-entries bytes (instantiationReading bytes) ls r in
-    let table = Applying.read-goes file m n (expressionAt file k) (instantiationReading bytes) work schema out judged _ _ _ _ refl refl refl refl in
-    let goes = Applying.apply-goes file k bytes work schema out m n (a .goes) _ _ _ _ refl refl refl refl in
-    let gives = Applying.table-fits m (expressionAt file k) (subsetsOf bytes) (entriesIn ls) schema out (a .entries) (a .special) in (
-      sym (goes .0) ∙ sym (table .0) ∙ ap₂ (tableApplied m (expressionAt file k)) subsets entries ∙ gives .0,
-      (
-        sym (goes .1 .1 .0) ∙ sym (table .1 .1 .0) ∙ ap₂ (λ (x y : List ℕ). tableImage m (expressionAt file k) x y schema) subsets entries ∙ gives .1 .0,
-        sym (goes .1 .1 .1) ∙ sym (table .1 .1 .1) ∙ ap₂ (λ (x y : List ℕ). tableOutput m (expressionAt file k) x y out) subsets entries ∙ gives .1 .1,
-      ),
-    )
-
--- the length that Apply gives is the image's
-pub apply-size : (file : List ℕ) (k : ℕ) (bytes work schema out : List ℕ) (m n : ℕ) (ls : List (List ℕ)) → Applies file k bytes (length work) (length schema) (length out) m n ls → (size width : ℕ) → applyAnswer file k bytes (length work) (length schema) (length out) ≡ Applied size width → size ≡ length (imageBytes m (subsetsOf bytes) (entriesIn ls))
-apply-size file k bytes work schema out m n ls a size width said = sized (sym said ∙ apply-table file k bytes work schema out m n ls a .0)
-  where
-    sized : {x y z w : ℕ} → Applied x y ≡ Applied z w → x ≡ z
-    sized e = cc
-
--- it lies within the schema slice: eight records of at most 513 bytes
-pub apply-fits : (file : List ℕ) (k : ℕ) (bytes work schema out : List ℕ) (m n : ℕ) (ls : List (List ℕ)) → Bytes bytes → Applies file k bytes (length work) (length schema) (length out) m n ls → (size width : ℕ) → applyAnswer file k bytes (length work) (length schema) (length out) ≡ Applied size width → size ≤ length schema
-apply-fits file k bytes work schema out m n ls below a size width said =
-    let few = accepted-file file m n (applies-admits a .accepted) .counts .relations .1 in
-    let table = applied-table m few (expressionAt file k) bytes below ls (a .read .long) (a .read .read) (a .read .once) (a .read .few) (a .entries) (a .special) in
-    let most = schema-most (recordsOf m (mapsFrom (subsetsOf bytes)) (entriesIn ls)) (image-records m few (mapsFrom (subsetsOf bytes)) (entriesIn ls) table) in
-    let count = image-size m few (mapsFrom (subsetsOf bytes)) (entriesIn ls) table in
-    let is = apply-size file k bytes work schema out m n ls a size width said in
-    let room = Applying.apply-passed file k (length work) (length schema) (length out) (a .goes) .1 in
-    omega arith
-
--- ---- apply, then recover; and Typing on the schema that Apply writes
-
-module _ (file : List ℕ) (k : ℕ) (bytes work schema out : List ℕ) (m n : ℕ) (ls : List (List ℕ)) (below : Bytes bytes) (a : Applies file k bytes (length work) (length schema) (length out) m n ls) where
-  few : m ≤ 8
-  few = accepted-file file m n (applies-admits a .accepted) .counts .relations .1
-
-  legal : Legal m (expressionAt file k)
-  legal = expression-legal file m n (applies-admits a .accepted) k (applies-admits a .node)
-
-  -- the schema that Apply writes
-  abbrev image : List ℕ
-  image = take (length (imageBytes m (subsetsOf bytes) (entriesIn ls))) (applySchema file k bytes (length work) schema (length out))
-
-  image-is : image ≡ imageBytes m (subsetsOf bytes) (entriesIn ls)
-  image-is = ap (take (length (imageBytes m (subsetsOf bytes) (entriesIn ls)))) (apply-table file k bytes work schema out m n ls a .1 .0) ∙ take-over (imageBytes m (subsetsOf bytes) (entriesIn ls)) schema
-
-  table : IsTable m (mapsFrom (subsetsOf bytes)) (entriesIn ls)
-  table = applied-table m few (expressionAt file k) bytes below ls (a .read .long) (a .read .read) (a .read .once) (a .read .few) (a .entries) (a .special)
-
-  read-image : ReadSchema m (imageBytes m (subsetsOf bytes) (entriesIn ls)) (schemaReading m (imageBytes m (subsetsOf bytes) (entriesIn ls))) (recordsOf m (mapsFrom (subsetsOf bytes)) (entriesIn ls))
-  read-image = image-schema m few (expressionAt file k) bytes below ls (a .read .long) (a .read .read) (a .read .once) (a .read .few) (a .entries) (a .special)
-
-  maps-are : mapsOf (recordsOf m (mapsFrom (subsetsOf bytes)) (entriesIn ls)) ≡ mapsFrom (subsetsOf bytes)
-  maps-are = image-maps m few (mapsFrom (subsetsOf bytes)) (entriesIn ls) table
-
-  entries-are : entriesOf (recordsOf m (mapsFrom (subsetsOf bytes)) (entriesIn ls)) ≡ entriesIn ls
-  entries-are = image-entries m few (mapsFrom (subsetsOf bytes)) (entriesIn ls) table
-
-  fits-back : fits m (expressionAt file k) (mapsFrom (subsetsOf bytes)) (entriesIn ls) ≡ true
-  fits-back = ap₂ _&&_ (a .entries) (ap (specialsFit m (expressionAt file k)) (subsets-back (subsetsOf bytes) (Instantiations.subsets-size bytes) (Instantiations.subsets-small bytes below)) ∙ a .special)
-
+module _ (file : List ℕ) (k : ℕ) (bytes work schema out : List ℕ) (below : Bytes bytes) (size width : ℕ) (applied : applyAnswer file k bytes (length work) (length schema) (length out) ≡ Applied size width) where
   -- recovering from the schema that was written gives the same instantiation, byte by byte
-  pub apply-recover : (work′ out′ : List ℕ) → n * 1024 ≤ length work′ → 812 ≤ length out′ → (recoverAnswer file k image (length work′) (length out′) ≡ Recovered (length bytes)) × (recoverOut file k image (length work′) out′ ≡ over bytes out′)
-  apply-recover work′ out′ space slice =
-      let results = recover-table file k (imageBytes m (subsetsOf bytes) (entriesIn ls)) work′ out′ m n (recordsOf m (mapsFrom (subsetsOf bytes)) (entriesIn ls)) (record { accepted = applies-admits a .accepted; node = applies-admits a .node; workSpace = space; slice = slice; read = read-image .read; few = read-image .few }) in
-      let same = recovered-same m few (expressionAt file k) bytes below ls (a .read .long) (a .read .read) (a .read .once) (a .read .few) (a .entries) (a .special) (list-zero m ls (lists-read bytes ls below (a .read .long) (a .read .read)) (a .read .once) (held-entries m few (expressionAt file k) (subsetsOf bytes) (entriesIn ls) (subsets-none bytes) (a .entries) (a .special))) in
-      let gives = Recovering.recovered-fits m (expressionAt file k) (mapsFrom (subsetsOf bytes)) (entriesIn ls) out′ fits-back in
-      rw image-is (
-        results .0 ∙ rw (maps-are, entries-are) (gives .0 ∙ ap (λ (l : List ℕ). Recovered (length l)) same),
-        results .1 ∙ rw (maps-are, entries-are) (gives .1 ∙ ap (λ (l : List ℕ). over l out′) same),
-      )
+  pub apply-recover : (m n : ℕ) → acceptance file ≡ Accepted m n → (work′ out′ : List ℕ) → n * 1024 ≤ length work′ → 812 ≤ length out′ → (recoverAnswer file k (take size (applySchema file k bytes (length work) schema (length out))) (length work′) (length out′) ≡ Recovered (length bytes)) × (recoverOut file k (take size (applySchema file k bytes (length work) schema (length out))) (length work′) out′ ≡ over bytes out′)
+  apply-recover m n accepted work′ out′ space slice =
+      let found = applied-applies file k bytes (length work) (length schema) (length out) size width applied in
+      let a = found .1 .1 .1 in
+      let counts = sym (applies-admits a .accepted) ∙ accepted in
+      let nodes : found .1 .0 ≡ n = cc in
+      rw (schema-part file k bytes work schema out (found .0) (found .1 .0) (found .1 .1 .0) a size width applied)
+      (applied-recovered file k bytes work schema out (found .0) (found .1 .0) (found .1 .1 .0) below a work′ out′ (rw nodes space) slice)
 
-  -- Typing gives that schema the output record that Apply writes
-  pub apply-typing : (out′ : List ℕ) → 513 ≤ length out′ → (typingAnswer file k image (length out′) ≡ Typed (recordSize (length (outputList (expressionAt file k) (entriesIn ls))))) × (typingOut file k image out′ ≡ over (outputBytes (expressionAt file k) (subsetsOf bytes) (entriesIn ls)) out′)
+  -- Typing gives that schema the output record that was written
+  pub apply-typing : (out′ : List ℕ) → 513 ≤ length out′ → (typingAnswer file k (take size (applySchema file k bytes (length work) schema (length out))) (length out′) ≡ TypedAnswer width) × (typingOut file k (take size (applySchema file k bytes (length work) schema (length out))) out′ ≡ over (take width (applyOut file k bytes (length work) (length schema) out)) out′)
   apply-typing out′ slice =
-      let results = typing-records file k (imageBytes m (subsetsOf bytes) (entriesIn ls)) out′ m n (recordsOf m (mapsFrom (subsetsOf bytes)) (entriesIn ls)) (sliced-passes (asked file k) (length out′) 513 (asked-passes file k (applies-admits a .accepted) (applies-admits a .node)) slice) (read-image .read) (read-image .few) in
-      let typed = fits-typed m few (expressionAt file k) legal (subsetsOf bytes) (entriesIn ls) (subsets-none bytes) (a .entries) (a .special) in
-      rw image-is (
-        results .0 ∙ rw (maps-are, entries-are) (answer-typed (expressionAt file k) (mapsFrom (subsetsOf bytes)) (entriesIn ls) typed),
-        results .1 ∙ rw (maps-are, entries-are) (out-typed (expressionAt file k) (mapsFrom (subsetsOf bytes)) (entriesIn ls) out′ typed),
-      )
+      let found = applied-applies file k bytes (length work) (length schema) (length out) size width applied in
+      let a = found .1 .1 .1 in
+      let gives = applied-typing file k bytes work schema out (found .0) (found .1 .0) (found .1 .1 .0) below a out′ slice in
+      rw (schema-part file k bytes work schema out (found .0) (found .1 .0) (found .1 .1 .0) a size width applied, output-part file k bytes work schema out (found .0) (found .1 .0) (found .1 .1 .0) a size width applied)
+      (gives .0 ∙ ap TypedAnswer (sym (apply-size file k bytes work schema out (found .0) (found .1 .0) (found .1 .1 .0) a size width applied .1)), gives .1)
 
--- ---- recover, then apply; and Recover beside Typing
+  -- the bytes are an instantiation of the formula that Apply left in the work space, with the image and the output that Apply wrote
+  pub apply-instantiation : (m n : ℕ) → acceptance file ≡ Accepted m n → InstantiationOf (formulaIn (applySpace file k bytes work (length schema) (length out)) m k) m bytes (take size (applySchema file k bytes (length work) schema (length out))) (take width (applyOut file k bytes (length work) (length schema) out))
+  apply-instantiation m n accepted =
+      let found = applied-applies file k bytes (length work) (length schema) (length out) size width applied in
+      let a = found .1 .1 .1 in
+      let counts = sym (applies-admits a .accepted) ∙ accepted in
+      let relations : found .0 ≡ m = cc in
+      rw (apply-filled file k bytes work schema out size width applied, schema-part file k bytes work schema out (found .0) (found .1 .0) (found .1 .1 .0) a size width applied, output-part file k bytes work schema out (found .0) (found .1 .0) (found .1 .1 .0) a size width applied, ← relations)
+      (made (found .0) (found .1 .0) (found .1 .1 .0) a)
+    where
+      made : (m n : ℕ) (ls : List (List ℕ)) → Applies file k bytes (length work) (length schema) (length out) m n ls → InstantiationOf (formulaIn (formulaSpace file work) m k) m bytes (imageBytes m (subsetsOf bytes) (entriesIn ls)) (outputBytes (expressionAt file k) (subsetsOf bytes) (entriesIn ls))
+      made m n ls a =
+          let i = bytes-instantiation file k bytes work schema out m n ls below a work (applies-admits a .workSpace) in
+          record {
+            instantiation = i .0;
+            lists = ls;
+            listed = a .read .read;
+            are = i .1 .0;
+            records = recordsOf m (mapsFrom (subsetsOf bytes)) (entriesIn ls);
+            read = read-image file k bytes work schema out m n ls below a .read;
+            has-image = i .1 .1 .0;
+            type = typeOf (outputRecord (expressionAt file k) (mapsFrom (subsetsOf bytes)) (entriesIn ls));
+            is-record = output-is-record file k bytes work schema out m n ls below a;
+            has-output = i .1 .1 .1;
+          }
+
+-- ---- Recover, where nothing is refused
 
 module _ (file : List ℕ) (k : ℕ) (schema work out : List ℕ) (m n : ℕ) (ts : List TypeRecord) (below : Bytes schema) (r : Recovers file k schema (length work) (length out) m n ts) where
-  most : m ≤ 8
-  most = accepted-file file m n (r .accepted) .counts .relations .1
+  few : m ≤ 8
+  few = accepted-file file m n (r .accepted) .counts .relations .1
 
-  known : IsTable m (mapsOf ts) (entriesOf ts)
-  known = recovered-table m most schema below ts (r .read) (r .few)
+  legal : Legal m (expressionAt file k)
+  legal = expression-legal file m n (r .accepted) k (r .node)
 
-  -- a table fits exactly where it is typed
-  fits-typing : fits m (expressionAt file k) (mapsOf ts) (entriesOf ts) ≡ typedIn (expressionAt file k) (mapsOf ts) (entriesOf ts)
-  fits-typing = fits-same m most (expressionAt file k) (expression-legal file m n (r .accepted) k (r .node)) (mapsOf ts) (entriesOf ts) known
+  read : (length ts ≡ m) × AllRecords ts
+  read = records-read m schema ts below (r .read)
 
-  -- Recover says untyped exactly when Typing does
-  pub recover-untyped : (out′ : List ℕ) → 513 ≤ length out′ → (recoverAnswer file k schema (length work) (length out) ≡ Untyped) ↔ (typingAnswer file k schema (length out′) ≡ TypingUntyped)
-  recover-untyped out′ slice =
-      let recovered = recover-table file k schema work out m n ts r .0 in
-      let typing = typing-records file k schema out′ m n ts (sliced-passes (asked file k) (length out′) 513 (asked-passes file k (r .accepted) (r .node)) slice) (r .read) (r .few) .0 in (
-        (λ said. typing ∙ answer-untyped (expressionAt file k) (mapsOf ts) (entriesOf ts) (sym fits-typing ∙ Recovering.untyped-refused m (expressionAt file k) (mapsOf ts) (entriesOf ts) (sym recovered ∙ said))),
-        (λ said. recovered ∙ Recovering.recovered-refused m (expressionAt file k) (mapsOf ts) (entriesOf ts) out (fits-typing ∙ untyped-answer (expressionAt file k) (mapsOf ts) (entriesOf ts) (sym typing ∙ said)) .0),
-      )
+  -- the answer says whether the table is typed
+  typed-said : (size : ℕ) → recoverAnswer file k schema (length work) (length out) ≡ Recovered size → typedIn (expressionAt file k) (mapsOf ts) (entriesOf ts) ≡ true
+  typed-said size said = go (typedIn (expressionAt file k) (mapsOf ts) (entriesOf ts)) refl
+    where
+      go : (t : Bool) → typedIn (expressionAt file k) (mapsOf ts) (entriesOf ts) ≡ t → t ≡ true
+      go true e = refl
+      go false e = absurd (let both = sym said ∙ recovered-untyped file k schema work out m n ts below r e in let z : _≡_ {A = ℕ} 0 1 = cc in omega arith)
 
-  -- the instantiation that Recover writes, where the schema types the node
-  abbrev recoveredPart : List ℕ
-  recoveredPart = take (length (recoveredBytes (mapsOf ts) (entriesOf ts))) (recoverOut file k schema (length work) out)
+  -- Recover recovers exactly where the rules derive a type of the node under the assignment that the schema means
+  pub recover-typed : ((size : ℕ) × (recoverAnswer file k schema (length work) (length out) ≡ Recovered size)) ↔ ((t : Attrs) × Typed (assignmentOf ts) (expressionAt file k) t)
+  recover-typed = (
+    (λ said. (_, table-rules m few (expressionAt file k) legal ts (read .1) (read .0) (typed-said (said .0) (said .1)))),
+    (λ rules. (_, recovered-typed file k schema work out m n ts below r (rules-table m few (expressionAt file k) legal ts (read .1) (read .0) (rules .0) (rules .1)) .0)),
+  )
 
-  module _ (typed : typedIn (expressionAt file k) (mapsOf ts) (entriesOf ts) ≡ true) where
-    gives : (tableRecovered m (expressionAt file k) (mapsOf ts) (entriesOf ts) ≡ Recovered (length (recoveredBytes (mapsOf ts) (entriesOf ts)))) × (tableInstantiation m (expressionAt file k) (mapsOf ts) (entriesOf ts) out ≡ over (recoveredBytes (mapsOf ts) (entriesOf ts)) out)
-    gives = Recovering.recovered-fits m (expressionAt file k) (mapsOf ts) (entriesOf ts) out (fits-typing ∙ typed)
+  -- and says untyped exactly where they derive none
+  pub recover-untyped : (recoverAnswer file k schema (length work) (length out) ≡ Untyped) ↔ ((t : Attrs) → Typed (assignmentOf ts) (expressionAt file k) t → ⊥)
+  recover-untyped = (
+    (λ said t typed. let both = sym said ∙ recover-typed .1 (t, typed) .1 in let z : _≡_ {A = ℕ} 0 1 = cc in omega arith),
+    (λ none. go none (typedIn (expressionAt file k) (mapsOf ts) (entriesOf ts)) refl),
+  )
+    where
+      go : ((t : Attrs) → Typed (assignmentOf ts) (expressionAt file k) t → ⊥) → (t : Bool) → typedIn (expressionAt file k) (mapsOf ts) (entriesOf ts) ≡ t → recoverAnswer file k schema (length work) (length out) ≡ Untyped
+      go none true e = absurd (none _ (table-rules m few (expressionAt file k) legal ts (read .1) (read .0) e))
+      go none false e = recovered-untyped file k schema work out m n ts below r e
 
-    pub recover-typed : recoverAnswer file k schema (length work) (length out) ≡ Recovered (length (recoveredBytes (mapsOf ts) (entriesOf ts)))
-    recover-typed = recover-table file k schema work out m n ts r .0 ∙ gives .0
+  recovered-part : (size : ℕ) → recoverAnswer file k schema (length work) (length out) ≡ Recovered size → take size (recoverOut file k schema (length work) out) ≡ recoveredBytes (mapsOf ts) (entriesOf ts)
+  recovered-part size said =
+      let gives = recovered-typed file k schema work out m n ts below r (typed-said size said) in
+      let both = sym said ∙ gives .0 in
+      let size-is : size ≡ length (recoveredBytes (mapsOf ts) (entriesOf ts)) = cc in
+      ap₂ take size-is (gives .1) ∙ take-over (recoveredBytes (mapsOf ts) (entriesOf ts)) out
 
-    part-is : recoveredPart ≡ recoveredBytes (mapsOf ts) (entriesOf ts)
-    part-is =
-        ap (take (length (recoveredBytes (mapsOf ts) (entriesOf ts)))) (recover-table file k schema work out m n ts r .1 ∙ gives .1) ∙ take-over (recoveredBytes (mapsOf ts) (entriesOf ts)) out
+-- ---- Recover answered with an instantiation of `size` bytes
 
-    long : 47 ≤ length (recoveredBytes (mapsOf ts) (entriesOf ts))
-    long = written-long (subsetsFrom (mapsOf ts)) (listsOf (entriesOf ts))
+-- applying what was recovered gives the same schema, byte by byte
+pub recover-apply : (file : List ℕ) (k : ℕ) (schema work out : List ℕ) → Bytes schema → (size : ℕ) → recoverAnswer file k schema (length work) (length out) ≡ Recovered size → (m n : ℕ) → acceptance file ≡ Accepted m n → (work′ schema′ out′ : List ℕ) → n * 1024 ≤ length work′ → 4104 ≤ length schema′ → 513 ≤ length out′ → (width : ℕ) × ((applyAnswer file k (take size (recoverOut file k schema (length work) out)) (length work′) (length schema′) (length out′) ≡ Applied (length schema) width) × (applySchema file k (take size (recoverOut file k schema (length work) out)) (length work′) schema′ (length out′) ≡ over schema schema′))
+recover-apply file k schema work out below size said m n accepted work′ schema′ out′ space room slice =
+    let found = recovered-recovers file k schema work out size said in
+    let r = found .1 .1 .1 in
+    let counts = sym (r .accepted) ∙ accepted in
+    let nodes : found .1 .0 ≡ n = cc in
+    let typed = typed-said file k schema work out (found .0) (found .1 .0) (found .1 .1 .0) below r size said in
+    rw (recovered-part file k schema work out (found .0) (found .1 .0) (found .1 .1 .0) below r size said)
+    (_, recovered-applied file k schema work out (found .0) (found .1 .0) (found .1 .1 .0) below r typed work′ schema′ out′ (rw nodes space) room slice)
 
-    -- applying what was recovered gives the same schema, byte by byte
-    pub recover-apply : (work′ schema′ out′ : List ℕ) → n * 1024 ≤ length work′ → 4104 ≤ length schema′ → 513 ≤ length out′ → (applyAnswer file k recoveredPart (length work′) (length schema′) (length out′) ≡ Applied (length schema) (recordSize (length (outputList (expressionAt file k) (entriesOf ts))))) × (applySchema file k recoveredPart (length work′) schema′ (length out′) ≡ over schema schema′)
-    recover-apply work′ schema′ out′ space size slice =
-        let read = written-instantiation m most schema below ts (r .read) (r .few) long in
-        let same = written-table m most schema below ts (r .read) (r .few) in
-        let fit = fits-typing ∙ typed in
-        let both = and-eq-true-iff (entriesFit m (expressionAt file k) (entriesOf ts)) (specialsFit m (expressionAt file k) (subsetsFrom (mapsOf ts))) .0 fit in
-        let applied = apply-table file k (recoveredBytes (mapsOf ts) (entriesOf ts)) work′ schema′ out′ m n (listsOf (entriesOf ts))
-        (record {
-          goes = sliced-passes (sliced (admitted file k (length work′)) (length schema′) 4104) (length out′) 513 (sliced-passes (admitted file k (length work′)) (length schema′) 4104 (admitted-passes file k (length work′) (record { accepted = r .accepted; node = r .node; workSpace = space })) size) slice;
-          read = read;
-          entries = rw (same .1) (both .0);
-          special = rw (same .0) (both .1);
-        }) in
-        let image = image-same m most schema below ts (r .read) (r .few) in
-        rw part-is (
-          applied .0 ∙ rw (same .0, same .1, image),
-          applied .1 .0 ∙ rw (same .0, same .1, image),
-        )
+-- Recover says untyped exactly where Typing does
+pub recover-typing : (file : List ℕ) (k : ℕ) (schema work out : List ℕ) → Bytes schema → (m n : ℕ) (ts : List TypeRecord) → Recovers file k schema (length work) (length out) m n ts → (out′ : List ℕ) → 513 ≤ length out′ → (recoverAnswer file k schema (length work) (length out) ≡ Untyped) ↔ (typingAnswer file k schema (length out′) ≡ TypingUntyped)
+recover-typing file k schema work out below m n ts r out′ slice =
+    let rules = recover-untyped file k schema work out m n ts below r in
+    let typing = typing-untyped file k schema out′ m n ts (record { accepted = r .accepted; node = r .node; slice = slice; bytes = below; read = r .read; few = r .few }) in
+    (λ said. typing .1 (rules .0 said), λ said. rules .1 (typing .0 said))

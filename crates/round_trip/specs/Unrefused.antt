@@ -1,19 +1,33 @@
--- Where Apply answers that it applied, nothing was refused: what there was to read, and that it fits.
+-- Where Apply answers that it applied, and where Recover answers at all, nothing was refused: what there was to read, and for Apply that it fits, from the answer itself.
 use Prim.Native.Nat.{ℕ}
-use mathlib.Core.Path.{_≡_, sym, ap, _∙_}
+use mathlib.Core.Path.{_≡_, refl, sym, ap, _∙_}
 use mathlib.Core.List.{List}
-use Rattle.expression.specs.declared.files.Acceptance.the-variants.{Accepted}
+use native.Mathlib.Omega.{arith}
+use lib.ListN.{length}
+use Rattle.refusal.specs.declared.Refusal.{Refusal}
+use Rattle.expression.specs.declared.files.Acceptance.{Acceptance}
+use Rattle.expression.specs.declared.files.Acceptance.the-variants.{Accepted, Refused as FileRefused}
 use Rattle.expression.specs.Admission.{sliced}
+use Rattle.expression.specs.AdmissionLaws.{sliced-passed}
 use Rattle.formula.specs.Expressions.{expressionAt}
 use Rattle.formula.specs.Stored.{admitted}
+use Rattle.formula.specs.StoredLaws.{admitted-passed}
+use Rattle.type_record.specs.Record.{TypeRecord}
+use Rattle.schema.specs.Schema.{schemaReading}
+use Rattle.schema.specs.TableLaws.{schema-read}
+use Rattle.schema.specs.declared.reading.Judgement.{Judgement}
+use Rattle.schema.specs.declared.reading.Judgement.the-variants.{Read as SchemaRead, Refused as SchemaRefused}
 use Rattle.instantiation.specs.Instantiation.{instantiationReading}
 use Rattle.instantiation.specs.TableLaws.{instantiation-read, read-entries}
 use Rattle.instantiation.specs.declared.reading.Instantiation.{Instantiation}
 use Rattle.application.specs.Fits.{entriesFit, specialsFit}
 use Rattle.application.specs.ApplyLaws.{applied-fits, read-applied, apply-applied}
 use Rattle.application.specs.Apply.{entriesOf, readApplied, applyAnswer}
-use Rattle.round_trip.specs.Theorems.{Applies}
+use Rattle.application.specs.Recover.{recoverAnswer}
+use Rattle.application.specs.RecoverLaws as Recovering
+use Rattle.round_trip.specs.Undoing.{Applies, Recovers}
 use Rattle.application.specs.declared.applying.Application.the-variants.{Applied}
+use Rattle.application.specs.declared.recovering.Recovery.the-variants.{Recovered, Untyped, Refused}
 
 module _ (file : List ℕ) (k : ℕ) (bytes : List ℕ) (space size outSize : ℕ) where
   made : (m n s w : ℕ) → sliced (sliced (admitted file k space) size 4104) outSize 513 ≡ Accepted m n → readApplied m (expressionAt file k) (instantiationReading bytes) ≡ Applied s w → (ls : List (List ℕ)) × Applies file k bytes space size outSize m n ls
@@ -30,3 +44,31 @@ module _ (file : List ℕ) (k : ℕ) (bytes : List ℕ) (space size outSize : �
   applied-applies s w said =
       let passed = apply-applied file k bytes space size outSize s w said in
       (passed .0, (passed .1 .0, made (passed .0) (passed .1 .0) s w (passed .1 .1 .0) (passed .1 .1 .1)))
+
+-- Recover recovered, or said untyped: nothing was refused
+module _ (file : List ℕ) (k : ℕ) (schema work out : List ℕ) where
+  abbrev pub Read : Type 0
+  Read = (m : ℕ) × ((n : ℕ) × ((ts : List TypeRecord) × Recovers file k schema (length work) (length out) m n ts))
+
+  pub answered-recovers : ((r : Refusal) → recoverAnswer file k schema (length work) (length out) ≡ Refused r → ⊥) → Read
+  answered-recovers other = admission (sliced (admitted file k (length work)) (length out) 812) refl
+    where
+      read : (m n : ℕ) → sliced (admitted file k (length work)) (length out) 812 ≡ Accepted m n → (j : Judgement) → schemaReading m schema .judgement ≡ j → Read
+      read m n goes (SchemaRefused r) is =
+          let stops = Recovering.read-stops file m n (expressionAt file k) (schemaReading m schema) work out r is in
+          absurd (other r (sym (Recovering.recover-goes file k schema work out m n goes _ _ _ refl refl refl .0) ∙ sym (stops .0)))
+      read m n goes SchemaRead is =
+          let slice = sliced-passed (admitted file k (length work)) (length out) 812 goes in
+          let admits = admitted-passed file k (length work) (slice .0) in
+          let records = schema-read m schema is in
+          (m, (n, (records .0, record { accepted = admits .accepted; node = admits .node; workSpace = admits .workSpace; slice = slice .1; read = records .1 .read; few = records .1 .few })))
+
+      admission : (a : Acceptance) → sliced (admitted file k (length work)) (length out) 812 ≡ a → Read
+      admission (FileRefused r) is = absurd (other r (sym (Recovering.recover-stops file k schema work out r is .0)))
+      admission (Accepted m n) is = read m n is (schemaReading m schema .judgement) refl
+
+  pub recovered-recovers : (size : ℕ) → recoverAnswer file k schema (length work) (length out) ≡ Recovered size → Read
+  recovered-recovers size said = answered-recovers (λ r refused. let both = sym said ∙ refused in let z : _≡_ {A = ℕ} 0 1 = cc in omega arith)
+
+  pub untyped-recovers : recoverAnswer file k schema (length work) (length out) ≡ Untyped → Read
+  untyped-recovers said = answered-recovers (λ r refused. let both = sym said ∙ refused in let z : _≡_ {A = ℕ} 0 1 = cc in omega arith)

@@ -20,7 +20,7 @@ pub fn apply_and_recover(
     recovered: &mut [u8],
 ) -> Recovery
     ensures { λ r. ⌜ r ≡ roundTrip (applyAnswer (now (file .entry)) node (now (instantiation .entry)) (length (now (work .entry))) (length (now (schema .entry))) (length (now (out .entry)))) (length (now (instantiation .entry))) (length (now (recovered .entry))) ⌝ }
-    ensures { λ _. ⌜ now (work .exit) ≡ roundTripSpace (now (file .entry)) node (now (instantiation .entry)) (now (work .entry)) (now (schema .entry)) (now (out .entry)) (length (now (recovered .entry))) ⌝ }
+    ensures { λ _. ⌜ now (work .exit) ≡ roundTripSpace (now (file .entry)) node (now (instantiation .entry)) (now (work .entry)) (length (now (schema .entry))) (length (now (out .entry))) (length (now (recovered .entry))) ⌝ }
     ensures { λ _. ⌜ now (schema .exit) ≡ unlessShort (length (now (recovered .entry))) (now (schema .entry)) (applySchema (now (file .entry)) node (now (instantiation .entry)) (length (now (work .entry))) (now (schema .entry)) (length (now (out .entry)))) ⌝ }
     ensures { λ _. ⌜ now (out .exit) ≡ unlessShort (length (now (recovered .entry))) (now (out .entry)) (applyOut (now (file .entry)) node (now (instantiation .entry)) (length (now (work .entry))) (length (now (schema .entry))) (now (out .entry))) ⌝ }
     ensures { λ _. ⌜ now (recovered .exit) ≡ roundTripOut (applyAnswer (now (file .entry)) node (now (instantiation .entry)) (length (now (work .entry))) (length (now (schema .entry))) (length (now (out .entry)))) (now (instantiation .entry)) (now (recovered .entry)) ⌝ }

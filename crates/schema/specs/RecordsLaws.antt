@@ -3,13 +3,14 @@ use Prim.Native.Nat.{ℕ, zero, suc, _+_, _*_, _≤_, _<_}
 use mathlib.Core.Path.{_≡_, refl, sym, ap, ap₂, _∙_}
 use mathlib.Core.List.{List, [], _∷_, _++_}
 use native.Mathlib.Omega.{arith}
+use lib.Dec.{lit<}
 use lib.ListN.{length, drop, length-append, take-append-drop}
 use lib.Seq.{getD-drop, drop-at}
-use Rattle.bits.specs.Word.{Bytes}
+use Rattle.bits.specs.Word.{Bytes, bytes-append}
 use Rattle.type_record.specs.declared.records.RecordReading.{RecordReading}
 use Rattle.type_record.specs.declared.records.RecordReading.the-variants.{Read as RecordRead, Refused as RecordRefused}
 use Rattle.type_record.specs.Record.{TypeRecord, readRecord, recordSize, recordAt, recordBytes}
-use Rattle.type_record.specs.RecordBytes.{IsRecord, size-most, record-length}
+use Rattle.type_record.specs.RecordBytes.{IsRecord, size-most, record-length, record-bytes}
 use Rattle.type_record.specs.RecordReading.{record-map, record-read}
 use Rattle.type_record.specs.RecordRoundTrip.{read-written, written-read, written-record}
 use Rattle.type_record.specs.RecordTypes.{type-once}
@@ -91,6 +92,12 @@ schema-most (t ∷ ts) all =
     let most = size-most (length (t .ordinary)) (all .0 .few) .1 in
     let size = record-length (t .map) (t .ordinary) in
     rw length-append (omega arith)
+
+-- and they are bytes
+pub schema-bytes : (ts : List TypeRecord) → AllRecords ts → Bytes (schemaBytes ts)
+unfolding schemaBytes
+schema-bytes [] all = λ i. lit< tt
+schema-bytes (t ∷ ts) all = bytes-append (recordBytes (t .map) (t .ordinary)) (schemaBytes ts) (record-bytes t (all .0)) (schema-bytes ts (all .1))
 
 -- ---- the assignment that a schema means
 

@@ -7,12 +7,15 @@ use native.Mathlib.Decide.{decLe}
 use native.Mathlib.Nat.{add-zero, zero-add}
 use native.Mathlib.Omega.{arith}
 use borrow.Author.Tests.{ltb-false, leb-false, eqb-false, le-ltb, lt-leb, ne-eqb}
+use lib.Dec.{eqb, ltb, leb, lit≤}
 use lib.ListN.{length, getD, List·getD-eq-default}
 use Rattle.bits.specs.Rising.{Rising}
 use Rattle.bits.specs.Tab.{tab, tab-none, tab-from, length-tab, getD-tab}
 use Rattle.bits.specs.Word.{Bytes, word-bytes, word-below}
-use Rattle.refusal.specs.Chain.{refuse, refuse-passes, refuse-past}
+use Rattle.refusal.specs.Chain.{refuse, refuse-passes, refuse-past, refuse-has}
+use Rattle.refusal.specs.Number.{numberOf}
 use Rattle.refusal.specs.declared.Refusal.{Refusal}
+use Rattle.refusal.specs.declared.Refusal.the-variants.{InputTruncated, CountZero, ListedAttribute}
 use Rattle.type_record.specs.declared.lists.ListReading.{ListReading}
 use Rattle.type_record.specs.declared.lists.ListReading.the-variants.{Listed, Refused}
 use Rattle.type_record.specs.Lists.{attributeAt, readFrom, readList, listed}
@@ -137,3 +140,23 @@ module _ (bytes : List ℕ) where
       go : Dec (n ≤ i) → getD (listed n bytes) i 0 < 65536
       go (yes h) = let none = List·getD-eq-default (listed n bytes) 0 {n = i} (rw listed-length h) in omega arith
       go (no h) = rw (listed-at n i (omega arith)) (word-below bytes (i * 2 + 1) below)
+
+-- ---- a list is refused by 14, 15 or 16
+
+abbrev Early : ListReading → Type 0
+Early (Listed n) = Unit {0}
+Early (Refused r) = numberOf r ≤ 16
+
+from-early : (bytes : List ℕ) (left i previous : ℕ) → Early (readFrom bytes left i previous)
+unfolding readFrom
+from-early bytes zero i previous = tt
+from-early bytes (suc left) i previous =
+    refuse-has Early Refused (ltb (length bytes) (i * 2 + 3)) InputTruncated _ (lit≤ tt)
+    (λ long. refuse-has Early Refused (leb (attributeAt bytes i) previous) ListedAttribute _ (lit≤ tt) (λ above. from-early bytes left (i + 1) (attributeAt bytes i)))
+
+pub list-number : (bytes : List ℕ) (r : Refusal) → readList bytes ≡ Refused r → numberOf r ≤ 16
+unfolding readList
+list-number bytes r e =
+    subst Early e
+    (refuse-has Early Refused (ltb (length bytes) 1) InputTruncated _ (lit≤ tt)
+    (λ long. refuse-has Early Refused (eqb (getD bytes 0 0) 0) CountZero _ (lit≤ tt) (λ some. from-early bytes (getD bytes 0 0) 0 15)))

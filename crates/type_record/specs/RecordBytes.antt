@@ -3,12 +3,14 @@ use Prim.Native.Nat.{ℕ, zero, suc, _+_, _-_, _*_, _/_, _%_, _≤_, _<_}
 use mathlib.Core.Path.{_≡_, refl, ap, subst}
 use mathlib.Core.Bool.{Bool, true, false, cond}
 use mathlib.Core.List.{List}
+use native.Mathlib.Decide.{decLt}
 use native.Mathlib.Omega.{arith}
 use borrow.Author.Tests.{ne-eqb}
-use lib.Dec.{eqb}
-use lib.ListN.{length, getD}
+use lib.Dec.{eqb, lit<}
+use lib.ListN.{length, getD, List·getD-eq-default}
 use Rattle.bits.specs.Rising.{Rising}
-use Rattle.bits.specs.Tab.{length-tab}
+use Rattle.bits.specs.Tab.{length-tab, getD-tab}
+use Rattle.bits.specs.Word.{Bytes}
 use Rattle.type_record.specs.Record.{TypeRecord, recordSize, recordByte, recordBytes}
 
 -- what a record can be: bit 0 of the map clear, at most 255 ordinary attributes, rising, each of two bytes
@@ -96,3 +98,25 @@ places P first second count low high (suc (suc (suc q))) = go (q % 2) refl
     go zero e = let place : q / 2 * 2 + 3 ≡ suc (suc (suc q)) = omega arith in subst P place (low (q / 2))
     go (suc zero) e = let place : q / 2 * 2 + 4 ≡ suc (suc (suc q)) = omega arith in subst P place (high (q / 2))
     go (suc (suc d)) e = absurd (omega arith)
+
+-- each is a byte
+byte-small : (t : TypeRecord) → IsRecord t → (p : ℕ) → recordByte (t .map) (t .ordinary) p < 256
+byte-small t is =
+    let even = is .even in
+    let small = is .small in
+    let few = is .few in
+    let list = follows-most (length (t .ordinary)) in
+    places (λ (p : ℕ). recordByte (t .map) (t .ordinary) p < 256)
+    (rw (byte-first (t .map) (t .ordinary)) (omega arith))
+    (rw (byte-second (t .map) (t .ordinary)) (omega arith))
+    (rw (byte-count (t .map) (t .ordinary)) (omega arith))
+    (λ k. rw (byte-low (t .map) (t .ordinary) k) (omega arith))
+    (λ k. let below = is .below k in rw (byte-high (t .map) (t .ordinary) k) (omega arith))
+
+pub record-bytes : (t : TypeRecord) → IsRecord t → Bytes (recordBytes (t .map) (t .ordinary))
+unfolding recordBytes
+record-bytes t is p = go (decLt p (recordSize (length (t .ordinary))))
+  where
+    go : Dec (p < recordSize (length (t .ordinary))) → getD (recordBytes (t .map) (t .ordinary)) p 0 < 256
+    go (yes inside) = rw (getD-tab (recordSize (length (t .ordinary))) (recordByte (t .map) (t .ordinary)) p 0 inside) (byte-small t is p)
+    go (no past) = let size = record-length (t .map) (t .ordinary) in rw (List·getD-eq-default (recordBytes (t .map) (t .ordinary)) 0 {n = p} (omega arith)) (lit< tt)

@@ -11,3 +11,5 @@ pub mod OutputRecord
 pub mod TableTyped
 pub mod Theorems
 pub mod Agreement
+pub mod Answered
+pub mod Witness

@@ -3,11 +3,9 @@ use Prim.Native.Nat.{ℕ, _+_, _*_, _%_, _≤_}
 use mathlib.Core.Path.{_≡_, refl, sym, ap, ap₂, _∙_}
 use mathlib.Core.Bool.{Bool, true, false}
 use mathlib.Core.List.{List}
-use native.Mathlib.Omega.{arith}
 use lib.Dec.{eqb}
 use lib.ListN.{length, getD, take}
 use Rattle.bits.specs.AllBelow.{allBelow}
-use Rattle.bits.specs.Booleans.{is-false}
 use Rattle.bits.specs.Tab.{over}
 use Rattle.bits.specs.Word.{Bytes}
 use Rattle.refusal.specs.declared.Refusal.{Refusal}
@@ -55,10 +53,6 @@ module _ (e : Expression) (special entries : List ℕ) where
   pub out-untyped : (out : List ℕ) → typedIn e special entries ≡ false → tableOut e special entries out ≡ out
   unfolding tableOut
   out-untyped out fails = rw fails
-
-  -- typed exactly where the answer says so
-  pub untyped-answer : tableAnswer e special entries ≡ Untyped → typedIn e special entries ≡ false
-  untyped-answer said = is-false (typedIn e special entries) (λ typed. let both = sym said ∙ answer-typed typed in let z : _≡_ {A = ℕ} 0 1 = cc in omega arith)
 
 module _ (file : List ℕ) (m k : ℕ) (legal : Legal m (expressionAt file k)) (special items : List ℕ) (count : ℕ) (allowed output : List ℕ) (table : ReadTable special items count) (lanes : NodeLanes file special items (lanesOf count) k allowed output) where
   abbrev e : Expression

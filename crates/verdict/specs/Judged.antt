@@ -1,180 +1,193 @@
--- The verdict is right about types: the witness types the node, and untypable is said exactly where no assignment does.
-use Prim.Native.Nat.{ℕ, _+_, _*_, _/_, _%_, _^_, _≤_, _<_}
+-- The verdict is right about types, for an expression of m relations: a column is blocked exactly where no assignment types it, and the witness is a schema that types it.
+use Prim.Native.Nat.{ℕ, _^_, _≤_, _<_}
 use mathlib.Core.Path.{_≡_, refl, sym, ap, subst, fun-ext, _∙_}
-use mathlib.Core.Bool.{Bool, true, false, _&&_, true≢false}
-use mathlib.Core.List.{List}
+use mathlib.Core.Logic.{_↔_}
+use mathlib.Core.Bool.{Bool, true, false, _&&_}
+use mathlib.Core.List.{List, []}
 use native.Mathlib.Nat.{lt-of-lt-of-le}
-use native.Mathlib.Decide.{decLe}
+use native.Mathlib.Decide.{decLt}
 use native.Mathlib.Omega.{arith}
 use lib.Arith.{lt-of-le-ne}
-use borrow.Author.Tests.{ltb-true, ltb-false, eqb-true, eqb-false, le-leb}
-use lib.Dec.{eqb, ltb, leb}
-use lib.ListN.{length, getD, List·getD-eq-default}
-use lib.Pow.{pow-mono}
-use Rattle.bits.specs.Bit.{bit, bit-above, bit-none}
-use Rattle.bits.specs.Pack.{bit-pack}
-use Rattle.bits.specs.Lowest.{lowestFrom, Lowest, lowest-is}
-use Rattle.bits.specs.Tab.{tab, length-tab, getD-tab}
+use borrow.Author.Tests.{eqb-true, eqb-false}
+use lib.Dec.{eqb}
+use lib.ListN.{getD, List·getD-eq-default}
+use lib.Pow.{pow-mono, pow-pos}
+use Rattle.bits.specs.Bit.{bit, bit-none, bit-above}
+use Rattle.bits.specs.Lowest.{Lowest, lowest-is}
+use Rattle.bits.specs.Word.{Bytes}
 use Rattle.attribute_set.specs.AttrSet.{special}
 use Rattle.attribute_set.specs.Laws.{special-range, special-in}
-use Rattle.types.specs.Types.{Attrs, Assignment}
+use Rattle.types.specs.Types.{Attrs, IsType, Assignment}
 use Rattle.algebra.specs.Expression.{Expression, Legal}
 use Rattle.algebra.specs.Rules.{Typed}
+use Rattle.formulas.specs.Formula.{Formula}
 use Rattle.formulas.specs.Truth.{is-true, by-true}
 use Rattle.formulas.specs.Principal.{Blocked, Choice, chosen, chosenType, choice-types, choice-type}
 use Rattle.principal.specs.Principal as Theorem
-use Rattle.column.specs.Column.{allowedIn}
-use Rattle.formula.specs.Storage.{columnAt}
-use Rattle.verdict.specs.Lowest.{subsetsIn}
-use Rattle.verdict.specs.Witness.{recordWord, recordByte}
-use Rattle.verdict.specs.Verdict.{subsetIn, blockedIn, judged, judgement}
-use Rattle.verdict.specs.StoredFormula.{formulaIn}
-use Rattle.verdict.specs.declared.operation.Outcome.the-variants.{Typable, Untypable}
+use Rattle.formula.specs.Stored.{allowedBit, outputBit}
+use Rattle.formula.specs.StoredLaws.{allowed-is, allowed-below, output-is}
+use Rattle.type_record.specs.Record.{TypeRecord, typeOf}
+use Rattle.type_record.specs.RecordTypes.{type-of-special, type-of-other}
+use Rattle.membership.specs.Special.{mapsFrom}
+use Rattle.membership.specs.SpecialLaws.{maps-length, maps-even, maps-small, maps-empty, map-bit}
+use Rattle.schema.specs.Schema.{noRecord, assignmentOf, schemaReading}
+use Rattle.schema.specs.RecordsLaws.{schema-bytes}
+use Rattle.schema.specs.TableLaws.{ReadSchema}
+use Rattle.schema.specs.Image.{IsTable, image-size, image-at, image-records, image-schema}
+use Rattle.verdict.specs.Lowest.{lowestOf, blockedOf, chosenBy}
+use Rattle.verdict.specs.LowestLaws.{blocked-lowest, chosen-none, chosen-special}
+use Rattle.verdict.specs.Verdict.{witnessRecords, witnessBytes, witnessOf}
 
--- what a schema of records of two bytes says: relation r has special attribute a where bit a of its record stands
-abbrev pub schemaHolds : List ℕ → Assignment
-schemaHolds schema r a = special a && bit (getD schema (r * 2) 0 + getD schema (r * 2 + 1) 0 * 256) a
+-- these are bytes, they are read as a schema of m relations without a refusal, and the rules derive a type of e under the assignment that it means
+pub record Witness (m : ℕ) (e : Expression) (bytes : List ℕ) : Type 0 where
+  pub below : Bytes bytes
+  pub records : List TypeRecord
+  pub reading : ReadSchema m bytes (schemaReading m bytes) records
+  pub type : Attrs
+  pub isType : IsType type
+  pub typed : Typed (assignmentOf records) e type
 
--- a work space in which node k has the formula of e, for m relations
-module _ (work : List ℕ) (m k : ℕ) (few : m ≤ 8) (e : Expression) (legal : Legal m e) (is : Theorem.FormulaOf e (formulaIn work m k)) (above : (c s : ℕ) → c < 16 → 2 ^ m ≤ s → s < 256 → allowedIn (columnAt work k c) s ≡ false) where
-  subset-is : (i : ℕ) → i < 16 → subsetIn work k i ≡ lowestFrom 256 0 (allowedIn (columnAt work k i))
-  unfolding subsetIn subsetsIn
-  subset-is i h = getD-tab 16 (λ i. lowestFrom 256 0 (allowedIn (columnAt work k i))) i 0 h
+-- the formula of an expression, by its cells
+abbrev cellFormula : ℕ → Expression → Formula
+cellFormula m e = record { relations = m; allowed = allowedBit m e; output = outputBit m e }
 
-  subset-lowest : (i : ℕ) → i < 16 → Lowest 256 0 (allowedIn (columnAt work k i)) (subsetIn work k i)
-  subset-lowest i h = subst (Lowest 256 0 (allowedIn (columnAt work k i))) (sym (subset-is i h)) (lowest-is 256 0 (allowedIn (columnAt work k i)))
+module _ (m : ℕ) (few : m ≤ 8) (e : Expression) (legal : Legal m e) where
+  is-formula : Theorem.FormulaOf e (cellFormula m e)
+  is-formula = record { allowed = λ c s hc hs. allowed-is m e c s hs; output = λ c s hc hs. output-is m e c s hs }
 
-  blocked-lowest : Lowest 15 1 (λ i. eqb (subsetIn work k i) 256) (blockedIn work k)
-  unfolding blockedIn
-  blocked-lowest = lowest-is 15 1 (λ i. eqb (subsetIn work k i) 256)
+  lowest : (i : ℕ) → Lowest 256 0 (allowedBit m e i) (lowestOf m e i)
+  unfolding lowestOf
+  lowest i = lowest-is 256 0 (allowedBit m e i)
+
+  first : Lowest 15 1 (λ i. eqb (lowestOf m e i) 256) (blockedOf m e)
+  unfolding blockedOf
+  first = blocked-lowest (lowestOf m e)
 
   -- ---- untypable
 
-  blocks : (a : ℕ) → special a ≡ true → subsetIn work k a ≡ 256 → Blocked (formulaIn work m k)
-  blocks a h none =
-      let range = special-range a h in
-      let lowest = subset-lowest a (omega arith) in
+  blocks : blockedOf m e < 16 → Blocked (cellFormula m e)
+  blocks h =
+      let from = first .from in
+      let none = eqb-true (lowestOf m e (blockedOf m e)) 256 (first .passes (omega arith)) in
       let small : 2 ^ m ≤ 256 = pow-mono {j = 8} few in
-      record { attribute = a; isSpecial = by-true h; nothing = λ s less. lowest .before s (omega arith) (omega arith) }
+      record {
+        attribute = blockedOf m e;
+        isSpecial = by-true (special-in (blockedOf m e) from (omega arith));
+        nothing = λ s less. lowest (blockedOf m e) .before s (omega arith) (omega arith);
+      }
 
   -- ---- typable: each special attribute has an allowed subset
 
-  module _ (open-columns : 16 ≤ blockedIn work k) where
-    found : (i : ℕ) → special i ≡ true → (subsetIn work k i < 256) × (allowedIn (columnAt work k i) (subsetIn work k i) ≡ true)
-    found i h =
-        let range = special-range i h in
-        let lowest = subset-lowest i (omega arith) in
-        let upTo = lowest .upTo in
-        let some = eqb-false (subsetIn work k i) 256 (blocked-lowest .before i (omega arith) (omega arith)) in
-        let less : subsetIn work k i < 256 = lt-of-le-ne (omega arith) some in
-        (less, lowest .passes (omega arith))
+  module _ (none : 16 ≤ blockedOf m e) where
+    found : (i : ℕ) → 1 ≤ i → i < 16 → allowedBit m e i (lowestOf m e i) ≡ true
+    found i some most =
+        let upTo = lowest i .upTo in
+        let other = eqb-false (lowestOf m e i) 256 (first .before i some (omega arith)) in
+        let less : lowestOf m e i < 256 = lt-of-le-ne (omega arith) other in
+        lowest i .passes (omega arith)
 
-    below : (i : ℕ) → special i ≡ true → subsetIn work k i < 2 ^ m
-    below i h = go (decLe (2 ^ m) (subsetIn work k i))
-      where
-        go : Dec (2 ^ m ≤ subsetIn work k i) → subsetIn work k i < 2 ^ m
-        go (yes large) =
-            let range = special-range i h in
-            let there = found i h in
-            let never = above i (subsetIn work k i) (omega arith) large (there .0) in
-            absurd (true≢false (sym (there .1) ∙ never))
-        go (no small) = omega arith
-
-    choice : Choice (formulaIn work m k)
+    choice : Choice (cellFormula m e)
     choice =
         record {
-          subset = subsetIn work k;
-          below = λ i h. below i (is-true (special i) h);
-          allowed = λ i h. found i (is-true (special i) h) .1;
+          subset = lowestOf m e;
+          below = λ i h. let range = special-range i (is-true (special i) h) in allowed-below m e i (lowestOf m e i) (found i (range .0) (omega arith));
+          allowed = λ i h. let range = special-range i (is-true (special i) h) in found i (range .0) (omega arith);
+        }
+
+    -- the subsets of the witness
+
+    subset-is : (i : ℕ) → 1 ≤ i → i < 16 → getD (chosenBy (lowestOf m e)) i 0 ≡ lowestOf m e i
+    unfolding blockedOf
+    subset-is i some most = chosen-special (lowestOf m e) i none some most
+
+    subset-below : (i : ℕ) → i < 16 → getD (chosenBy (lowestOf m e)) i 0 < 2 ^ m
+    subset-below i most = go (decLt 0 i)
+      where
+        go : Dec (0 < i) → getD (chosenBy (lowestOf m e)) i 0 < 2 ^ m
+        go (yes some) = rw (subset-is i some most) (allowed-below m e i (lowestOf m e i) (found i some most))
+        go (no zero-is) =
+            let same : i ≡ 0 = omega arith in
+            rw (same, chosen-none (lowestOf m e)) (pow-pos m)
+
+    table : IsTable m (mapsFrom (chosenBy (lowestOf m e))) []
+    table =
+        record {
+          size = maps-length (chosenBy (lowestOf m e));
+          even = maps-even (chosenBy (lowestOf m e)) (chosen-none (lowestOf m e));
+          small = maps-small (chosenBy (lowestOf m e));
+          empty = maps-empty (chosenBy (lowestOf m e)) m subset-below;
+          few = omega arith;
+          rising = tt;
+          below = tt;
+          held = tt;
         }
 
     -- the witness gives each relation what the choice does
 
-    word-bytes : (r : ℕ) → r < m → getD (tab (m * 2) (recordByte (subsetIn work k))) (r * 2) 0 + getD (tab (m * 2) (recordByte (subsetIn work k))) (r * 2 + 1) 0 * 256 ≡ recordWord (subsetIn work k) r
-    unfolding recordByte
-    word-bytes r h =
-        let even : (r * 2) % 2 ≡ 0 = omega arith in
-        let odd : (r * 2 + 1) % 2 ≡ 1 = omega arith in
-        let half : r * 2 / 2 ≡ r = omega arith in
-        let half′ : (r * 2 + 1) / 2 ≡ r = omega arith in
-        let low : getD (tab (m * 2) (recordByte (subsetIn work k))) (r * 2) 0 ≡ recordWord (subsetIn work k) r % 256 =
-        getD-tab (m * 2) (recordByte (subsetIn work k)) (r * 2) 0 (omega arith) ∙ rw (even, half)
-        in
-        let high : getD (tab (m * 2) (recordByte (subsetIn work k))) (r * 2 + 1) 0 ≡ recordWord (subsetIn work k) r / 256 =
-        getD-tab (m * 2) (recordByte (subsetIn work k)) (r * 2 + 1) 0 (omega arith) ∙ rw (odd, half′)
-        in
-        omega arith
+    holds : (r a : ℕ) → special a ≡ true → Dec (r < m) → assignmentOf (witnessRecords m (lowestOf m e)) r a ≡ bit (lowestOf m e a) r
+    holds r a h (yes inside) =
+        let range = special-range a h in
+        ap (λ (t : TypeRecord). typeOf t a) (image-at m few (mapsFrom (chosenBy (lowestOf m e))) [] table r inside)
+        ∙ type-of-special _ a h
+        ∙ map-bit (chosenBy (lowestOf m e)) r a (lt-of-lt-of-le inside few) (omega arith)
+        ∙ ap (λ (s : ℕ). bit s r) (subset-is a (range .0) (omega arith))
+    holds r a h (no past) =
+        let range = special-range a h in
+        let size = image-size m few (mapsFrom (chosenBy (lowestOf m e))) [] table in
+        let below = allowed-below m e a (lowestOf m e a) (found a (range .0) (omega arith)) in
+        ap (λ (t : TypeRecord). typeOf t a) (List·getD-eq-default (witnessRecords m (lowestOf m e)) noRecord {n = r} (omega arith))
+        ∙ type-of-special noRecord a h
+        ∙ bit-none a
+        ∙ sym (bit-above (lowestOf m e a) r (lt-of-lt-of-le below (pow-mono (omega arith))))
 
-    holds : (r a : ℕ) → special a ≡ true → bit (getD (tab (m * 2) (recordByte (subsetIn work k))) (r * 2) 0 + getD (tab (m * 2) (recordByte (subsetIn work k))) (r * 2 + 1) 0 * 256) a ≡ bit (subsetIn work k a) r
-    unfolding recordWord
-    holds r a h = go (decLe m r)
-      where
-        size : length (tab (m * 2) (recordByte (subsetIn work k))) ≡ m * 2
-        size = length-tab (m * 2) (recordByte (subsetIn work k))
+    lacks : (r a : ℕ) → special a ≡ false → Dec (r < m) → assignmentOf (witnessRecords m (lowestOf m e)) r a ≡ false
+    lacks r a h (yes inside) =
+        ap (λ (t : TypeRecord). typeOf t a) (image-at m few (mapsFrom (chosenBy (lowestOf m e))) [] table r inside) ∙ type-of-other _ a h
+    lacks r a h (no past) =
+        let size = image-size m few (mapsFrom (chosenBy (lowestOf m e))) [] table in
+        ap (λ (t : TypeRecord). typeOf t a) (List·getD-eq-default (witnessRecords m (lowestOf m e)) noRecord {n = r} (omega arith)) ∙ type-of-other noRecord a h
 
-        go : Dec (m ≤ r) → bit (getD (tab (m * 2) (recordByte (subsetIn work k))) (r * 2) 0 + getD (tab (m * 2) (recordByte (subsetIn work k))) (r * 2 + 1) 0 * 256) a ≡ bit (subsetIn work k a) r
-        go (yes past) =
-            let z = size in
-            let low = List·getD-eq-default (tab (m * 2) (recordByte (subsetIn work k))) 0 {n = r * 2} (omega arith) in
-            let high = List·getD-eq-default (tab (m * 2) (recordByte (subsetIn work k))) 0 {n = r * 2 + 1} (omega arith) in
-            rw (low, high) (bit-none a ∙ sym (bit-above (subsetIn work k a) r (lt-of-lt-of-le (below a h) (pow-mono past))))
-        go (no inside) =
-            let range = special-range a h in
-            ap (λ (x : ℕ). bit x a) (word-bytes r (omega arith))
-            ∙ bit-pack 16 (λ i. leb 1 i && bit (subsetIn work k i) r) a (omega arith)
-            ∙ ap (λ (t : Bool). t && bit (subsetIn work k a) r) (le-leb 1 a (range .0))
-
-    witness-chosen : schemaHolds (tab (m * 2) (recordByte (subsetIn work k))) ≡ chosen choice
+    witness-chosen : assignmentOf (witnessRecords m (lowestOf m e)) ≡ chosen choice
     unfolding choice
     witness-chosen = fun-ext (λ r. fun-ext (λ a. same r a (special a) refl))
       where
-        same : (r a : ℕ) (t : Bool) → special a ≡ t → schemaHolds (tab (m * 2) (recordByte (subsetIn work k))) r a ≡ special a && bit (subsetIn work k a) r
-        same r a true h = ap (λ (b : Bool). special a && b) (holds r a h)
-        same r a false h = rw h
+        same : (r a : ℕ) (t : Bool) → special a ≡ t → assignmentOf (witnessRecords m (lowestOf m e)) r a ≡ special a && bit (lowestOf m e a) r
+        same r a true h = rw h (holds r a h (decLt r m))
+        same r a false h = rw h (lacks r a h (decLt r m))
 
-    witness-types : Typed (schemaHolds (tab (m * 2) (recordByte (subsetIn work k)))) e (chosenType choice)
-    witness-types = subst (λ (A : Assignment). Typed A e (chosenType choice)) (sym witness-chosen) (Theorem.choice-typed e (formulaIn work m k) legal is choice)
+    -- the witness is a schema that types it
+    pub witness-typed : Witness m e (witnessOf m e)
+    unfolding witnessOf witnessBytes
+    witness-typed =
+        record {
+          below = schema-bytes (witnessRecords m (lowestOf m e)) (image-records m few (mapsFrom (chosenBy (lowestOf m e))) [] table);
+          records = witnessRecords m (lowestOf m e);
+          reading = image-schema m few (mapsFrom (chosenBy (lowestOf m e))) [] table;
+          type = chosenType choice;
+          isType = choice-type (cellFormula m e) choice;
+          typed = subst (λ (A : Assignment). Typed A e (chosenType choice)) (sym witness-chosen) (Theorem.choice-typed e (cellFormula m e) legal is-formula choice);
+        }
+
+    -- an assignment that types the expression
+    pub unblocked-typable : Theorem.Typing m e
+    unblocked-typable =
+        record {
+          assignment = chosen choice;
+          types = choice-types (cellFormula m e) choice;
+          type = chosenType choice;
+          isType = choice-type (cellFormula m e) choice;
+          typed = Theorem.choice-typed e (cellFormula m e) legal is-formula choice;
+        }
 
   -- ---- the verdict
 
-  pub untypable-none : (a : ℕ) → judgement work m k ≡ Untypable a → Theorem.Typing m e → ⊥
-  unfolding judgement
-  untypable-none a = go (ltb (blockedIn work k) 16) refl
+  -- a special column allows nothing exactly where no assignment types the expression
+  pub blocked-untypable : (blockedOf m e < 16) ↔ (Theorem.Typing m e → ⊥)
+  blocked-untypable = (
+    (λ h. Theorem.verdict e (cellFormula m e) legal is-formula .0 (blocks h)),
+    (λ none. go none (decLt (blockedOf m e) 16)),
+  )
     where
-      go : (t : Bool) → ltb (blockedIn work k) 16 ≡ t → judged t (blockedIn work k) m ≡ Untypable a → Theorem.Typing m e → ⊥
-      go true less h =
-          let first = blocked-lowest in
-          let from = first .from in
-          let inside = ltb-true (blockedIn work k) 16 less in
-          Theorem.verdict e (formulaIn work m k) legal is .0
-          (blocks (blockedIn work k) (special-in (blockedIn work k) from (omega arith)) (eqb-true (subsetIn work k (blockedIn work k)) 256 (first .passes (omega arith))))
-      go false more h = absurd (let z : _≡_ {A = ℕ} 0 1 = cc in omega arith)
-
-  pub none-untypable : (Theorem.Typing m e → ⊥) → (a : ℕ) × (judgement work m k ≡ Untypable a)
-  unfolding judgement
-  none-untypable none = go (ltb (blockedIn work k) 16) refl
-    where
-      go : (t : Bool) → ltb (blockedIn work k) 16 ≡ t → (a : ℕ) × (judged (ltb (blockedIn work k) 16) (blockedIn work k) m ≡ Untypable a)
-      go true less = (blockedIn work k, rw less)
-      go false more =
-          let c = choice (ltb-false (blockedIn work k) 16 more) in
-          absurd
-          (none
-          (record {
-            assignment = chosen c;
-            types = choice-types (formulaIn work m k) c;
-            type = chosenType c;
-            isType = choice-type (formulaIn work m k) c;
-            typed = Theorem.choice-typed e (formulaIn work m k) legal is c;
-          }))
-
-  pub witness-typed : (size : ℕ) → judgement work m k ≡ Typable size → (t : Attrs) × Typed (schemaHolds (tab size (recordByte (subsetIn work k)))) e t
-  unfolding judgement
-  witness-typed size = go (ltb (blockedIn work k) 16) refl
-    where
-      go : (t : Bool) → ltb (blockedIn work k) 16 ≡ t → judged t (blockedIn work k) m ≡ Typable size → (t : Attrs) × Typed (schemaHolds (tab size (recordByte (subsetIn work k)))) e t
-      go true less h = absurd (let z : _≡_ {A = ℕ} 0 1 = cc in omega arith)
-      go false more h =
-          let open-columns = ltb-false (blockedIn work k) 16 more in
-          let size-is : m * 2 ≡ size = cc in
-          (chosenType (choice open-columns), rw size-is at (witness-types open-columns))
+      go : (Theorem.Typing m e → ⊥) → Dec (blockedOf m e < 16) → blockedOf m e < 16
+      go none (yes h) = h
+      go none (no h) = absurd (none (unblocked-typable (omega arith)))

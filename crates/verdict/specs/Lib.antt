@@ -1,10 +1,7 @@
 pub mod Lowest
 pub mod LowestLaws
-pub mod Witness
-pub mod WitnessLaws
 pub mod Verdict
 pub mod VerdictLaws
-pub mod Cells
 pub mod StoredFormula
 pub mod Judged
 pub mod Theorems

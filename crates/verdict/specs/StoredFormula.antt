@@ -12,7 +12,6 @@ use Rattle.types.specs.Types.{Attrs, IsType, Assignment, IsAssignment}
 use Rattle.algebra.specs.Rules.{Typed}
 use Rattle.formulas.specs.Formula.{Formula, Fits}
 use Rattle.formulas.specs.Instantiation.{Instantiation, InImage, HasImage, HasOutput}
-use Rattle.formulas.specs.Principal.{Blocked, Choice, chosen, chosenType}
 use Rattle.principal.specs.Principal as Theorem
 use Rattle.expression.specs.declared.files.Acceptance.the-variants.{Accepted}
 use Rattle.expression.specs.ReadFile.{acceptance}
@@ -78,11 +77,3 @@ module _ (file : List ℕ) (m n : ℕ) (accepted : acceptance file ≡ Accepted 
   -- unique: no two instantiations have one image
   pub unique : (I J : Instantiation (formulaIn filled m k)) → ((r : ℕ) → r < m → (a : ℕ) → InImage I r a ↔ InImage J r a) → I ≡ J
   unique = Theorem.unique (expressionAt file k) (formulaIn filled m k) (expression-legal file m n accepted k node) is-formula
-
-  -- verdict: a special column allows nothing exactly when no assignment types the node
-  pub untypable : Blocked (formulaIn filled m k) ↔ (Theorem.Typing m (expressionAt file k) → ⊥)
-  untypable = Theorem.verdict (expressionAt file k) (formulaIn filled m k) (expression-legal file m n accepted k node) is-formula
-
-  -- a choice of allowed subsets types the node
-  pub choice-typed : (choice : Choice (formulaIn filled m k)) → Typed (chosen choice) (expressionAt file k) (chosenType choice)
-  choice-typed = Theorem.choice-typed (expressionAt file k) (formulaIn filled m k) (expression-legal file m n accepted k node) is-formula

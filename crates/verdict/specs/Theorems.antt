@@ -5,33 +5,39 @@
 --   expressionAt     the expression of a node                               (crate formula, Expressions)
 --   formulaIn        the formula that stands in a work space                (StoredFormula)
 --   admitted, sliced   refusals 1 to 12, and 13                             (crate formula, Stored; crate expression, Admission)
+--   Witness          bytes that are a schema which types an expression      (Judged)
 --   formulaSpace, verdictAnswer, verdictSpace, verdictSchema   what the operations leave, by their contracts (crate formula, Stored; Verdict)
 use Prim.Native.Nat.{ℕ, _*_, _≤_, _<_}
-use mathlib.Core.Path.{_≡_, refl, sym, ap, subst, _∙_}
+use mathlib.Core.Path.{_≡_, sym, _∙_}
 use mathlib.Core.Logic.{_↔_}
-use mathlib.Core.List.{List}
+use mathlib.Core.List.{List, []}
+use native.Mathlib.Decide.{decLt}
+use native.Mathlib.Omega.{arith}
 use lib.ListN.{length, take}
-use Rattle.bits.specs.Tab.{tab, length-tab, over, take-over}
+use Rattle.bits.specs.Tab.{over, take-over}
 use Rattle.types.specs.Types.{Attrs, IsType, Assignment, IsAssignment}
 use Rattle.algebra.specs.Rules.{Typed}
 use Rattle.formulas.specs.Instantiation.{Instantiation, InImage, HasImage, HasOutput}
 use Rattle.principal.specs.Principal.{Typing}
+use Rattle.refusal.specs.declared.Refusal.{Refusal}
+use Rattle.refusal.specs.Number.{numberOf}
 use Rattle.expression.specs.declared.files.Acceptance.the-variants.{Accepted}
 use Rattle.expression.specs.ReadFile.{acceptance}
 use Rattle.expression.specs.Accepted.{accepted-file}
-use Rattle.expression.specs.Admission.{sliced}
-use Rattle.expression.specs.AdmissionLaws.{sliced-passed}
+use Rattle.expression.specs.Admission.{asked, sliced}
+use Rattle.expression.specs.AdmissionLaws.{sliced-passed, sliced-refused}
+use Rattle.expression.specs.Record.{recordOf}
+use Rattle.expression.specs.RecordLaws.{record-empty}
 use Rattle.formula.specs.Expressions.{expressionAt, expression-legal}
 use Rattle.formula.specs.Stored.{formulasOf, admitted, formulaSpace}
-use Rattle.formula.specs.StoredLaws.{answer-filled, space-filled, admitted-passed}
+use Rattle.formula.specs.StoredLaws.{answer-filled, space-filled, spaced-refused, admitted-space}
 use Rattle.verdict.specs.StoredFormula as Stored
 use Rattle.verdict.specs.StoredFormula.{formulaIn}
-use Rattle.verdict.specs.Judged.{schemaHolds, untypable-none, none-untypable, witness-typed}
-use Rattle.verdict.specs.Witness.{recordByte}
-use Rattle.verdict.specs.Verdict.{subsetIn, judgement, judgedSchema, witnessOver, verdictAnswer, verdictSpace, verdictSchema}
-use Rattle.verdict.specs.VerdictLaws.{verdict-goes}
-use Rattle.verdict.specs.declared.operation.Outcome.{Outcome}
-use Rattle.verdict.specs.declared.operation.Outcome.the-variants.{Typable, Untypable}
+use Rattle.verdict.specs.Judged.{Witness, blocked-untypable, witness-typed}
+use Rattle.verdict.specs.Lowest.{lowestOf, blockedOf}
+use Rattle.verdict.specs.Verdict.{witnessOf, witnessBytes, judgement, verdictAnswer, verdictSpace, verdictSchema}
+use Rattle.verdict.specs.VerdictLaws.{judged-untypable, judged-typable, verdict-stops, verdict-passes}
+use Rattle.verdict.specs.declared.operation.Outcome.the-variants.{Typable, Untypable, Refused}
 
 -- node k of an accepted file with m relations and n nodes
 module _ (file : List ℕ) (m n : ℕ) (accepted : acceptance file ≡ Accepted m n) (k : ℕ) (node : k < n) where
@@ -52,45 +58,54 @@ module _ (file : List ℕ) (m n : ℕ) (accepted : acceptance file ≡ Accepted 
   -- ---- Verdict, where it is not refused
 
   module _ (work schema : List ℕ) (goes : sliced (admitted file k (length work)) (length schema) 4104 ≡ Accepted m n) where
-    long : n * 1024 ≤ length work
-    long = admitted-passed file k (length work) (sliced-passed (admitted file k (length work)) (length schema) 4104 goes .0) .workSpace
-
-    after : List ℕ
-    after = over (formulasOf file m n) work
-
-    results : (judgement after m k ≡ verdictAnswer file k (length work) (length schema)) × ((after ≡ verdictSpace file k work (length schema)) × (judgedSchema after m k schema ≡ verdictSchema file k (length work) schema))
-    unfolding after
-    results = verdict-goes file k work schema m n (over (formulasOf file m n) work) (judgedSchema (over (formulasOf file m n) work) m k schema) (judgement (over (formulasOf file m n) work) m k) goes refl refl refl
-
     few : m ≤ 8
     few = accepted-file file m n accepted .counts .relations .1
 
+    -- the judgement on the node's expression
+    answer : verdictAnswer file k (length work) (length schema) ≡ judgement m (lowestOf m (expressionAt file k))
+    answer = sym (verdict-passes file k work schema m n goes .0)
+
     -- it leaves the work space as Formula does
     pub verdict-space : verdictSpace file k work (length schema) ≡ formulaSpace file work
-    unfolding after
-    verdict-space = sym (results .1 .0) ∙ sym (space work long)
+    verdict-space = sym (verdict-passes file k work schema m n goes .1 .0) ∙ admitted-space file k work m n (sliced-passed (admitted file k (length work)) (length schema) 4104 goes .0)
+
+    blocked-said : (a : ℕ) → verdictAnswer file k (length work) (length schema) ≡ Untypable a → blockedOf m (expressionAt file k) < 16
+    unfolding blockedOf
+    blocked-said a said = go (decLt (blockedOf m (expressionAt file k)) 16)
+      where
+        go : Dec (blockedOf m (expressionAt file k) < 16) → blockedOf m (expressionAt file k) < 16
+        go (yes h) = h
+        go (no h) = absurd (let other = sym said ∙ answer ∙ judged-typable m (lowestOf m (expressionAt file k)) schema (omega arith) .0 in let z : _≡_ {A = ℕ} 0 1 = cc in omega arith)
 
     -- untypable is said exactly where no assignment types the node
     pub verdict-untypable : ((a : ℕ) × (verdictAnswer file k (length work) (length schema) ≡ Untypable a)) ↔ (Typing m (expressionAt file k) → ⊥)
-    unfolding after
-    verdict-untypable = (
-      (λ said. untypable-none (over (formulasOf file m n) work) m k few (expressionAt file k) (expression-legal file m n accepted k node) (Stored.is-formula file m n accepted work long k node) (Stored.stored-above file m n accepted work long k node) (said .0) (results .0 ∙ said .1)),
-      (λ none.
-          let found = none-untypable (over (formulasOf file m n) work) m k few (expressionAt file k) (expression-legal file m n accepted k node) (Stored.is-formula file m n accepted work long k node) (Stored.stored-above file m n accepted work long k node) none in
-          (found .0, sym (results .0) ∙ found .1)),
-    )
+    unfolding blockedOf
+    verdict-untypable =
+        let right = blocked-untypable m few (expressionAt file k) (expression-legal file m n accepted k node) in (
+          (λ said. right .0 (blocked-said (said .0) (said .1))),
+          (λ none. (blockedOf m (expressionAt file k), answer ∙ judged-untypable m (lowestOf m (expressionAt file k)) schema (right .1 none) .0)),
+        )
 
-    -- the witness types the node: what is written to the schema slice says an assignment under which the rules derive a type
-    pub verdict-witness : (size : ℕ) → verdictAnswer file k (length work) (length schema) ≡ Typable size → (t : Attrs) × Typed (schemaHolds (take size (verdictSchema file k (length work) schema))) (expressionAt file k) t
-    unfolding after judgedSchema
-    verdict-witness size h =
-        let judged = results .0 ∙ h in
-        let typed = witness-typed (over (formulasOf file m n) work) m k few (expressionAt file k) (expression-legal file m n accepted k node) (Stored.is-formula file m n accepted work long k node) (Stored.stored-above file m n accepted work long k node) size judged in
-        (typed .0, subst (λ (bytes : List ℕ). Typed (schemaHolds bytes) (expressionAt file k) (typed .0)) (sym (written judged)) (typed .1))
+    -- the witness: what is written to the schema slice is read as a schema without a refusal, and types the node by the rules
+    pub verdict-witness : (size : ℕ) → verdictAnswer file k (length work) (length schema) ≡ Typable size → Witness m (expressionAt file k) (take size (verdictSchema file k (length work) schema))
+    unfolding blockedOf witnessOf
+    verdict-witness size said = go (decLt (blockedOf m (expressionAt file k)) 16)
       where
-        written : judgement (over (formulasOf file m n) work) m k ≡ Typable size → take size (verdictSchema file k (length work) schema) ≡ tab size (recordByte (subsetIn (over (formulasOf file m n) work) k))
-        written judged =
-            let size-is = length-tab size (recordByte (subsetIn (over (formulasOf file m n) work) k)) in
-            ap (take size) (sym (results .1 .1) ∙ ap (λ (o : Outcome). witnessOver o (over (formulasOf file m n) work) k schema) judged)
-            ∙ ap (λ (l : ℕ). take l (over (tab size (recordByte (subsetIn (over (formulasOf file m n) work) k))) schema)) (sym size-is)
-            ∙ take-over (tab size (recordByte (subsetIn (over (formulasOf file m n) work) k))) schema
+        go : Dec (blockedOf m (expressionAt file k) < 16) → Witness m (expressionAt file k) (take size (verdictSchema file k (length work) schema))
+        go (yes h) = absurd (let other = sym said ∙ answer ∙ judged-untypable m (lowestOf m (expressionAt file k)) schema h .0 in let z : _≡_ {A = ℕ} 0 1 = cc in omega arith)
+        go (no h) =
+            let gives = judged-typable m (lowestOf m (expressionAt file k)) schema (omega arith) in
+            let whole = sym said ∙ answer ∙ gives .0 in
+            let size-is : size ≡ length (witnessBytes m (lowestOf m (expressionAt file k))) = cc in
+            let written = sym (verdict-passes file k work schema m n goes .1 .1) ∙ gives .1 in
+            rw (size-is, written, take-over (witnessBytes m (lowestOf m (expressionAt file k))) schema)
+            (witness-typed m few (expressionAt file k) (expression-legal file m n accepted k node) (omega arith))
+
+-- ---- Record: where it is empty, Verdict gives the number of the refusal, whatever its slices are
+
+pub record-number : (file : List ℕ) (k : ℕ) → recordOf file k ≡ [] → (work schema : List ℕ) → (r : Refusal) × (verdictAnswer file k (length work) (length schema) ≡ Refused r) × (numberOf r ≤ 11)
+unfolding admitted
+record-number file k empty work schema =
+    let found = record-empty file k empty in
+    let refused = sliced-refused (admitted file k (length work)) (length schema) 4104 (spaced-refused (asked file k) (length work) (found .1)) in
+    (found .0, sym (verdict-stops file k work schema (found .0) refused .0), found .2)

@@ -1,70 +1,89 @@
--- Laws of Verdict: what is judged, by the subsets; the three results after each refusal, and after none.
-use Prim.Native.Nat.{ℕ, _*_, _≤_, _<_}
-use mathlib.Core.Path.{_≡_, refl, sym, ap, _∙_}
-use mathlib.Core.List.{List}
+-- Laws of Verdict: what is judged, by the subsets that the code finds; the three results after each refusal, and after none.
+use Prim.Native.Nat.{ℕ, _≤_, _<_}
+use mathlib.Core.Path.{_≡_, refl, sym, ap, ap₂, _∙_}
+use mathlib.Core.Bool.{cond}
+use mathlib.Core.List.{List, []}
+use native.Mathlib.Omega.{arith}
 use borrow.Author.Tests.{lt-ltb, le-ltb}
-use lib.Dec.{eqb}
+use lib.Dec.{ltb}
 use lib.ListN.{length, getD}
-use Rattle.bits.specs.Lowest.{lowestFrom}
-use Rattle.bits.specs.Tab.{tab, over}
+use Rattle.bits.specs.Tab.{over}
 use Rattle.refusal.specs.declared.Refusal.{Refusal}
+use Rattle.expression.specs.declared.files.Acceptance.{Acceptance}
 use Rattle.expression.specs.declared.files.Acceptance.the-variants.{Accepted, Refused as FileRefused}
 use Rattle.expression.specs.Admission.{sliced}
 use Rattle.expression.specs.AdmissionLaws.{sliced-passed}
+use Rattle.formula.specs.Expressions.{expressionAt}
 use Rattle.formula.specs.Stored.{formulasOf, admitted}
-use Rattle.formula.specs.StoredLaws.{stored-column, formulas-column, admitted-passed}
-use Rattle.verdict.specs.Lowest.{subsetsIn}
-use Rattle.verdict.specs.LowestLaws.{subsets-same}
-use Rattle.verdict.specs.Witness.{recordByte}
-use Rattle.verdict.specs.Verdict.{subsetIn, blockedIn, judgement, witnessOver, judgedSchema, verdictAnswer, verdictSpace, verdictSchema}
+use Rattle.formula.specs.StoredLaws.{stored-column, admitted-passed}
+use Rattle.membership.specs.Entries.{tableOf}
+use Rattle.membership.specs.TableLaws.{is-table}
+use Rattle.membership.specs.Special.{mapsFrom}
+use Rattle.membership.specs.SpecialLaws.{maps-length, maps-even}
+use Rattle.membership.specs.declared.merging.Entries.{Entries}
+use Rattle.schema.specs.Schema.{schemaBytes, recordsOf, WritesFrom}
+use Rattle.verdict.specs.Lowest.{lowestOf, lowestAt, blockedBy, chosenBy, subsetsAt}
+use Rattle.verdict.specs.LowestLaws.{chosen-size, chosen-none, subsets-blocked, subsets-chosen, blocked-same, chosen-same, lowest-cells}
+use Rattle.verdict.specs.Verdict.{witnessBytes, judged, judgement, judgedSchema, verdictAnswer, verdictSpace, verdictSchema}
+use Rattle.verdict.specs.declared.lowest.Subsets.{Subsets}
 use Rattle.verdict.specs.declared.operation.Outcome.{Outcome}
 use Rattle.verdict.specs.declared.operation.Outcome.the-variants.{Typable, Untypable, Refused}
 
--- ---- what is judged, by the subsets and the attribute that the code finds
+-- ---- what is judged
 
-pub blocked-found : (work subsets : List ℕ) (k blocked : ℕ) → subsets ≡ subsetsIn work k → blocked ≡ lowestFrom 15 1 (λ i. eqb (getD subsets i 0) 256) → blocked ≡ blockedIn work k
-unfolding blockedIn subsetIn
-blocked-found work subsets k blocked are found = found ∙ ap (λ (s : List ℕ). lowestFrom 15 1 (λ i. eqb (getD s i 0) 256)) are
-
-module _ (work : List ℕ) (m k : ℕ) (schema subsets : List ℕ) (blocked : ℕ) (subsets-are : subsets ≡ subsetsIn work k) (found : blocked ≡ lowestFrom 15 1 (λ i. eqb (getD subsets i 0) 256)) where
-  blocked-is : blocked ≡ blockedIn work k
-  blocked-is = blocked-found work subsets k blocked subsets-are found
-
-  pub judge-untypable : blocked < 16 → (Untypable blocked ≡ judgement work m k) × (schema ≡ judgedSchema work m k schema)
+module _ (m : ℕ) (lowest : ℕ → ℕ) (schema : List ℕ) where
+  pub judged-untypable : blockedBy lowest < 16 → (judgement m lowest ≡ Untypable (blockedBy lowest)) × (judgedSchema m lowest schema ≡ schema)
   unfolding judgement judgedSchema
+  judged-untypable h = rw (lt-ltb (blockedBy lowest) 16 h) (refl, refl)
+
+  pub judged-typable : 16 ≤ blockedBy lowest → (judgement m lowest ≡ Typable (length (witnessBytes m lowest))) × (judgedSchema m lowest schema ≡ over (witnessBytes m lowest) schema)
+  unfolding judgement judgedSchema
+  judged-typable h = rw (le-ltb (blockedBy lowest) 16 h) (refl, refl)
+
+-- by the subsets that the code finds
+module _ (work : List ℕ) (m k : ℕ) (schema : List ℕ) (subsets : Subsets) (are : subsets ≡ subsetsAt work k) where
+  blocked-is : subsets .blocked ≡ blockedBy (lowestAt work k)
+  blocked-is = subsets-blocked work k subsets are
+
+  chosen-is : subsets .chosen ≡ chosenBy (lowestAt work k)
+  chosen-is = subsets-chosen work k subsets are
+
+  pub judge-untypable : subsets .blocked < 16 → (Untypable (subsets .blocked) ≡ judgement m (lowestAt work k)) × (schema ≡ judgedSchema m (lowestAt work k) schema)
   judge-untypable h =
-      let t = lt-ltb blocked 16 h in
-      rw (← blocked-is) (rw t, rw t)
+      let gives = judged-untypable m (lowestAt work k) schema (rw blocked-is at h) in
+      (ap Untypable blocked-is ∙ sym (gives .0), sym (gives .1))
 
-  pub judge-typable : (written : List ℕ) → 16 ≤ blocked → written ≡ over (tab (m * 2) (recordByte (λ i. getD subsets i 0))) schema → (Typable (m * 2) ≡ judgement work m k) × (written ≡ judgedSchema work m k schema)
-  unfolding judgement judgedSchema subsetIn
-  judge-typable written h e =
-      let t = le-ltb blocked 16 h in
-      rw (← blocked-is, t) (refl, e ∙ ap (λ (s : List ℕ). over (tab (m * 2) (recordByte (λ i. getD s i 0))) schema) subsets-are)
+  pub judge-typable : (size : ℕ) (written : List ℕ) → 16 ≤ subsets .blocked → size ≡ length (schemaBytes (recordsOf m (mapsFrom (subsets .chosen)) [])) → written ≡ over (schemaBytes (recordsOf m (mapsFrom (subsets .chosen)) [])) schema → (Typable size ≡ judgement m (lowestAt work k)) × (written ≡ judgedSchema m (lowestAt work k) schema)
+  unfolding witnessBytes
+  judge-typable size written h size-is wrote =
+      let gives = judged-typable m (lowestAt work k) schema (rw blocked-is at h) in
+      let bytes = ap (λ (l : List ℕ). schemaBytes (recordsOf m (mapsFrom l) [])) chosen-is in
+      (ap Typable (size-is ∙ ap length bytes) ∙ sym (gives .0), wrote ∙ ap (λ (l : List ℕ). over l schema) bytes ∙ sym (gives .1))
 
--- ---- the formulas by themselves and over a work space are judged alike
+  -- a witness can be written from them
+  pub judge-writes : (length (subsets .chosen) ≡ 16) × (getD (subsets .chosen) 0 0 ≡ 0)
+  judge-writes = rw chosen-is (chosen-size (lowestAt work k), chosen-none (lowestAt work k))
 
-witness-same : (work other : List ℕ) (k : ℕ) (schema : List ℕ) → subsetsIn work k ≡ subsetsIn other k → (o : Outcome) → witnessOver o work k schema ≡ witnessOver o other k schema
-unfolding subsetIn
-witness-same work other k schema e (Typable size) = ap (λ (s : List ℕ). over (tab size (recordByte (λ i. getD s i 0))) schema) e
-witness-same work other k schema e (Untypable a) = refl
-witness-same work other k schema e (Refused r) = refl
+-- the table that the witness is written from: the maps of the subsets, and no entries
+pub witness-from : (subsets special : List ℕ) (none : Entries) → special ≡ mapsFrom subsets → getD subsets 0 0 ≡ 0 → none ≡ tableOf [] → WritesFrom special (none .items) 0
+witness-from subsets special none are clear is =
+    let table = is-table [] tt in
+    rw (are, is) (record { maps = maps-length subsets; even = maps-even subsets clear; size = table .size; few = omega arith; below = table .below })
 
-module _ (file work : List ℕ) (m n k : ℕ) (fits : n * 1024 ≤ length work) (node : k < n) where
-  same-subsets : subsetsIn (over (formulasOf file m n) work) k ≡ subsetsIn (formulasOf file m n) k
-  same-subsets =
-      subsets-same (over (formulasOf file m n) work) (formulasOf file m n) k
-      (λ c h. stored-column file work m n fits k c node h ∙ sym (formulas-column file m n k c node h))
+-- ---- two that agree on the columns are judged alike
 
-  pub same-judgement : judgement (over (formulasOf file m n) work) m k ≡ judgement (formulasOf file m n) m k
-  unfolding judgement blockedIn subsetIn
-  same-judgement = rw same-subsets
+module _ (m : ℕ) (f g : ℕ → ℕ) (same : (i : ℕ) → i < 16 → f i ≡ g i) where
+  same-witness : witnessBytes m f ≡ witnessBytes m g
+  unfolding witnessBytes
+  same-witness = ap (λ (l : List ℕ). schemaBytes (recordsOf m (mapsFrom l) [])) (chosen-same f g same)
 
-  pub same-schema : (schema : List ℕ) → judgedSchema (over (formulasOf file m n) work) m k schema ≡ judgedSchema (formulasOf file m n) m k schema
+  same-judgement : judgement m f ≡ judgement m g
+  unfolding judgement
+  same-judgement = ap₂ (λ (b : ℕ) (w : List ℕ). judged (ltb b 16) b w) (blocked-same f g same) same-witness
+
+  same-schema : (schema : List ℕ) → judgedSchema m f schema ≡ judgedSchema m g schema
   unfolding judgedSchema
-  same-schema schema =
-      ap (λ (o : Outcome). witnessOver o (over (formulasOf file m n) work) k schema) same-judgement
-      ∙ witness-same (over (formulasOf file m n) work) (formulasOf file m n) k schema same-subsets (judgement (formulasOf file m n) m k)
+  same-schema schema = ap₂ (λ (b : ℕ) (w : List ℕ). cond (ltb b 16) schema (over w schema)) (blocked-same f g same) same-witness
 
 -- ---- the answer, the work space and the schema slice
 
@@ -79,14 +98,25 @@ module _ (file : List ℕ) (k : ℕ) (work schema : List ℕ) where
   unfolding verdictAnswer verdictSpace verdictSchema
   verdict-stops r e = rw e (refl, (refl, refl))
 
-  pub verdict-goes : (m n : ℕ) (filled written : List ℕ) (o : Outcome) → sliced (admitted file k (length work)) (length schema) 4104 ≡ Accepted m n → filled ≡ over (formulasOf file m n) work → o ≡ judgement filled m k → written ≡ judgedSchema filled m k schema → Results o filled written
+  -- where nothing is refused: the judgement on the node's expression
+  pub verdict-passes : (m n : ℕ) → sliced (admitted file k (length work)) (length schema) 4104 ≡ Accepted m n → Results (judgement m (lowestOf m (expressionAt file k))) (over (formulasOf file m n) work) (judgedSchema m (lowestOf m (expressionAt file k)) schema)
   unfolding verdictAnswer verdictSpace verdictSchema
+  verdict-passes m n e = rw e (refl, (refl, refl))
+
+  -- and the same off the work space, once it is filled
+  pub verdict-goes : (m n : ℕ) (filled written : List ℕ) (o : Outcome) → sliced (admitted file k (length work)) (length schema) 4104 ≡ Accepted m n → filled ≡ over (formulasOf file m n) work → o ≡ judgement m (lowestAt filled k) → written ≡ judgedSchema m (lowestAt filled k) schema → Results o filled written
   verdict-goes m n filled written o e is answered wrote =
       let admits = admitted-passed file k (length work) (sliced-passed (admitted file k (length work)) (length schema) 4104 e .0) in
-      rw e (
-        answered ∙ ap (λ (w : List ℕ). judgement w m k) is ∙ same-judgement file work m n k (admits .workSpace) (admits .node),
-        (
-          is,
-          wrote ∙ ap (λ (w : List ℕ). judgedSchema w m k schema) is ∙ same-schema file work m n k (admits .workSpace) (admits .node) schema,
-        ),
+      let same = lowest-cells filled k m (expressionAt file k) (λ c h. rw is (stored-column file work m n (admits .workSpace) k c (admits .node) h)) in
+      let results = verdict-passes m n e in (
+        answered ∙ same-judgement m (lowestAt filled k) (lowestOf m (expressionAt file k)) same ∙ results .0,
+        (is ∙ results .1 .0, wrote ∙ same-schema m (lowestAt filled k) (lowestOf m (expressionAt file k)) same schema ∙ results .1 .1),
       )
+
+  -- where it is not refused, none of 1 to 13 applies
+  pub verdict-unrefused : ((r : Refusal) → verdictAnswer file k (length work) (length schema) ≡ Refused r → ⊥) → (m : ℕ) × ((n : ℕ) × (sliced (admitted file k (length work)) (length schema) 4104 ≡ Accepted m n))
+  verdict-unrefused other = go (sliced (admitted file k (length work)) (length schema) 4104) refl
+    where
+      go : (a : Acceptance) → sliced (admitted file k (length work)) (length schema) 4104 ≡ a → (m : ℕ) × ((n : ℕ) × (sliced (admitted file k (length work)) (length schema) 4104 ≡ Accepted m n))
+      go (FileRefused r) is = absurd (other r (sym (verdict-stops r is .0)))
+      go (Accepted m n) is = (m, (n, is))

@@ -1,12 +1,18 @@
-// The lowest allowed subset of each column, and the lowest attribute that has none.
+// The lowest allowed subset of each special attribute, and the lowest attribute that has none.
 ghost use mathlib.Core.Path.{_≡_};
 ghost use Prim.Native.Nat.{_+_, _*_, _≤_};
-ghost use lib.Dec.{eqb};
-ghost use lib.ListN.{length, getD};
+ghost use lib.ListN.{length};
 ghost use Rattle.bits.specs.Lowest.{lowestFrom};
 ghost use Rattle.column.specs.Column.{allowedIn};
-ghost use Rattle.verdict.specs.Lowest.{subsetsIn};
+ghost use Rattle.verdict.specs.Lowest.{subsetsAt};
 use formula::read_column;
+
+// The lowest special attribute whose column allows nothing, or 16, and the lowest allowed subset of each
+// special attribute below it; 0 for any other number.
+pub struct Subsets {
+    pub blocked: u8,
+    pub chosen: [u8; 16],
+}
 
 // The lowest subset that a column allows, or 256.
 fn lowest_allowed(column: [u8; 64]) -> u16
@@ -22,30 +28,20 @@ fn lowest_allowed(column: [u8; 64]) -> u16
     s
 }
 
-// The lowest allowed subset of each of the sixteen columns of a node, or 256 where there is none.
-pub fn lowest_subsets(work: &[u8], node: u8) -> [u16; 16]
+// The lowest allowed subsets of a node whose formula stands in the work space.
+pub fn lowest_subsets(work: &[u8], node: u8) -> Subsets
     requires { ⌜ node * 1024 + 1024 ≤ length (now work) ⌝ }
-    ensures { λ r. ⌜ r ≡ subsetsIn (now (work .entry)) node ⌝ }
+    ensures { λ r. ⌜ r ≡ subsetsAt (now (work .entry)) node ⌝ }
 {
-    let mut subsets = [0u16; 16];
-    let mut i = 0u8;
-    while i < 16 {
-        subsets[i as usize] = lowest_allowed(read_column(work, node, i));
-        i += 1;
-    }
-    subsets
-}
-
-// The lowest special attribute whose column allows nothing, or 16.
-pub fn first_blocked(subsets: [u16; 16]) -> u8
-    ensures { λ r. ⌜ r ≡ lowestFrom 15 1 (λ i. eqb (getD subsets i 0) 256) ⌝ }
-{
+    let mut chosen = [0u8; 16];
     let mut i = 1u8;
     while i < 16 {
-        if subsets[i as usize] == 256 {
-            return i;
+        let s = lowest_allowed(read_column(work, node, i));
+        if s == 256 {
+            return Subsets { blocked: i, chosen };
         }
+        chosen[i as usize] = s as u8;
         i += 1;
     }
-    i
+    Subsets { blocked: i, chosen }
 }

@@ -1,15 +1,21 @@
 // The operation Verdict.
 ghost use mathlib.Core.Path.{_≡_};
+ghost use mathlib.Core.List.{[]};
 ghost use Prim.Native.Nat.{_+_, _*_, _≤_};
-ghost use lib.ListN.{length};
-ghost use Rattle.verdict.specs.Verdict.{verdictAnswer, verdictSpace, verdictSchema, judgement, judgedSchema};
-use crate::lowest::first_blocked;
+ghost use lib.ListN.{length, getD};
+ghost use Rattle.bits.specs.Tab.{over};
+ghost use Rattle.membership.specs.Special.{mapsFrom};
+ghost use Rattle.schema.specs.Schema.{schemaBytes, recordsOf};
+ghost use Rattle.verdict.specs.Lowest.{lowestAt};
+ghost use Rattle.verdict.specs.Verdict.{judgement, judgedSchema, verdictAnswer, verdictSpace, verdictSchema};
 use crate::lowest::lowest_subsets;
-use crate::witness::write_witness;
 use expression::Acceptance;
 use formula::admit;
 use formula::fill;
+use membership::maps_from;
+use membership::no_entries;
 use refusal::Refusal;
+use schema::write_schema;
 
 // The length of the witness schema, or the lowest special attribute whose column allows nothing, or the first refusal.
 pub enum Outcome {
@@ -18,20 +24,32 @@ pub enum Outcome {
     Refused(Refusal),
 }
 
+// Writes the schema of m relations with these subsets of special attributes and no ordinary attribute, and gives its length.
+fn write_witness(schema: &mut [u8], m: u8, subsets: &[u8]) -> usize
+    requires { ⌜ (m ≤ 8) × (4104 ≤ length (now schema)) ⌝ }
+    requires { ⌜ (length (now subsets) ≡ 16) × (getD (now subsets) 0 0 ≡ 0) ⌝ }
+    ensures { λ r. ⌜ r ≡ length (schemaBytes (recordsOf m (mapsFrom (now (subsets .entry))) [])) ⌝ }
+    ensures { λ _. ⌜ now (schema .exit) ≡ over (schemaBytes (recordsOf m (mapsFrom (now (subsets .entry))) [])) (now (schema .entry)) ⌝ }
+{
+    let special = maps_from(subsets);
+    let none = no_entries();
+    let items = none.items;
+    write_schema(schema, m, &special, &items, 0)
+}
+
 // The verdict on a node whose formula stands in the work space.
 fn judge(work: &[u8], m: u8, node: u8, schema: &mut [u8]) -> Outcome
-    requires { ⌜ (m ≤ 8) × (m * 2 ≤ length (now schema)) ⌝ }
+    requires { ⌜ (m ≤ 8) × (4104 ≤ length (now schema)) ⌝ }
     requires { ⌜ node * 1024 + 1024 ≤ length (now work) ⌝ }
-    ensures { λ r. ⌜ r ≡ judgement (now (work .entry)) m node ⌝ }
-    ensures { λ _. ⌜ now (schema .exit) ≡ judgedSchema (now (work .entry)) m node (now (schema .entry)) ⌝ }
+    ensures { λ r. ⌜ r ≡ judgement m (lowestAt (now (work .entry)) node) ⌝ }
+    ensures { λ _. ⌜ now (schema .exit) ≡ judgedSchema m (lowestAt (now (work .entry)) node) (now (schema .entry)) ⌝ }
 {
     let subsets = lowest_subsets(work, node);
-    let blocked = first_blocked(subsets);
-    if blocked < 16 {
-        return Outcome::Untypable(blocked);
+    if subsets.blocked < 16 {
+        return Outcome::Untypable(subsets.blocked);
     }
-    write_witness(schema, m, subsets);
-    Outcome::Typable(m as usize * 2)
+    let chosen = subsets.chosen;
+    Outcome::Typable(write_witness(schema, m, &chosen))
 }
 
 // Verdict: refusals 1 to 13.

@@ -7,13 +7,14 @@ use lib.ListN.{getD}
 use Rattle.bits.specs.AllBelow.{allBelow, all-next, not-all}
 use Rattle.formula.specs.Storage.{columnAt}
 use Rattle.membership.specs.Entries.{subsetOf}
-use Rattle.application.specs.Fitting.{variableIn}
+use Rattle.formulas.specs.Formula.{typeVariable}
+use Rattle.column.specs.Column.{allowedIn}
 use borrow.Author.Needs.{needs}
 use Rattle.application.proofs.fitting.entries_allowed.Statement.{statement}
 use Rattle.application.proofs.fitting.entries_allowed.Tie as tie
 
 abbrev Inv-loop : tie.InvT-loop
-Inv-loop work node items count i₀ i = (i ≤ count) × (allBelow i (λ x. variableIn (columnAt work node 0) (subsetOf (getD items x 0))) ≡ true)
+Inv-loop work node items count i₀ i = (i ≤ count) × (allBelow i (λ x. typeVariable (allowedIn (columnAt work node 0)) (subsetOf (getD items x 0))) ≡ true)
 
 abbrev μ-loop : tie.MeasureT-loop
 μ-loop work node items count i₀ i = count - i
@@ -40,7 +41,7 @@ loop-less : tie.Need-loop-less Inv-loop μ-loop
 loop-less c = search needs
 
 loop-again : tie.Need-loop-again Inv-loop μ-loop
-loop-again c = (omega arith, all-next (c .before .before .before .before .loop .i) (λ x. variableIn (columnAt (c .before .before .before .before .before .before .before .args .work .now) (c .before .before .before .before .before .before .before .args .node) 0) (subsetOf (getD (c .before .before .before .before .before .before .before .args .items .now) x 0))) (c .before .before .before .before .loop .inv .1) (sym (c .before .is-variable .ensures) ∙ not-false _ (c .if1 .left)))
+loop-again c = (omega arith, all-next (c .before .before .before .before .loop .i) (λ x. typeVariable (allowedIn (columnAt (c .before .before .before .before .before .before .before .args .work .now) (c .before .before .before .before .before .before .before .args .node) 0)) (subsetOf (getD (c .before .before .before .before .before .before .before .args .items .now) x 0))) (c .before .before .before .before .loop .inv .1) (sym (c .before .is-variable .ensures) ∙ not-false _ (c .if1 .left)))
 
 returns-2 : tie.Need-returns-2 Inv-loop μ-loop
 returns-2 c = let all : c .before .loop .i ≡ c .before .before .before .before .args .count = omega arith in sym (rw all at (c .before .loop .inv .1))

@@ -11,13 +11,13 @@ use Rattle.bits.specs.Booleans.{clash}
 use Rattle.bits.specs.Rising.{member}
 use Rattle.membership.specs.Entries.{attributeOf, subsetOf, holdersIn, enter}
 use Rattle.membership.specs.EnterLaws.{Order, lower, higher, equal, order, enter-none, enter-first, enter-lower, enter-higher, enter-equal, joined-attribute}
 use Rattle.instantiation.specs.Seen.{nothingSeen, repeatedIn}
 use Rattle.instantiation.specs.Instantiation.{entriesFrom, entriesIn, allListed}
 use Rattle.instantiation.specs.ReadLaws.{IsLists}
 use Rattle.instantiation.specs.Apart.{listed-none, once-apart}
 use Rattle.instantiation.specs.Owners.{lists-holders}
 use Rattle.instantiation.specs.EntriesLaws.{entries-first}
-use Rattle.round_trip.specs.Bounds.{Held}
+use Rattle.schema.specs.Bounds.{Held}
 
 -- a is the attribute of an entry
 abbrev entered : ℕ → List ℕ → Bool

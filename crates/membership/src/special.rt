@@ -2,7 +2,7 @@
 ghost use mathlib.Core.Path.{_≡_};
 ghost use Prim.Native.Nat.{_<_};
 ghost use lib.ListN.{length};
-ghost use Rattle.application.specs.Special.{mapOf, mapsFrom, subsetOf, subsetsFrom};
+ghost use Rattle.membership.specs.Special.{mapOf, mapsFrom, subsetFrom, subsetsFrom};
 
 // The map of relation r: bit i stands where r belongs to attribute i's subset.
 fn map_of(subsets: &[u8], r: usize) -> u16
@@ -35,7 +35,7 @@ pub fn maps_from(subsets: &[u8]) -> [u16; 8]
 // The subset of attribute i: bit r stands where relation r's map has i.
 fn subset_of(maps: &[u16], i: usize) -> u8
     requires { ⌜ (length (now maps) ≡ 8) × (i < 16) ⌝ }
-    ensures { λ x. ⌜ x ≡ subsetOf (now (maps .entry)) i ⌝ }
+    ensures { λ x. ⌜ x ≡ subsetFrom (now (maps .entry)) i ⌝ }
 {
     let mut x = 0u8;
     let mut r = 8usize;

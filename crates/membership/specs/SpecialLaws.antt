@@ -11,7 +11,7 @@ use lib.Pow.{pow-mono}
 use Rattle.bits.specs.Bit.{bit, bit-first, bit-none, bit-above, digit-clear}
 use Rattle.bits.specs.Pack.{pack, pack-below, pack-bits, pack-same, bit-pack, bits-once}
 use Rattle.bits.specs.Tab.{tab, length-tab, getD-tab, tab-is}
-use Rattle.application.specs.Special.{mapOf, mapsFrom, subsetOf, subsetsFrom}
+use Rattle.membership.specs.Special.{mapOf, mapsFrom, subsetFrom, subsetsFrom}
 
 module _ (subsets : List ℕ) where
   pub maps-length : length (mapsFrom subsets) ≡ 8
@@ -60,27 +60,27 @@ module _ (subsets : List ℕ) where
 
   -- the subsets are got back
   pub subsets-back : length subsets ≡ 16 → ((i : ℕ) → getD subsets i 0 < 256) → subsetsFrom (mapsFrom subsets) ≡ subsets
-  unfolding subsetsFrom subsetOf
+  unfolding subsetsFrom subsetFrom
   subsets-back size small =
-      sym (tab-is 16 (subsetOf (mapsFrom subsets)) 0 subsets size
+      sym (tab-is 16 (subsetFrom (mapsFrom subsets)) 0 subsets size
       (λ i h. sym (pack-same 8 (λ r. bit (getD (mapsFrom subsets) r 0) i) (bit (getD subsets i 0)) (λ r hr. map-bit r i hr h) ∙ pack-bits 8 (getD subsets i 0) (small i))))
 
 module _ (maps : List ℕ) where
   pub subset-bit : (i r : ℕ) → i < 16 → r < 8 → bit (getD (subsetsFrom maps) i 0) r ≡ bit (getD maps r 0) i
-  unfolding subsetsFrom subsetOf
-  subset-bit i r hi hr = ap (λ (x : ℕ). bit x r) (getD-tab 16 (subsetOf maps) i 0 hi) ∙ bit-pack 8 (λ r. bit (getD maps r 0) i) r hr
+  unfolding subsetsFrom subsetFrom
+  subset-bit i r hi hr = ap (λ (x : ℕ). bit x r) (getD-tab 16 (subsetFrom maps) i 0 hi) ∙ bit-pack 8 (λ r. bit (getD maps r 0) i) r hr
 
   pub subsets-size : length (subsetsFrom maps) ≡ 16
   unfolding subsetsFrom
-  subsets-size = length-tab 16 (subsetOf maps)
+  subsets-size = length-tab 16 (subsetFrom maps)
 
   pub subsets-small : (i : ℕ) → getD (subsetsFrom maps) i 0 < 256
-  unfolding subsetsFrom subsetOf
+  unfolding subsetsFrom subsetFrom
   subsets-small i = go (decLt i 16)
     where
-      go : Dec (i < 16) → getD (tab 16 (subsetOf maps)) i 0 < 256
-      go (yes h) = rw (getD-tab 16 (subsetOf maps) i 0 h) (pack-below 8 (λ r. bit (getD maps r 0) i))
-      go (no h) = let size = length-tab 16 (subsetOf maps) in rw (List·getD-eq-default (tab 16 (subsetOf maps)) 0 {n = i} (omega arith)) (lit< tt)
+      go : Dec (i < 16) → getD (tab 16 (subsetFrom maps)) i 0 < 256
+      go (yes h) = rw (getD-tab 16 (subsetFrom maps) i 0 h) (pack-below 8 (λ r. bit (getD maps r 0) i))
+      go (no h) = let size = length-tab 16 (subsetFrom maps) in rw (List·getD-eq-default (tab 16 (subsetFrom maps)) 0 {n = i} (omega arith)) (lit< tt)
 
   -- the maps are got back
   pub maps-back : length maps ≡ 8 → ((r : ℕ) → getD maps r 0 < 65536) → mapsFrom (subsetsFrom maps) ≡ maps

@@ -1,12 +1,12 @@
 -- The image of a table is a schema, and reading it gives the table back.
-use Prim.Native.Nat.{ℕ, _%_, _^_, _≤_, _<_}
+use Prim.Native.Nat.{ℕ, zero, suc, _%_, _^_, _≤_, _<_}
 use mathlib.Core.Path.{_≡_, sym, ap, _∙_}
 use mathlib.Core.Bool.{Bool, true, false, cond}
 use mathlib.Core.List.{List, [], _∷_}
 use native.Mathlib.Nat.{lt-of-lt-of-le}
 use native.Mathlib.Decide.{decLt}
 use native.Mathlib.Omega.{arith}
-use lib.Dec.{eqb}
+use lib.Dec.{eqb, lit<}
 use lib.ListN.{length, getD, List·getD-eq-default}
 use lib.Pow.{pow-pos, pow-mono}
 use lib.Seq.{ext-getD}
@@ -20,11 +20,11 @@ use Rattle.membership.specs.EntriesOnce.{Positive, entries-once}
 use Rattle.membership.specs.Holders.{heldBy}
 use Rattle.membership.specs.HolderLaws.{held-member, held-rising, held-few, held-below, holders-small}
 use Rattle.membership.specs.TableLaws.{Below}
-use Rattle.schema.specs.Schema.{recordsRead, readRecords, noRecord, schemaBytes, entriesOf, mapsOf, recordsOf}
+use Rattle.schema.specs.Schema.{recordsRead, readRecords, noRecord, schemaBytes, entriesOf, mapsOf, schemaReading, recordsOf}
 use Rattle.schema.specs.RecordsLaws.{AllRecords, written-records}
-use Rattle.schema.specs.EntriesLaws.{entries-rising, entries-holders, records-size, record-of, records-all}
-use Rattle.schema.specs.TableLaws.{maps-is, maps-size}
-use Rattle.round_trip.specs.Bounds.{Held, schema-held}
+use Rattle.schema.specs.EntriesLaws.{entries-rising, entries-below, entries-holders, records-size, record-of, records-all}
+use Rattle.schema.specs.TableLaws.{ReadSchema, read-schema, maps-at, maps-is, maps-size}
+use Rattle.schema.specs.Bounds.{Held, schema-held}
 
 -- a table of m relations: rising entries of two bytes, each held by some of them, at most 255; a map for each, with bit 0 clear, and empty ones from m on
 pub record IsTable (m : ℕ) (maps es : List ℕ) : Type 0 where
@@ -54,9 +54,6 @@ holders-held m (e ∷ es) h a = go (eqb a (attributeOf e)) (holders-held m es (h
 -- ---- the image
 
 module _ (m : ℕ) (few : m ≤ 8) (maps es : List ℕ) (table : IsTable m maps es) where
-  abbrev records : List TypeRecord
-  records = recordsOf m maps es
-
   pub image-size : length (recordsOf m maps es) ≡ m
   image-size = records-size m maps es
 
@@ -102,6 +99,10 @@ module _ (m : ℕ) (few : m ≤ 8) (maps es : List ℕ) (table : IsTable m maps 
       (held-positive m es (table .held))
       same-holders
 
+  -- reading it refuses nothing
+  pub image-schema : ReadSchema m (schemaBytes (recordsOf m maps es)) (schemaReading m (schemaBytes (recordsOf m maps es))) (recordsOf m maps es)
+  image-schema = let back = image-entries in read-schema m (schemaBytes (recordsOf m maps es)) (recordsOf m maps es) image-read (rw back (table .few))
+
   -- and so are the maps
   pub image-maps : mapsOf (recordsOf m maps es) ≡ maps
   image-maps = ext-getD 0 (mapsOf (recordsOf m maps es)) maps (maps-size (recordsOf m maps es) ∙ sym (table .size)) (λ r h. let size = maps-size (recordsOf m maps es) in maps-is (recordsOf m maps es) r (omega arith) ∙ go r (decLt r m))
@@ -111,3 +112,37 @@ module _ (m : ℕ) (few : m ≤ 8) (maps es : List ℕ) (table : IsTable m maps 
       go r (no above) =
           let size = image-size in
           ap (λ (t : TypeRecord). t .map) (List·getD-eq-default (recordsOf m maps es) noRecord {n = r} (omega arith)) ∙ sym (table .empty r (omega arith))
+
+-- ---- the table of a schema is one
+
+record-small : (ts : List TypeRecord) → AllRecords ts → (r : ℕ) → getD ts r noRecord .map < 65536
+record-small [] all r = lit< tt
+record-small (t ∷ ts) all zero = all .0 .small
+record-small (t ∷ ts) all (suc r) = record-small ts (all .1) r
+
+maps-small : (ts : List TypeRecord) → AllRecords ts → (r : ℕ) → getD (mapsOf ts) r 0 < 65536
+maps-small ts all r = go (decLt r 8)
+  where
+    go : Dec (r < 8) → getD (mapsOf ts) r 0 < 65536
+    go (yes h) = rw (maps-is ts r h) (record-small ts all r)
+    go (no h) = let size = maps-size ts in rw (List·getD-eq-default (mapsOf ts) 0 {n = r} (omega arith)) (lit< tt)
+
+maps-empty : (ts : List TypeRecord) (r : ℕ) → length ts ≤ r → getD (mapsOf ts) r 0 ≡ 0
+maps-empty ts r past = go (decLt r 8)
+  where
+    go : Dec (r < 8) → getD (mapsOf ts) r 0 ≡ 0
+    go (yes h) = maps-is ts r h ∙ ap (λ (t : TypeRecord). t .map) (List·getD-eq-default ts noRecord {n = r} past)
+    go (no h) = let size = maps-size ts in List·getD-eq-default (mapsOf ts) 0 {n = r} (omega arith)
+
+pub schema-table : (m : ℕ) (ts : List TypeRecord) → m ≤ 8 → length ts ≡ m → AllRecords ts → length (entriesOf ts) ≤ 255 → IsTable m (mapsOf ts) (entriesOf ts)
+schema-table m ts few size all fits =
+    record {
+      size = maps-size ts;
+      even = maps-at ts all;
+      small = maps-small ts all;
+      empty = λ r h. maps-empty ts r (omega arith);
+      few = fits;
+      rising = entries-rising ts (omega arith) all;
+      below = entries-below ts (omega arith) all;
+      held = schema-held m ts few (omega arith);
+    }

@@ -3,13 +3,13 @@ use mathlib.Core.Path.{_≡_}
 use native.Mathlib.Omega.{arith}
 use lib.ListN.{replicate, length-replicate}
 use Rattle.bits.specs.Written.{Written, written-none, written-more, written-whole}
-use Rattle.application.specs.Special.{subsetOf, subsetsFrom}
+use Rattle.membership.specs.Special.{subsetFrom, subsetsFrom}
 use borrow.Author.Needs.{needs}
-use Rattle.application.proofs.special.subsets_from.Statement.{statement}
-use Rattle.application.proofs.special.subsets_from.Tie as tie
+use Rattle.membership.proofs.special.subsets_from.Statement.{statement}
+use Rattle.membership.proofs.special.subsets_from.Tie as tie
 
 abbrev Inv-loop : tie.InvT-loop
-Inv-loop maps subsets₀ i₀ subsets i = (i ≤ 16) × Written (subsetOf maps) i (replicate 16 0) subsets
+Inv-loop maps subsets₀ i₀ subsets i = (i ≤ 16) × Written (subsetFrom maps) i (replicate 16 0) subsets
 
 abbrev μ-loop : tie.MeasureT-loop
 μ-loop maps subsets₀ i₀ subsets i = 16 - i

@@ -18,11 +18,11 @@ unfoldable pub mapsFrom : List ℕ → List ℕ
 mapsFrom subsets = tab 8 (mapOf subsets)
 
 -- attribute i's subset, of the maps of relations
-unfoldable pub subsetOf : List ℕ → ℕ → ℕ
-subsetOf maps i = pack 8 (λ r. bit (getD maps r 0) i)
+unfoldable pub subsetFrom : List ℕ → ℕ → ℕ
+subsetFrom maps i = pack 8 (λ r. bit (getD maps r 0) i)
 
 unfoldable pub subsetsFrom : List ℕ → List ℕ
-subsetsFrom maps = tab 16 (subsetOf maps)
+subsetsFrom maps = tab 16 (subsetFrom maps)
 
 -- ---- the bits from the highest down, for both
 

@@ -2,10 +2,10 @@ use Prim.Native.Nat.{_≤_}
 use mathlib.Core.Path.{_≡_, sym, _∙_}
 use native.Mathlib.Omega.{arith}
 use Rattle.bits.specs.PackFrom.{from-none, from-all}
-use Rattle.application.specs.Special.{subsetOf, bitsFrom, bits-lower, bits-below}
+use Rattle.membership.specs.Special.{subsetFrom, bitsFrom, bits-lower, bits-below}
 use borrow.Author.Needs.{needs}
-use Rattle.application.proofs.special.subset_of.Statement.{statement}
-use Rattle.application.proofs.special.subset_of.Tie as tie
+use Rattle.membership.proofs.special.subset_of.Statement.{statement}
+use Rattle.membership.proofs.special.subset_of.Tie as tie
 
 abbrev Inv-loop : tie.InvT-loop
 Inv-loop maps i x₀ r₀ x r = (r ≤ 8) × (x ≡ bitsFrom maps 8 i r)
@@ -47,7 +47,7 @@ loop-again : tie.Need-loop-again Inv-loop μ-loop
 loop-again c = (omega arith, rw (c .before .before .loop .inv .1) (sym (bits-lower (c .before .before .before .args .maps .now) 8 (c .before .before .before .args .i) (c .before .before .loop .r) (c .before .loop-test .taken) (c .before .before .loop .inv .0))))
 
 returns : tie.Need-returns Inv-loop μ-loop
-unfolding subsetOf
+unfolding subsetFrom
 returns c = let all : c .before .loop .r ≡ 0 = omega arith in (rw all at (c .before .loop .inv .1)) ∙ from-all 8 _
 
 pub subset-of-spec : {M : Type 1} → statement M

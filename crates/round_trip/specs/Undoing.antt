@@ -1,0 +1,201 @@
+-- Apply and Recover undo each other, in the bytes of tables: what each gives where nothing is refused, and what the other gives for that. Theorems says it of the slices.
+use Prim.Native.Nat.{ℕ, _*_, _≤_, _<_}
+use mathlib.Core.Path.{_≡_, refl, sym, ap, ap₂, _∙_}
+use mathlib.Core.Bool.{true, false, _&&_, and-eq-true-iff}
+use mathlib.Core.List.{List}
+use native.Mathlib.Omega.{arith}
+use lib.ListN.{length}
+use Rattle.bits.specs.Tab.{over}
+use Rattle.bits.specs.Word.{Bytes}
+use Rattle.algebra.specs.Expression.{Legal}
+use Rattle.expression.specs.declared.files.Acceptance.the-variants.{Accepted}
+use Rattle.expression.specs.ReadFile.{acceptance}
+use Rattle.expression.specs.Accepted.{accepted-file}
+use Rattle.expression.specs.Admission.{asked, sliced}
+use Rattle.expression.specs.AdmissionLaws.{sliced-passes, asked-passes}
+use Rattle.formula.specs.Expressions.{expressionAt, expression-legal}
+use Rattle.formula.specs.Stored.{admitted}
+use Rattle.formula.specs.StoredLaws.{Admits, admitted-passes}
+use Rattle.type_record.specs.Record.{TypeRecord, recordSize}
+use Rattle.schema.specs.Schema.{recordsRead, readRecords, recordsOf, entriesOf, mapsOf, schemaReading}
+use Rattle.schema.specs.RecordsLaws.{schema-most}
+use Rattle.schema.specs.TableLaws.{ReadSchema, read-schema, read-entries}
+use Rattle.schema.specs.declared.reading.Schema.{Schema}
+use Rattle.instantiation.specs.Instantiation.{entriesIn, subsetsOf, listsOf, instantiationReading}
+use Rattle.instantiation.specs.ReadLaws.{lists-read, written-long}
+use Rattle.instantiation.specs.TableLaws.{ReadInstantiation, subsets-none}
+use Rattle.instantiation.specs.TableLaws as Instantiations
+use Rattle.instantiation.specs.declared.reading.Instantiation.{Instantiation}
+use Rattle.typing.specs.Output.{typedIn, outputList}
+use Rattle.typing.specs.Typing.{typingAnswer, typingOut}
+use Rattle.typing.specs.TypingLaws.{answer-typed, out-typed, typing-records}
+use Rattle.typing.specs.declared.operation.Answer.the-variants.{Typed}
+use Rattle.membership.specs.Special.{mapsFrom, subsetsFrom}
+use Rattle.membership.specs.SpecialLaws.{subsets-back}
+use Rattle.application.specs.Fits.{entriesFit, specialsFit, fits-typed}
+use Rattle.application.specs.Apply.{imageBytes, outputBytes, tableApplied, tableImage, tableOutput, applyAnswer, applySchema, applyOut}
+use Rattle.application.specs.ApplyLaws as Applying
+use Rattle.application.specs.Recover.{fits, recoveredBytes, tableRecovered, tableInstantiation, recoverAnswer, recoverOut}
+use Rattle.application.specs.RecoverLaws as Recovering
+use Rattle.schema.specs.Image.{IsTable, image-size, image-records, image-maps, image-entries}
+use Rattle.round_trip.specs.Tables.{fits-same}
+use Rattle.application.specs.StandingFit.{fit-held}
+use Rattle.instantiation.specs.ListZero.{list-zero}
+use Rattle.round_trip.specs.RoundTrip.{applied-table, image-schema, recovered-same, recovered-table, written-instantiation, written-table, image-same}
+use Rattle.application.specs.declared.applying.Application.the-variants.{Applied}
+use Rattle.application.specs.declared.recovering.Recovery.the-variants.{Recovered, Untyped}
+
+-- ---- Recover on a schema with these records
+
+-- nothing is refused: node k of an accepted file, a schema with these records, a work space and an instantiation slice that are long enough
+pub record Recovers (file : List ℕ) (k : ℕ) (schema : List ℕ) (space size m n : ℕ) (ts : List TypeRecord) : Type 0 where
+  pub accepted : acceptance file ≡ Accepted m n
+  pub node : k < n
+  pub workSpace : n * 1024 ≤ space
+  pub slice : 812 ≤ size
+  pub read : readRecords m schema ≡ recordsRead ts
+  pub few : length (entriesOf ts) ≤ 255
+
+pub recover-table : (file : List ℕ) (k : ℕ) (schema work out : List ℕ) (m n : ℕ) (ts : List TypeRecord) → Recovers file k schema (length work) (length out) m n ts → (recoverAnswer file k schema (length work) (length out) ≡ tableRecovered m (expressionAt file k) (mapsOf ts) (entriesOf ts)) × (recoverOut file k schema (length work) out ≡ tableInstantiation m (expressionAt file k) (mapsOf ts) (entriesOf ts) out)
+recover-table file k schema work out m n ts r =
+    let made = read-schema m schema ts (r .read) (r .few) in
+    let judged = ap (λ (s : Schema). s .judgement) (made .is) in
+    let special = ap (λ (s : Schema). s .special) (made .is) in
+    let entries = read-entries m schema (schemaReading m schema) ts made in
+    let table = Recovering.read-goes file m n (expressionAt file k) (schemaReading m schema) work out judged _ _ _ refl refl refl in
+    let goes = Recovering.recover-goes file k schema work out m n (sliced-passes (admitted file k (length work)) (length out) 812 (admitted-passes file k (length work) (record { accepted = r .accepted; node = r .node; workSpace = r .workSpace })) (r .slice)) _ _ _ refl refl refl in (
+      sym (goes .0) ∙ sym (table .0) ∙ ap₂ (tableRecovered m (expressionAt file k)) special entries,
+      sym (goes .1 .1) ∙ sym (table .1 .1) ∙ ap₂ (λ (x y : List ℕ). tableInstantiation m (expressionAt file k) x y out) special entries,
+    )
+
+-- ---- Apply on an instantiation with these lists
+
+-- nothing is refused: node k of an accepted file, an instantiation with these lists whose table fits the node, and slices that are long enough
+pub record Applies (file : List ℕ) (k : ℕ) (bytes : List ℕ) (space size outSize m n : ℕ) (ls : List (List ℕ)) : Type 0 where
+  pub goes : sliced (sliced (admitted file k space) size 4104) outSize 513 ≡ Accepted m n
+  pub read : ReadInstantiation bytes (instantiationReading bytes) ls
+  pub entries : entriesFit m (expressionAt file k) (entriesIn ls) ≡ true
+  pub special : specialsFit m (expressionAt file k) (subsetsOf bytes) ≡ true
+
+pub applies-admits : {file : List ℕ} {k : ℕ} {bytes : List ℕ} {space size outSize m n : ℕ} {ls : List (List ℕ)} → Applies file k bytes space size outSize m n ls → Admits file k space m n
+applies-admits {file} {k} {bytes} {space} {size} {outSize} a = Applying.apply-passed file k space size outSize (a .goes) .0
+
+pub apply-table : (file : List ℕ) (k : ℕ) (bytes work schema out : List ℕ) (m n : ℕ) (ls : List (List ℕ)) → Applies file k bytes (length work) (length schema) (length out) m n ls → (applyAnswer file k bytes (length work) (length schema) (length out) ≡ Applied (length (imageBytes m (subsetsOf bytes) (entriesIn ls))) (recordSize (length (outputList (expressionAt file k) (entriesIn ls))))) × ((applySchema file k bytes (length work) schema (length out) ≡ over (imageBytes m (subsetsOf bytes) (entriesIn ls)) schema) × (applyOut file k bytes (length work) (length schema) out ≡ over (outputBytes (expressionAt file k) (subsetsOf bytes) (entriesIn ls)) out))
+apply-table file k bytes work schema out m n ls a =
+    let r = a .read in
+    let judged = ap (λ (i : Instantiation). i .judgement) (r .is) in
+    let subsets = ap (λ (i : Instantiation). i .subsets) (r .is) in
+    let entries = Instantiations.read-entries bytes (instantiationReading bytes) ls r in
+    let table = Applying.read-goes file m n (expressionAt file k) (instantiationReading bytes) work schema out judged _ _ _ _ refl refl refl refl in
+    let goes = Applying.apply-goes file k bytes work schema out m n (a .goes) _ _ _ _ refl refl refl refl in
+    let gives = Applying.table-fits m (expressionAt file k) (subsetsOf bytes) (entriesIn ls) schema out (a .entries) (a .special) in (
+      sym (goes .0) ∙ sym (table .0) ∙ ap₂ (tableApplied m (expressionAt file k)) subsets entries ∙ gives .0,
+      (
+        sym (goes .1 .1 .0) ∙ sym (table .1 .1 .0) ∙ ap₂ (λ (x y : List ℕ). tableImage m (expressionAt file k) x y schema) subsets entries ∙ gives .1 .0,
+        sym (goes .1 .1 .1) ∙ sym (table .1 .1 .1) ∙ ap₂ (λ (x y : List ℕ). tableOutput m (expressionAt file k) x y out) subsets entries ∙ gives .1 .1,
+      ),
+    )
+
+-- the lengths that Apply gives are the image's and the output record's
+pub apply-size : (file : List ℕ) (k : ℕ) (bytes work schema out : List ℕ) (m n : ℕ) (ls : List (List ℕ)) → Applies file k bytes (length work) (length schema) (length out) m n ls → (size width : ℕ) → applyAnswer file k bytes (length work) (length schema) (length out) ≡ Applied size width → (size ≡ length (imageBytes m (subsetsOf bytes) (entriesIn ls))) × (width ≡ recordSize (length (outputList (expressionAt file k) (entriesIn ls))))
+apply-size file k bytes work schema out m n ls a size width said = sized (sym said ∙ apply-table file k bytes work schema out m n ls a .0)
+  where
+    sized : {x y z w : ℕ} → Applied x y ≡ Applied z w → (x ≡ z) × (y ≡ w)
+    sized e = (cc, cc)
+
+-- it lies within the schema slice: eight records of at most 513 bytes
+pub apply-fits : (file : List ℕ) (k : ℕ) (bytes work schema out : List ℕ) (m n : ℕ) (ls : List (List ℕ)) → Bytes bytes → Applies file k bytes (length work) (length schema) (length out) m n ls → (size width : ℕ) → applyAnswer file k bytes (length work) (length schema) (length out) ≡ Applied size width → size ≤ length schema
+apply-fits file k bytes work schema out m n ls below a size width said =
+    let few = accepted-file file m n (applies-admits a .accepted) .counts .relations .1 in
+    let table = applied-table m few (expressionAt file k) bytes below ls (a .read .long) (a .read .read) (a .read .once) (a .read .few) (a .entries) (a .special) in
+    let most = schema-most (recordsOf m (mapsFrom (subsetsOf bytes)) (entriesIn ls)) (image-records m few (mapsFrom (subsetsOf bytes)) (entriesIn ls) table) in
+    let count = image-size m few (mapsFrom (subsetsOf bytes)) (entriesIn ls) table in
+    let is = apply-size file k bytes work schema out m n ls a size width said .0 in
+    let room = Applying.apply-passed file k (length work) (length schema) (length out) (a .goes) .1 in
+    omega arith
+
+-- ---- apply, then recover; and Typing on the schema that Apply writes
+
+module _ (file : List ℕ) (k : ℕ) (bytes work schema out : List ℕ) (m n : ℕ) (ls : List (List ℕ)) (below : Bytes bytes) (a : Applies file k bytes (length work) (length schema) (length out) m n ls) where
+  few : m ≤ 8
+  few = accepted-file file m n (applies-admits a .accepted) .counts .relations .1
+
+  legal : Legal m (expressionAt file k)
+  legal = expression-legal file m n (applies-admits a .accepted) k (applies-admits a .node)
+
+  table : IsTable m (mapsFrom (subsetsOf bytes)) (entriesIn ls)
+  table = applied-table m few (expressionAt file k) bytes below ls (a .read .long) (a .read .read) (a .read .once) (a .read .few) (a .entries) (a .special)
+
+  pub read-image : ReadSchema m (imageBytes m (subsetsOf bytes) (entriesIn ls)) (schemaReading m (imageBytes m (subsetsOf bytes) (entriesIn ls))) (recordsOf m (mapsFrom (subsetsOf bytes)) (entriesIn ls))
+  read-image = image-schema m few (expressionAt file k) bytes below ls (a .read .long) (a .read .read) (a .read .once) (a .read .few) (a .entries) (a .special)
+
+  maps-are : mapsOf (recordsOf m (mapsFrom (subsetsOf bytes)) (entriesIn ls)) ≡ mapsFrom (subsetsOf bytes)
+  maps-are = image-maps m few (mapsFrom (subsetsOf bytes)) (entriesIn ls) table
+
+  entries-are : entriesOf (recordsOf m (mapsFrom (subsetsOf bytes)) (entriesIn ls)) ≡ entriesIn ls
+  entries-are = image-entries m few (mapsFrom (subsetsOf bytes)) (entriesIn ls) table
+
+  fits-back : fits m (expressionAt file k) (mapsFrom (subsetsOf bytes)) (entriesIn ls) ≡ true
+  fits-back = ap₂ _&&_ (a .entries) (ap (specialsFit m (expressionAt file k)) (subsets-back (subsetsOf bytes) (Instantiations.subsets-size bytes) (Instantiations.subsets-small bytes below)) ∙ a .special)
+
+  -- recovering from the image gives the same instantiation, byte by byte
+  pub applied-recovered : (work′ out′ : List ℕ) → n * 1024 ≤ length work′ → 812 ≤ length out′ → (recoverAnswer file k (imageBytes m (subsetsOf bytes) (entriesIn ls)) (length work′) (length out′) ≡ Recovered (length bytes)) × (recoverOut file k (imageBytes m (subsetsOf bytes) (entriesIn ls)) (length work′) out′ ≡ over bytes out′)
+  applied-recovered work′ out′ space slice =
+      let results = recover-table file k (imageBytes m (subsetsOf bytes) (entriesIn ls)) work′ out′ m n (recordsOf m (mapsFrom (subsetsOf bytes)) (entriesIn ls)) (record { accepted = applies-admits a .accepted; node = applies-admits a .node; workSpace = space; slice = slice; read = read-image .read; few = read-image .few }) in
+      let same = recovered-same m few (expressionAt file k) bytes below ls (a .read .long) (a .read .read) (a .read .once) (a .read .few) (a .entries) (a .special) (list-zero m ls (lists-read bytes ls below (a .read .long) (a .read .read)) (a .read .once) (fit-held m (expressionAt file k) (entriesIn ls) (a .entries))) in
+      let gives = Recovering.recovered-fits m (expressionAt file k) (mapsFrom (subsetsOf bytes)) (entriesIn ls) out′ fits-back in (
+        results .0 ∙ rw (maps-are, entries-are) (gives .0 ∙ ap (λ (l : List ℕ). Recovered (length l)) same),
+        results .1 ∙ rw (maps-are, entries-are) (gives .1 ∙ ap (λ (l : List ℕ). over l out′) same),
+      )
+
+  -- Typing gives the image the output record that Apply writes
+  pub applied-typing : (out′ : List ℕ) → 513 ≤ length out′ → (typingAnswer file k (imageBytes m (subsetsOf bytes) (entriesIn ls)) (length out′) ≡ Typed (recordSize (length (outputList (expressionAt file k) (entriesIn ls))))) × (typingOut file k (imageBytes m (subsetsOf bytes) (entriesIn ls)) out′ ≡ over (outputBytes (expressionAt file k) (subsetsOf bytes) (entriesIn ls)) out′)
+  applied-typing out′ slice =
+      let results = typing-records file k (imageBytes m (subsetsOf bytes) (entriesIn ls)) out′ m n (recordsOf m (mapsFrom (subsetsOf bytes)) (entriesIn ls)) (sliced-passes (asked file k) (length out′) 513 (asked-passes file k (applies-admits a .accepted) (applies-admits a .node)) slice) (read-image .read) (read-image .few) in
+      let typed = fits-typed m few (expressionAt file k) legal (subsetsOf bytes) (entriesIn ls) (subsets-none bytes) (a .entries) (a .special) in (
+        results .0 ∙ rw (maps-are, entries-are) (answer-typed (expressionAt file k) (mapsFrom (subsetsOf bytes)) (entriesIn ls) typed),
+        results .1 ∙ rw (maps-are, entries-are) (out-typed (expressionAt file k) (mapsFrom (subsetsOf bytes)) (entriesIn ls) out′ typed),
+      )
+
+-- ---- recover, then apply; and Recover beside Typing
+
+module _ (file : List ℕ) (k : ℕ) (schema work out : List ℕ) (m n : ℕ) (ts : List TypeRecord) (below : Bytes schema) (r : Recovers file k schema (length work) (length out) m n ts) where
+  most : m ≤ 8
+  most = accepted-file file m n (r .accepted) .counts .relations .1
+
+  known : IsTable m (mapsOf ts) (entriesOf ts)
+  known = recovered-table m most schema below ts (r .read) (r .few)
+
+  -- a table fits exactly where it is typed
+  fits-typing : fits m (expressionAt file k) (mapsOf ts) (entriesOf ts) ≡ typedIn (expressionAt file k) (mapsOf ts) (entriesOf ts)
+  fits-typing = fits-same m most (expressionAt file k) (expression-legal file m n (r .accepted) k (r .node)) (mapsOf ts) (entriesOf ts) known
+
+  -- what Recover answers, and what it writes, where the table is typed and where it is not
+  pub recovered-typed : typedIn (expressionAt file k) (mapsOf ts) (entriesOf ts) ≡ true → (recoverAnswer file k schema (length work) (length out) ≡ Recovered (length (recoveredBytes (mapsOf ts) (entriesOf ts)))) × (recoverOut file k schema (length work) out ≡ over (recoveredBytes (mapsOf ts) (entriesOf ts)) out)
+  recovered-typed typed =
+      let results = recover-table file k schema work out m n ts r in
+      let gives = Recovering.recovered-fits m (expressionAt file k) (mapsOf ts) (entriesOf ts) out (fits-typing ∙ typed) in
+      (results .0 ∙ gives .0, results .1 ∙ gives .1)
+
+  pub recovered-untyped : typedIn (expressionAt file k) (mapsOf ts) (entriesOf ts) ≡ false → recoverAnswer file k schema (length work) (length out) ≡ Untyped
+  recovered-untyped untyped = recover-table file k schema work out m n ts r .0 ∙ Recovering.recovered-refused m (expressionAt file k) (mapsOf ts) (entriesOf ts) out (fits-typing ∙ untyped) .0
+
+  -- applying what is recovered gives the same schema, byte by byte
+  pub recovered-applied : typedIn (expressionAt file k) (mapsOf ts) (entriesOf ts) ≡ true → (work′ schema′ out′ : List ℕ) → n * 1024 ≤ length work′ → 4104 ≤ length schema′ → 513 ≤ length out′ → (applyAnswer file k (recoveredBytes (mapsOf ts) (entriesOf ts)) (length work′) (length schema′) (length out′) ≡ Applied (length schema) (recordSize (length (outputList (expressionAt file k) (entriesOf ts))))) × (applySchema file k (recoveredBytes (mapsOf ts) (entriesOf ts)) (length work′) schema′ (length out′) ≡ over schema schema′)
+  recovered-applied typed work′ schema′ out′ space size slice =
+      let long = written-long (subsetsFrom (mapsOf ts)) (listsOf (entriesOf ts)) in
+      let read = written-instantiation m most schema below ts (r .read) (r .few) long in
+      let same = written-table m most schema below ts (r .read) (r .few) in
+      let fit = fits-typing ∙ typed in
+      let both = and-eq-true-iff (entriesFit m (expressionAt file k) (entriesOf ts)) (specialsFit m (expressionAt file k) (subsetsFrom (mapsOf ts))) .0 fit in
+      let applied = apply-table file k (recoveredBytes (mapsOf ts) (entriesOf ts)) work′ schema′ out′ m n (listsOf (entriesOf ts))
+      (record {
+        goes = sliced-passes (sliced (admitted file k (length work′)) (length schema′) 4104) (length out′) 513 (sliced-passes (admitted file k (length work′)) (length schema′) 4104 (admitted-passes file k (length work′) (record { accepted = r .accepted; node = r .node; workSpace = space })) size) slice;
+        read = read;
+        entries = rw (same .1) (both .0);
+        special = rw (same .0) (both .1);
+      }) in
+      let image = image-same m most schema below ts (r .read) (r .few) in (
+        applied .0 ∙ rw (same .0, same .1, image),
+        applied .1 .0 ∙ rw (same .0, same .1, image),
+      )

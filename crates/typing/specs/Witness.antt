@@ -1,0 +1,32 @@
+-- Typing answers typed for the witness that Verdict writes, with the record of a type that the rules derive.
+use Prim.Native.Nat.{ℕ, _≤_}
+use mathlib.Core.Path.{_≡_, sym, _∙_}
+use mathlib.Core.List.{List}
+use native.Mathlib.Omega.{arith}
+use lib.ListN.{length, take}
+use Rattle.types.specs.Types.{Attrs}
+use Rattle.expression.specs.AdmissionLaws.{sliced-passed}
+use Rattle.formula.specs.Stored.{admitted}
+use Rattle.formula.specs.StoredLaws.{admitted-passed}
+use Rattle.verdict.specs.Theorems.{verdict-witness}
+use Rattle.verdict.specs.Verdict.{verdictAnswer, verdictSchema}
+use Rattle.verdict.specs.VerdictLaws.{verdict-unrefused}
+use Rattle.verdict.specs.declared.operation.Outcome.the-variants.{Typable}
+use Rattle.typing.specs.Typing.{typingAnswer, typingOut}
+use Rattle.typing.specs.Theorems.{RecordOf, typing-typed}
+use Rattle.typing.specs.declared.operation.Answer.the-variants.{Typed as TypedAnswer}
+
+-- Verdict said typable, and wrote a schema of so many bytes
+module _ (file : List ℕ) (k : ℕ) (work schema : List ℕ) (size : ℕ) (said : verdictAnswer file k (length work) (length schema) ≡ Typable size) where
+  -- the schema that it wrote
+  abbrev written : List ℕ
+  written = take size (verdictSchema file k (length work) schema)
+
+  pub witness-typing : (out : List ℕ) → 513 ≤ length out → (t : Attrs) × ((width : ℕ) × ((typingAnswer file k (take size (verdictSchema file k (length work) schema)) (length out) ≡ TypedAnswer width) × RecordOf t (take width (typingOut file k (take size (verdictSchema file k (length work) schema)) out))))
+  witness-typing out slice =
+      let found = verdict-unrefused file k work schema (λ r refused. let both = sym said ∙ refused in let z : _≡_ {A = ℕ} 0 1 = cc in omega arith) in
+      let goes = found .1 .1 in
+      let admits = admitted-passed file k (length work) (sliced-passed (admitted file k (length work)) (length schema) 4104 goes .0) in
+      let witness = verdict-witness file (found .0) (found .1 .0) (admits .accepted) k (admits .node) work schema goes size said in
+      let rules = typing-typed file k written out (found .0) (found .1 .0) (witness .records) (record { accepted = admits .accepted; node = admits .node; slice = slice; bytes = witness .below; read = witness .reading .read; few = witness .reading .few }) (witness .type) in
+      (witness .type, rules .0 (witness .typed))
