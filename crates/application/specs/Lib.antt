@@ -6,3 +6,4 @@ pub mod ApplyLaws
 pub mod RecoverLaws
 pub mod StandingFit
 pub mod WorkSpace
+pub mod Numbers

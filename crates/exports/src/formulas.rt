@@ -3,8 +3,8 @@ ghost use mathlib.Core.Path.{_≡_};
 ghost use lib.ListN.{length};
 ghost use Rattle.formula.specs.Stored.{formulaAnswer, formulaSpace};
 ghost use Rattle.verdict.specs.Verdict.{verdictAnswer, verdictSpace, verdictSchema};
-ghost use Rattle.exports.specs.Numbers.{acceptanceNumber};
-ghost use Rattle.exports.specs.Verdicts.{outcomeNumber, outcomeValue};
+ghost use Rattle.expression.specs.Numbers.{acceptanceNumber};
+ghost use Rattle.verdict.specs.Numbers.{outcomeNumber, outcomeValue};
 use expression::Acceptance;
 use verdict::Outcome;
 

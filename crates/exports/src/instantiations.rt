@@ -3,7 +3,7 @@ ghost use mathlib.Core.Path.{_≡_};
 ghost use lib.ListN.{length};
 ghost use Rattle.application.specs.Apply.{applyAnswer, applySpace, applySchema, applyOut};
 ghost use Rattle.application.specs.Recover.{recoverAnswer, recoverSpace, recoverOut};
-ghost use Rattle.exports.specs.Instantiations.{applicationNumber, applicationSchema, applicationOutput, recoveryNumber, recoveryValue};
+ghost use Rattle.application.specs.Numbers.{applicationNumber, applicationSchema, applicationOutput, recoveryNumber, recoveryValue};
 use application::Application;
 use application::Recovery;
 

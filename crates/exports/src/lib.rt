@@ -4,7 +4,8 @@ ghost use lib.ListN.{length};
 ghost use Rattle.node.specs.ReadNode.{readNode};
 ghost use Rattle.expression.specs.ReadFile.{acceptance};
 ghost use Rattle.expression.specs.Record.{placeOf, recordOf};
-ghost use Rattle.exports.specs.Numbers.{acceptanceNumber, relationsOr, nodesOr, readingNumber};
+ghost use Rattle.expression.specs.Numbers.{acceptanceNumber, relationsOr, nodesOr};
+ghost use Rattle.node_word.specs.NodeWord.{readingNumber};
 
 mod formulas;
 mod instantiations;

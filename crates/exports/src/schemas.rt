@@ -2,7 +2,7 @@
 ghost use mathlib.Core.Path.{_≡_};
 ghost use lib.ListN.{length};
 ghost use Rattle.typing.specs.Typing.{typingAnswer, typingOut};
-ghost use Rattle.exports.specs.Schemas.{answerNumber, answerValue};
+ghost use Rattle.typing.specs.Numbers.{answerNumber, answerValue};
 use typing::Answer;
 
 // Typing: 0 with the number of bytes written to the result slice, or 255 for untyped, or the number of the first

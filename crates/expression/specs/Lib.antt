@@ -6,3 +6,4 @@ pub mod AdmissionLaws
 pub mod Walk
 pub mod RecordLaws
 pub mod Enough
+pub mod Numbers

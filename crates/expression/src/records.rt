@@ -1,6 +1,6 @@
 // Record: the part of the file that holds a node.
 ghost use mathlib.Core.Path.{_≡_};
-ghost use Rattle.expression.specs.Record.{placeOf, recordOf};
+ghost use Rattle.expression.specs.Record.{placeOf, placedIn, recordOf};
 use crate::admission::ask;
 use crate::files::Acceptance;
 use node::size_of;
@@ -30,9 +30,11 @@ pub fn locate(file: &[u8], node: usize) -> Place
     }
 }
 
-// The part of the file that holds the node, or an empty part where 1 to 11 apply.
+// The part of the file that holds the node, or an empty part where 1 to 11 apply: its bytes, and where they lie,
+// which is in the caller's file at the place that `locate` gives.
 pub fn record(file: &[u8], node: usize) -> &[u8]
     ensures { λ r. ⌜ now r ≡ recordOf (now (file .entry)) node ⌝ }
+    ensures { λ r. ⌜ r .ptr ≡ placedIn (file .entry .ptr) (placeOf (now (file .entry)) node) ⌝ }
 {
     let place = locate(file, node);
     let start = place.start;

@@ -60,6 +60,10 @@ module _ (file : List ℕ) (k space : ℕ) where
       let found = asked-passed file k (enough .0) in
       record { accepted = found .0; node = found .1; workSpace = enough .1 }
 
+  pub admitted-refused : {r : Refusal} → asked file k ≡ Refused r → admitted file k space ≡ Refused r
+  unfolding admitted
+  admitted-refused e = spaced-refused (asked file k) space e
+
   pub admitted-passes : {m n : ℕ} → Admits file k space m n → admitted file k space ≡ Accepted m n
   unfolding admitted
   admitted-passes a = spaced-passes (asked file k) space (asked-passes file k (a .accepted) (a .node)) (a .workSpace)

@@ -1,6 +1,9 @@
 -- A node as a machine word, for callers in C and Rust.
 use Prim.Native.Nat.{ℕ, _+_, _*_, _/_, _%_}
 use Rattle.attribute_set.specs.AttrSet.{bitsOf}
+use Rattle.refusal.specs.Number.{numberOf}
+use Rattle.node.specs.declared.reader.Reading.{Reading}
+use Rattle.node.specs.declared.reader.Reading.the-variants.{Read, Refused}
 use Rattle.node.specs.declared.nodes.BinaryOp.{BinaryOp}
 use Rattle.node.specs.declared.nodes.BinaryOp.the-variants.{Union, Difference, Join, Product}
 use Rattle.node.specs.declared.nodes.SetOp.{SetOp}
@@ -33,3 +36,8 @@ nodeWord (ProjectingOut e old) = wordOf 34 e old 0 0
 -- 0, the number of the node's bytes, and the node
 unfoldable pub readWord : Node → ℕ → ℕ
 readWord node size = (size + nodeWord node * 256) * 256
+
+-- what a reading is in numbers: the node and its length, or the refusal's number
+abbrev pub readingNumber : Reading → ℕ
+readingNumber (Read node size) = readWord node size
+readingNumber (Refused r) = numberOf r

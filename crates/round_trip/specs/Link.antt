@@ -1,6 +1,6 @@
 -- The link to demand 3, in tables: the bytes of an instantiation that fits are an instantiation of the node's stored formula, in the sense of demand 3, with the image and the output of its table. Theorems says it of what Apply leaves.
 use Prim.Native.Nat.{ℕ, zero, suc, _*_, _^_, _≤_, _<_}
-use mathlib.Core.Path.{_≡_, refl, sym, subst, _∙_}
+use mathlib.Core.Path.{_≡_, refl, sym, ap, subst, _∙_}
 use mathlib.Core.Logic.{_↔_, Iff·trans}
 use mathlib.Core.Bool.{true, false}
 use mathlib.Core.List.{List, [], _∷_}
@@ -28,14 +28,14 @@ use Rattle.formula.specs.Expressions.{expressionAt, expression-legal}
 use Rattle.formula.specs.Stored.{formulaSpace}
 use Rattle.verdict.specs.StoredFormula.{formulaIn}
 use Rattle.verdict.specs.Theorems.{principal}
-use Rattle.type_record.specs.Record.{TypeRecord, typeOf}
+use Rattle.type_record.specs.Record.{TypeRecord, recordBytes, typeOf}
 use Rattle.type_record.specs.RecordBytes.{IsRecord}
 use Rattle.type_record.specs.RecordTypes.{type-of-special, type-of-other, record-type}
 use Rattle.membership.specs.Entries.{holdersIn}
 use Rattle.membership.specs.HolderLaws.{held-member}
 use Rattle.schema.specs.Schema.{noRecord, assignmentOf, recordsOf, entriesOf, mapsOf}
 use Rattle.schema.specs.RecordsLaws.{AllRecords}
-use Rattle.typing.specs.OutputRecord.{outputRecord}
+use Rattle.typing.specs.OutputRecord.{outputRecord, output-parts}
 use Rattle.typing.specs.TableTyped.{table-rules, output-record}
 use Rattle.typing.specs.Theorems.{RecordOf}
 use Rattle.instantiation.specs.Instantiation.{entriesIn, subsetsOf}
@@ -100,8 +100,13 @@ module _ (file : List ℕ) (k : ℕ) (bytes work schema out : List ℕ) (m n : �
 
   -- the output record is that of its type
   pub output-is-record : RecordOf (typeOf (outputRecord (expressionAt file k) (mapsFrom (subsetsOf bytes)) (entriesIn ls))) (outputBytes (expressionAt file k) (subsetsOf bytes) (entriesIn ls))
-  unfolding outputRecord
-  output-is-record = record { record-is = output; is = is-output; bytes-are = refl; means = λ x. refl }
+  output-is-record =
+      record {
+        record-is = output;
+        is = is-output;
+        bytes-are = ap (λ (t : TypeRecord). recordBytes (t .map) (t .ordinary)) (sym (output-parts (expressionAt file k) (mapsFrom (subsetsOf bytes)) (entriesIn ls)));
+        means = λ x. refl;
+      }
 
   -- an instantiation with that image and that output
   image-instantiation : (work′ : List ℕ) → n * 1024 ≤ length work′ → (I : Instantiation (formulaIn (formulaSpace file work′) m k)) × (HasImage I A × HasOutput I (typeOf output))

@@ -13,3 +13,4 @@ pub mod Theorems
 pub mod Agreement
 pub mod Answered
 pub mod Witness
+pub mod Numbers

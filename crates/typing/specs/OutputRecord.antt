@@ -26,6 +26,10 @@ use Rattle.typing.specs.Judged.{map-even, none-held}
 unfoldable pub outputRecord : Expression → List ℕ → List ℕ → TypeRecord
 outputRecord e special entries = record { map = outputMap e special; ordinary = outputList e entries }
 
+pub output-parts : (e : Expression) (special entries : List ℕ) → outputRecord e special entries ≡ record { map = outputMap e special; ordinary = outputList e entries }
+unfolding outputRecord
+output-parts e special entries = refl
+
 -- ---- its list
 
 output-rising : (e : Expression) (p : ℕ) (es : List ℕ) → RisingEntries p es → Rising p (outputList e es)

@@ -5,3 +5,4 @@ pub mod VerdictLaws
 pub mod StoredFormula
 pub mod Judged
 pub mod Theorems
+pub mod Numbers

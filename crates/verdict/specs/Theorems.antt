@@ -8,11 +8,13 @@
 --   Witness          bytes that are a schema which types an expression      (Judged)
 --   formulaSpace, verdictAnswer, verdictSpace, verdictSchema   what the operations leave, by their contracts (crate formula, Stored; Verdict)
 use Prim.Native.Nat.{ℕ, _*_, _≤_, _<_}
-use mathlib.Core.Path.{_≡_, sym, _∙_}
+use mathlib.Core.Path.{_≡_, refl, sym, ap, _∙_}
 use mathlib.Core.Logic.{_↔_}
+use mathlib.Core.Bool.{Bool, true, false, cond}
 use mathlib.Core.List.{List, []}
 use native.Mathlib.Decide.{decLt}
 use native.Mathlib.Omega.{arith}
+use lib.Dec.{ltb}
 use lib.ListN.{length, take}
 use Rattle.bits.specs.Tab.{over, take-over}
 use Rattle.types.specs.Types.{Attrs, IsType, Assignment, IsAssignment}
@@ -21,22 +23,24 @@ use Rattle.formulas.specs.Instantiation.{Instantiation, InImage, HasImage, HasO
 use Rattle.principal.specs.Principal.{Typing}
 use Rattle.refusal.specs.declared.Refusal.{Refusal}
 use Rattle.refusal.specs.Number.{numberOf}
-use Rattle.expression.specs.declared.files.Acceptance.the-variants.{Accepted}
+use Rattle.expression.specs.declared.files.Acceptance.{Acceptance}
+use Rattle.expression.specs.declared.files.Acceptance.the-variants.{Accepted, Refused as FileRefused}
 use Rattle.expression.specs.ReadFile.{acceptance}
 use Rattle.expression.specs.Accepted.{accepted-file}
-use Rattle.expression.specs.Admission.{asked, sliced}
+use Rattle.expression.specs.Admission.{after, sliced}
 use Rattle.expression.specs.AdmissionLaws.{sliced-passed, sliced-refused}
 use Rattle.expression.specs.Record.{recordOf}
 use Rattle.expression.specs.RecordLaws.{record-empty}
 use Rattle.formula.specs.Expressions.{expressionAt, expression-legal}
 use Rattle.formula.specs.Stored.{formulasOf, admitted, formulaSpace}
-use Rattle.formula.specs.StoredLaws.{answer-filled, space-filled, spaced-refused, admitted-space}
+use Rattle.formula.specs.StoredLaws.{answer-filled, space-filled, admitted-refused, admitted-space}
 use Rattle.verdict.specs.StoredFormula as Stored
 use Rattle.verdict.specs.StoredFormula.{formulaIn}
 use Rattle.verdict.specs.Judged.{Witness, blocked-untypable, witness-typed}
-use Rattle.verdict.specs.Lowest.{lowestOf, blockedOf}
-use Rattle.verdict.specs.Verdict.{witnessOf, witnessBytes, judgement, verdictAnswer, verdictSpace, verdictSchema}
+use Rattle.verdict.specs.Lowest.{lowestOf, blockedBy, blockedOf}
+use Rattle.verdict.specs.Verdict.{witnessOf, witnessBytes, judged, judgement, verdictAnswer, verdictSpace, verdictSchema}
 use Rattle.verdict.specs.VerdictLaws.{judged-untypable, judged-typable, verdict-stops, verdict-passes}
+use Rattle.verdict.specs.declared.operation.Outcome.{Outcome}
 use Rattle.verdict.specs.declared.operation.Outcome.the-variants.{Typable, Untypable, Refused}
 
 -- node k of an accepted file with m relations and n nodes
@@ -64,10 +68,6 @@ module _ (file : List ℕ) (m n : ℕ) (accepted : acceptance file ≡ Accepted 
     -- the judgement on the node's expression
     answer : verdictAnswer file k (length work) (length schema) ≡ judgement m (lowestOf m (expressionAt file k))
     answer = sym (verdict-passes file k work schema m n goes .0)
-
-    -- it leaves the work space as Formula does
-    pub verdict-space : verdictSpace file k work (length schema) ≡ formulaSpace file work
-    verdict-space = sym (verdict-passes file k work schema m n goes .1 .0) ∙ admitted-space file k work m n (sliced-passed (admitted file k (length work)) (length schema) 4104 goes .0)
 
     blocked-said : (a : ℕ) → verdictAnswer file k (length work) (length schema) ≡ Untypable a → blockedOf m (expressionAt file k) < 16
     unfolding blockedOf
@@ -101,11 +101,35 @@ module _ (file : List ℕ) (m n : ℕ) (accepted : acceptance file ≡ Accepted 
             rw (size-is, written, take-over (witnessBytes m (lowestOf m (expressionAt file k))) schema)
             (witness-typed m few (expressionAt file k) (expression-legal file m n accepted k node) (omega arith))
 
+-- ---- the work space after Verdict, whatever it answers: the formulas, as Formula leaves them, unless it refuses
+
+abbrev pub verdictFills : Outcome → Bool
+verdictFills (Typable size) = true
+verdictFills (Untypable a) = true
+verdictFills (Refused r) = false
+
+judged-fills : (m : ℕ) (lowest : ℕ → ℕ) → verdictFills (judgement m lowest) ≡ true
+unfolding judgement
+judged-fills m lowest = go (ltb (blockedBy lowest) 16)
+  where
+    go : (t : Bool) → verdictFills (judged t (blockedBy lowest) (witnessBytes m lowest)) ≡ true
+    go true = refl
+    go false = refl
+
+pub verdict-space : (file : List ℕ) (k : ℕ) (work : List ℕ) (size : ℕ) → verdictSpace file k work size ≡ cond (verdictFills (verdictAnswer file k (length work) size)) (formulaSpace file work) work
+unfolding verdictSpace verdictAnswer
+verdict-space file k work size = go (sliced (admitted file k (length work)) size 4104) refl
+  where
+    go : (a : Acceptance) → sliced (admitted file k (length work)) size 4104 ≡ a → after a (λ r. work) (λ m n. over (formulasOf file m n) work) ≡ cond (verdictFills (after a Refused (λ m n. judgement m (lowestOf m (expressionAt file k))))) (formulaSpace file work) work
+    go (FileRefused r) is = refl
+    go (Accepted m n) is =
+        admitted-space file k work m n (sliced-passed (admitted file k (length work)) size 4104 is .0)
+        ∙ sym (ap (λ (t : Bool). cond t (formulaSpace file work) work) (judged-fills m (lowestOf m (expressionAt file k))))
+
 -- ---- Record: where it is empty, Verdict gives the number of the refusal, whatever its slices are
 
 pub record-number : (file : List ℕ) (k : ℕ) → recordOf file k ≡ [] → (work schema : List ℕ) → (r : Refusal) × (verdictAnswer file k (length work) (length schema) ≡ Refused r) × (numberOf r ≤ 11)
-unfolding admitted
 record-number file k empty work schema =
     let found = record-empty file k empty in
-    let refused = sliced-refused (admitted file k (length work)) (length schema) 4104 (spaced-refused (asked file k) (length work) (found .1)) in
+    let refused = sliced-refused (admitted file k (length work)) (length schema) 4104 (admitted-refused file k (length work) (found .1)) in
     (found .0, sym (verdict-stops file k work schema (found .0) refused .0), found .2)

@@ -1,5 +1,5 @@
 use mathlib.Core.Path.{sym, ap, _∙_}
-use Rattle.exports.specs.Numbers.{acceptanceNumber}
+use Rattle.expression.specs.Numbers.{acceptanceNumber}
 use borrow.Author.Needs.{needs}
 use Rattle.exports.proofs.formulas.type_formula_formula.Statement.{statement}
 use Rattle.exports.proofs.formulas.type_formula_formula.Tie as tie
@@ -20,14 +20,12 @@ same-length : tie.Need-same-length
 same-length c = search needs
 
 returns : tie.Need-returns
-unfolding acceptanceNumber
 returns c = (ap acceptanceNumber (sym (c .enum-told .given .1) ∙ c .before .before .before .before .formula .ensures .0), c .before .before .before .before .formula .ensures .1)
 
 same-length-2 : tie.Need-same-length-2
 same-length-2 c = search needs
 
 returns-2 : tie.Need-returns-2
-unfolding acceptanceNumber
 returns-2 c = (c .number .ensures ∙ ap acceptanceNumber (sym (c .before .before .r .given .1) ∙ c .before .before .before .before .before .before .formula .ensures .0), c .before .before .before .before .before .before .formula .ensures .1)
 
 pub type-formula-formula-spec : {M : Type 1} → statement M

@@ -1,6 +1,6 @@
 use mathlib.Core.Path.{sym, ap, _∙_}
 use Rattle.verdict.specs.declared.operation.Outcome.{Outcome}
-use Rattle.exports.specs.Verdicts.{outcomeNumber, outcomeValue}
+use Rattle.verdict.specs.Numbers.{outcomeNumber, outcomeValue}
 use borrow.Author.Needs.{needs}
 use Rattle.exports.proofs.formulas.type_formula_verdict.Statement.{statement}
 use Rattle.exports.proofs.formulas.type_formula_verdict.Tie as tie
@@ -30,7 +30,6 @@ same-length-2 : tie.Need-same-length-2
 same-length-2 c = search needs
 
 returns : tie.Need-returns
-unfolding outcomeNumber outcomeValue
 returns c =
     let e = sym (c .before .size .given .1) ∙ c .before .before .before .before .before .before .before .verdict .ensures .0 in
     (ap outcomeNumber e, (c .before .before .before .before .before .before .before .verdict .ensures .1 .0, (c .before .before .before .before .before .before .before .verdict .ensures .1 .1, ap (λ (o : Outcome). outcomeValue o (c .before .before .before .before .before .before .before .before .before .before .before .before .before .args .value .now)) e)))
@@ -42,7 +41,6 @@ same-length-4 : tie.Need-same-length-4
 same-length-4 c = search needs
 
 returns-2 : tie.Need-returns-2
-unfolding outcomeNumber outcomeValue
 returns-2 c =
     let e = sym (c .before .a .given .1) ∙ c .before .before .before .before .before .before .before .verdict .ensures .0 in
     (ap outcomeNumber e, (c .before .before .before .before .before .before .before .verdict .ensures .1 .0, (c .before .before .before .before .before .before .before .verdict .ensures .1 .1, ap (λ (o : Outcome). outcomeValue o (c .before .before .before .before .before .before .before .before .before .before .before .before .before .args .value .now)) e)))
@@ -54,7 +52,6 @@ same-length-6 : tie.Need-same-length-6
 same-length-6 c = search needs
 
 returns-3 : tie.Need-returns-3
-unfolding outcomeNumber outcomeValue
 returns-3 c =
     let e = sym (c .before .before .r .given .1) ∙ c .before .before .before .before .before .before .before .before .verdict .ensures .0 in
     (c .number .ensures ∙ ap outcomeNumber e, (c .before .before .before .before .before .before .before .before .verdict .ensures .1 .0, (c .before .before .before .before .before .before .before .before .verdict .ensures .1 .1, ap (λ (o : Outcome). outcomeValue o (c .before .before .before .before .before .before .before .before .before .before .before .before .before .before .args .value .now)) e)))

@@ -1,6 +1,6 @@
 use mathlib.Core.Path.{sym, ap, _∙_}
 use Rattle.application.specs.declared.applying.Application.{Application}
-use Rattle.exports.specs.Instantiations.{applicationNumber, applicationSchema, applicationOutput}
+use Rattle.application.specs.Numbers.{applicationNumber, applicationSchema, applicationOutput}
 use borrow.Author.Needs.{needs}
 use Rattle.exports.proofs.instantiations.type_formula_apply.Statement.{statement}
 use Rattle.exports.proofs.instantiations.type_formula_apply.Tie as tie
@@ -27,7 +27,6 @@ same-length-3 : tie.Need-same-length-3
 same-length-3 c = search needs
 
 returns : tie.Need-returns
-unfolding applicationNumber applicationSchema applicationOutput
 returns c = let e = sym (c .before .s .given .1) ∙ c .before .before .before .before .before .before .before .before .before .apply .ensures .0 in (ap applicationNumber e, (c .before .before .before .before .before .before .before .before .before .apply .ensures .1 .0, (c .before .before .before .before .before .before .before .before .before .apply .ensures .1 .1 .0, (c .before .before .before .before .before .before .before .before .before .apply .ensures .1 .1 .1, (ap (λ (o : Application). applicationSchema o (c .before .before .before .before .before .before .before .before .before .before .before .before .before .before .before .before .before .before .args .size .now)) e, ap (λ (o : Application). applicationOutput o (c .before .before .before .before .before .before .before .before .before .before .before .before .before .before .before .before .before .before .args .width .now)) e)))))
 
 same-length-4 : tie.Need-same-length-4
@@ -40,7 +39,6 @@ same-length-6 : tie.Need-same-length-6
 same-length-6 c = search needs
 
 returns-2 : tie.Need-returns-2
-unfolding applicationNumber applicationSchema applicationOutput
 returns-2 c = let e = sym (c .before .before .r .given .1) ∙ c .before .before .before .before .before .before .before .before .before .before .apply .ensures .0 in (c .number .ensures ∙ ap applicationNumber e, (c .before .before .before .before .before .before .before .before .before .before .apply .ensures .1 .0, (c .before .before .before .before .before .before .before .before .before .before .apply .ensures .1 .1 .0, (c .before .before .before .before .before .before .before .before .before .before .apply .ensures .1 .1 .1, (ap (λ (o : Application). applicationSchema o (c .before .before .before .before .before .before .before .before .before .before .before .before .before .before .before .before .before .before .before .args .size .now)) e, ap (λ (o : Application). applicationOutput o (c .before .before .before .before .before .before .before .before .before .before .before .before .before .before .before .before .before .before .before .args .width .now)) e)))))
 
 pub type-formula-apply-spec : {M : Type 1} → statement M

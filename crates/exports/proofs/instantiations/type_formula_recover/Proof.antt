@@ -1,6 +1,6 @@
 use mathlib.Core.Path.{sym, ap, _∙_}
 use Rattle.application.specs.declared.recovering.Recovery.{Recovery}
-use Rattle.exports.specs.Instantiations.{recoveryNumber, recoveryValue}
+use Rattle.application.specs.Numbers.{recoveryNumber, recoveryValue}
 use borrow.Author.Needs.{needs}
 use Rattle.exports.proofs.instantiations.type_formula_recover.Statement.{statement}
 use Rattle.exports.proofs.instantiations.type_formula_recover.Tie as tie
@@ -27,7 +27,6 @@ same-length-2 : tie.Need-same-length-2
 same-length-2 c = search needs
 
 returns : tie.Need-returns
-unfolding recoveryNumber recoveryValue
 returns c = let e = sym (c .before .size .given .1) ∙ c .before .before .before .before .before .before .before .recover .ensures .0 in (ap recoveryNumber e, (c .before .before .before .before .before .before .before .recover .ensures .1 .0, (c .before .before .before .before .before .before .before .recover .ensures .1 .1, ap (λ (o : Recovery). recoveryValue o (c .before .before .before .before .before .before .before .before .before .before .before .before .before .before .args .value .now)) e)))
 
 same-length-3 : tie.Need-same-length-3
@@ -37,7 +36,6 @@ same-length-4 : tie.Need-same-length-4
 same-length-4 c = search needs
 
 returns-2 : tie.Need-returns-2
-unfolding recoveryNumber recoveryValue
 returns-2 c = let e = sym (c .enum-told .given .1) ∙ c .before .before .before .before .before .before .recover .ensures .0 in (ap recoveryNumber e, (c .before .before .before .before .before .before .recover .ensures .1 .0, (c .before .before .before .before .before .before .recover .ensures .1 .1, ap (λ (o : Recovery). recoveryValue o (c .before .before .before .before .before .before .before .before .before .before .before .before .before .args .value .now)) e)))
 
 same-length-5 : tie.Need-same-length-5
@@ -47,7 +45,6 @@ same-length-6 : tie.Need-same-length-6
 same-length-6 c = search needs
 
 returns-3 : tie.Need-returns-3
-unfolding recoveryNumber recoveryValue
 returns-3 c = let e = sym (c .before .before .r .given .1) ∙ c .before .before .before .before .before .before .before .before .recover .ensures .0 in (c .number .ensures ∙ ap recoveryNumber e, (c .before .before .before .before .before .before .before .before .recover .ensures .1 .0, (c .before .before .before .before .before .before .before .before .recover .ensures .1 .1, ap (λ (o : Recovery). recoveryValue o (c .before .before .before .before .before .before .before .before .before .before .before .before .before .before .before .args .value .now)) e)))
 
 pub type-formula-recover-spec : {M : Type 1} → statement M

@@ -1,6 +1,6 @@
 use mathlib.Core.Path.{sym, ap, _∙_}
 use Rattle.typing.specs.declared.operation.Answer.{Answer}
-use Rattle.exports.specs.Schemas.{answerNumber, answerValue}
+use Rattle.typing.specs.Numbers.{answerNumber, answerValue}
 use borrow.Author.Needs.{needs}
 use Rattle.exports.proofs.schemas.type_formula_typing.Statement.{statement}
 use Rattle.exports.proofs.schemas.type_formula_typing.Tie as tie
@@ -24,21 +24,18 @@ same-length : tie.Need-same-length
 same-length c = search needs
 
 returns : tie.Need-returns
-unfolding answerNumber answerValue
 returns c = let e = sym (c .before .size .given .1) ∙ c .before .before .before .before .before .typing .ensures .0 in (ap answerNumber e, (c .before .before .before .before .before .typing .ensures .1, ap (λ (o : Answer). answerValue o (c .before .before .before .before .before .before .before .before .before .before .args .value .now)) e))
 
 same-length-2 : tie.Need-same-length-2
 same-length-2 c = search needs
 
 returns-2 : tie.Need-returns-2
-unfolding answerNumber answerValue
 returns-2 c = let e = sym (c .enum-told .given .1) ∙ c .before .before .before .before .typing .ensures .0 in (ap answerNumber e, (c .before .before .before .before .typing .ensures .1, ap (λ (o : Answer). answerValue o (c .before .before .before .before .before .before .before .before .before .args .value .now)) e))
 
 same-length-3 : tie.Need-same-length-3
 same-length-3 c = search needs
 
 returns-3 : tie.Need-returns-3
-unfolding answerNumber answerValue
 returns-3 c = let e = sym (c .before .before .r .given .1) ∙ c .before .before .before .before .before .before .typing .ensures .0 in (c .number .ensures ∙ ap answerNumber e, (c .before .before .before .before .before .before .typing .ensures .1, ap (λ (o : Answer). answerValue o (c .before .before .before .before .before .before .before .before .before .before .before .args .value .now)) e))
 
 pub type-formula-typing-spec : {M : Type 1} → statement M

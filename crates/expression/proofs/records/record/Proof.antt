@@ -1,5 +1,5 @@
-use Prim.Native.Nat.{ℕ}
-use mathlib.Core.Path.{sym, ap, _∙_}
+use Prim.Native.Nat.{ℕ, _+_}
+use mathlib.Core.Path.{_≡_, sym, ap, _∙_}
 use native.Mathlib.Nat.{add-sub-cancel-left}
 use native.Mathlib.Omega.{arith}
 use lib.ListN.{take, drop}
@@ -30,9 +30,12 @@ part-result-end c =
 returns : tie.Need-returns
 returns c =
     let place = c .before .before .locate .result in
-    let part = rw (← c .before .before .locate .ensures) at (record-part (c .before .before .before .before .args .file .now) (c .before .before .before .before .args .node)) in
-    ap (λ (n : ℕ). take n (drop (place .start) (c .before .before .before .before .args .file .now))) (add-sub-cancel-left (place .start) (place .len))
-    ∙ sym part
+    let part = rw (← c .before .before .locate .ensures) at (record-part (c .before .before .before .before .args .file .now) (c .before .before .before .before .args .node)) in (
+      ap (λ (n : ℕ). take n (drop (place .start) (c .before .before .before .before .args .file .now))) (add-sub-cancel-left (place .start) (place .len))
+          ∙ sym part,
+      let far : place .start + c .before .before .before .before .args .file .ptr .1 ≡ c .before .before .before .before .args .file .ptr .1 + place .start = omega arith in
+          rw (← c .before .before .locate .ensures) (ap (λ (offset : ℕ). (c .before .before .before .before .args .file .ptr .0, offset)) far),
+    )
 
 pub record-spec : {M : Type 1} → statement M
 record-spec =

@@ -21,10 +21,19 @@ lowest-allowed-requires : tie.Need-lowest-allowed-requires Inv-loop μ-loop
 lowest-allowed-requires c κs = search needs
 
 returns : tie.Need-returns Inv-loop μ-loop
-returns c = let found = lowest-found (c .before .before .before .before .before .before .args .work .now) _ (c .before .before .before .before .before .before .args .node) (c .before .before .before .before .loop .i) _ (c .before .before .read-column .ensures) (c .before .lowest-allowed .ensures) in choose-blocked (c .before .before .before .before .before .before .args .work .now) (c .before .before .before .before .before .before .args .node) (c .before .before .before .before .loop .i) (c .before .before .before .before .loop .chosen) (c .before .before .before .before .loop .inv) _ (c .before .before .before .loop-test .taken) found (c .if1 .taken)
+returns c =
+    let args = c .before .before .before .before .before .before .args in
+    let loop = c .before .before .before .before .loop in
+    let found = lowest-found (args .work .now) _ (args .node) (loop .i) _ (c .before .before .read-column .ensures) (c .before .lowest-allowed .ensures) in
+    choose-blocked (args .work .now) (args .node) (loop .i) (loop .chosen) (loop .inv) _ (c .before .before .before .loop-test .taken) found (c .if1 .taken)
 
 cast-chosen : tie.Need-cast-chosen Inv-loop μ-loop
-cast-chosen c = let found = lowest-found (c .before .before .before .before .before .before .args .work .now) _ (c .before .before .before .before .before .before .args .node) (c .before .before .before .before .loop .i) _ (c .before .before .read-column .ensures) (c .before .lowest-allowed .ensures) in let small = choose-small (c .before .before .before .before .before .before .args .work .now) (c .before .before .before .before .before .before .args .node) (c .before .before .before .before .loop .i) (c .before .before .before .before .loop .chosen) (c .before .before .before .before .loop .inv) _ (c .before .before .before .loop-test .taken) found (c .if1 .left) in omega arith
+cast-chosen c =
+    let args = c .before .before .before .before .before .before .args in
+    let loop = c .before .before .before .before .loop in
+    let found = lowest-found (args .work .now) _ (args .node) (loop .i) _ (c .before .before .read-column .ensures) (c .before .lowest-allowed .ensures) in
+    let small = choose-small (args .work .now) (args .node) (loop .i) (loop .chosen) (loop .inv) _ (c .before .before .before .loop-test .taken) found (c .if1 .left) in
+    omega arith
 
 cast-chosen-2 : tie.Need-cast-chosen-2 Inv-loop μ-loop
 cast-chosen-2 c = search needs
@@ -39,7 +48,11 @@ loop-less : tie.Need-loop-less Inv-loop μ-loop
 loop-less c = search needs
 
 loop-again : tie.Need-loop-again Inv-loop μ-loop
-loop-again c = let found = lowest-found (c .before .before .before .before .before .before .args .work .now) _ (c .before .before .before .before .before .before .args .node) (c .before .before .before .before .loop .i) _ (c .before .before .read-column .ensures) (c .before .lowest-allowed .ensures) in choose-next (c .before .before .before .before .before .before .args .work .now) (c .before .before .before .before .before .before .args .node) (c .before .before .before .before .loop .i) (c .before .before .before .before .loop .chosen) (c .before .before .before .before .loop .inv) _ (c .before .before .before .loop-test .taken) found (c .if1 .left)
+loop-again c =
+    let args = c .before .before .before .before .before .before .args in
+    let loop = c .before .before .before .before .loop in
+    let found = lowest-found (args .work .now) _ (args .node) (loop .i) _ (c .before .before .read-column .ensures) (c .before .lowest-allowed .ensures) in
+    choose-next (args .work .now) (args .node) (loop .i) (loop .chosen) (loop .inv) _ (c .before .before .before .loop-test .taken) found (c .if1 .left)
 
 returns-2 : tie.Need-returns-2 Inv-loop μ-loop
 returns-2 c = choose-ended (c .before .before .before .args .work .now) (c .before .before .before .args .node) (c .before .loop .i) (c .before .loop .chosen) (c .before .loop .inv) (c .loop-test .left)

@@ -7,19 +7,26 @@ lowest-subsets-requires : tie.Need-lowest-subsets-requires
 lowest-subsets-requires c κs = search needs
 
 returns : tie.Need-returns
-returns c = judge-untypable (c .before .before .before .before .before .args .work .now) (c .before .before .before .before .before .args .m) (c .before .before .before .before .before .args .node) (c .before .before .before .before .before .args .schema .now) _ (c .before .before .lowest-subsets .ensures) (c .if1 .taken)
+returns c =
+    let args = c .before .before .before .before .before .args in
+    judge-untypable (args .work .now) (args .m) (args .node) (args .schema .now) _ (c .before .before .lowest-subsets .ensures) (c .if1 .taken)
 
 slice-aggregate-write-witness : tie.Need-slice-aggregate-write-witness
 slice-aggregate-write-witness c = search needs
 
 write-witness-requires : tie.Need-write-witness-requires
-write-witness-requires c κs = (c .before .before .before .before .before .before .before .before .pre .0, judge-writes (c .before .before .before .before .before .before .before .before .args .work .now) (c .before .before .before .before .before .before .before .before .args .m) (c .before .before .before .before .before .before .before .before .args .node) (c .before .before .before .before .before .before .before .before .args .schema .now) _ (c .before .before .before .before .before .lowest-subsets .ensures))
+write-witness-requires c κs =
+    let args = c .before .before .before .before .before .before .before .before .args in
+    (c .before .before .before .before .before .before .before .before .pre .0, judge-writes (args .work .now) (args .m) (args .node) (args .schema .now) _ (c .before .before .before .before .before .lowest-subsets .ensures))
 
 same-length : tie.Need-same-length
 same-length c = search needs
 
 returns-2 : tie.Need-returns-2
-returns-2 c = judge-typable (c .before .before .before .before .before .before .before .before .before .before .before .args .work .now) (c .before .before .before .before .before .before .before .before .before .before .before .args .m) (c .before .before .before .before .before .before .before .before .before .before .before .args .node) (c .before .before .before .before .before .before .before .before .before .before .before .args .schema .now) _ (c .before .before .before .before .before .before .before .before .lowest-subsets .ensures) _ _ (c .before .before .before .before .before .before .if1 .left) (c .before .before .write-witness .ensures .0) (c .before .before .write-witness .ensures .1)
+returns-2 c =
+    let args = c .before .before .before .before .before .before .before .before .before .before .before .args in
+    let found = c .before .before .before .before .before .before .before .before .lowest-subsets .ensures in
+    judge-typable (args .work .now) (args .m) (args .node) (args .schema .now) _ found _ _ (c .before .before .before .before .before .before .if1 .left) (c .before .before .write-witness .ensures .0) (c .before .before .write-witness .ensures .1)
 
 pub judge-spec : {M : Type 1} → statement M
 judge-spec =

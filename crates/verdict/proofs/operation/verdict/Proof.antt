@@ -19,19 +19,39 @@ enum-known-m : tie.Need-enum-known-m
 enum-known-m c = search needs
 
 returns : tie.Need-returns
-returns c = verdict-stops (c .before .before .before .before .before .before .before .before .args .file .now) (c .before .before .before .before .before .before .before .before .args .node) (c .before .before .before .before .before .before .before .before .args .work .now) (c .before .before .before .before .before .before .before .before .args .schema .now) _ (sliced-stops _ _ 4104 (sym (c .before .before .before .before .admit .ensures) ∙ c .before .before .m .given .1) (c .if1 .taken))
+returns c =
+    let args = c .before .before .before .before .before .before .before .before .args in
+    verdict-stops (args .file .now) (args .node) (args .work .now) (args .schema .now) _ (sliced-stops _ _ 4104 (sym (c .before .before .before .before .admit .ensures) ∙ c .before .before .m .given .1) (c .if1 .taken))
 
 fill-requires : tie.Need-fill-requires
-fill-requires c κs = let admits = admitted-passed (c .before .before .before .before .before .before .before .before .before .args .file .now) (c .before .before .before .before .before .before .before .before .before .args .node) (length (c .before .before .before .before .before .before .before .before .before .args .work .now)) (sym (c .before .before .before .before .before .admit .ensures) ∙ c .before .before .before .m .given .1) in (admits .accepted, admits .workSpace)
+fill-requires c κs =
+    let args = c .before .before .before .before .before .before .before .before .before .args in
+    let admits = admitted-passed (args .file .now) (args .node) (length (args .work .now)) (sym (c .before .before .before .before .before .admit .ensures) ∙ c .before .before .before .m .given .1) in
+    (admits .accepted, admits .workSpace)
 
 cast-judge : tie.Need-cast-judge
-cast-judge c = let admits = admitted-passed (c .before .before .before .before .before .before .before .before .before .before .before .before .before .args .file .now) (c .before .before .before .before .before .before .before .before .before .before .before .before .before .args .node) (length (c .before .before .before .before .before .before .before .before .before .before .before .before .before .args .work .now)) (sym (c .before .before .before .before .before .before .before .before .before .admit .ensures) ∙ c .before .before .before .before .before .before .before .m .given .1) in let most = accepted-file (c .before .before .before .before .before .before .before .before .before .before .before .before .before .args .file .now) _ _ (admits .accepted) .counts .nodes .1 in let node = admits .node in omega arith
+cast-judge c =
+    let args = c .before .before .before .before .before .before .before .before .before .before .before .before .before .args in
+    let admits = admitted-passed (args .file .now) (args .node) (length (args .work .now)) (sym (c .before .before .before .before .before .before .before .before .before .admit .ensures) ∙ c .before .before .before .before .before .before .before .m .given .1) in
+    let most = accepted-file (args .file .now) _ _ (admits .accepted) .counts .nodes .1 in
+    let node = admits .node in
+    omega arith
 
 judge-requires : tie.Need-judge-requires
-judge-requires c κs = let admits = admitted-passed (c .before .before .before .before .before .before .before .before .before .before .before .before .before .before .args .file .now) (c .before .before .before .before .before .before .before .before .before .before .before .before .before .before .args .node) (length (c .before .before .before .before .before .before .before .before .before .before .before .before .before .before .args .work .now)) (sym (c .before .before .before .before .before .before .before .before .before .before .admit .ensures) ∙ c .before .before .before .before .before .before .before .before .m .given .1) in let most = accepted-file (c .before .before .before .before .before .before .before .before .before .before .before .before .before .before .args .file .now) _ _ (admits .accepted) .counts .relations .1 in let same = c .before .before .before .before .fill .kept .1 .1 .1 .0 in let node = admits .node in let space = admits .workSpace in let slice = c .before .before .before .before .before .before .if1 .left in ((most, omega arith), omega arith)
+judge-requires c κs =
+    let args = c .before .before .before .before .before .before .before .before .before .before .before .before .before .before .args in
+    let admits = admitted-passed (args .file .now) (args .node) (length (args .work .now)) (sym (c .before .before .before .before .before .before .before .before .before .before .admit .ensures) ∙ c .before .before .before .before .before .before .before .before .m .given .1) in
+    let most = accepted-file (args .file .now) _ _ (admits .accepted) .counts .relations .1 in
+    let same = c .before .before .before .before .fill .kept .1 .1 .1 .0 in
+    let node = admits .node in
+    let space = admits .workSpace in
+    let slice = c .before .before .before .before .before .before .if1 .left in
+    ((most, omega arith), omega arith)
 
 returns-2 : tie.Need-returns-2
-returns-2 c = verdict-stops (c .before .before .before .before .before .before .before .args .file .now) (c .before .before .before .before .before .before .before .args .node) (c .before .before .before .before .before .before .before .args .work .now) (c .before .before .before .before .before .before .before .args .schema .now) _ (sliced-refused _ _ 4104 (sym (c .before .before .before .admit .ensures) ∙ c .before .r .given .1))
+returns-2 c =
+    let args = c .before .before .before .before .before .before .before .args in
+    verdict-stops (args .file .now) (args .node) (args .work .now) (args .schema .now) _ (sliced-refused _ _ 4104 (sym (c .before .before .before .admit .ensures) ∙ c .before .r .given .1))
 
 same-length : tie.Need-same-length
 same-length c = search needs
@@ -40,7 +60,10 @@ same-length-2 : tie.Need-same-length-2
 same-length-2 c = search needs
 
 returns-3 : tie.Need-returns-3
-returns-3 c = verdict-goes (c .before .before .before .before .before .before .before .before .before .before .before .before .before .before .before .before .before .args .file .now) (c .before .before .before .before .before .before .before .before .before .before .before .before .before .before .before .before .before .args .node) (c .before .before .before .before .before .before .before .before .before .before .before .before .before .before .before .before .before .args .work .now) (c .before .before .before .before .before .before .before .before .before .before .before .before .before .before .before .before .before .args .schema .now) _ _ _ _ _ (sliced-passes _ _ 4104 (sym (c .before .before .before .before .before .before .before .before .before .before .before .before .before .admit .ensures) ∙ c .before .before .before .before .before .before .before .before .before .before .before .m .given .1) (c .before .before .before .before .before .before .before .before .before .if1 .left)) (c .before .before .before .before .before .before .before .fill .ensures) (c .before .before .judge .ensures .0) (c .before .before .judge .ensures .1)
+returns-3 c =
+    let args = c .before .before .before .before .before .before .before .before .before .before .before .before .before .before .before .before .before .args in
+    let goes = sliced-passes _ _ 4104 (sym (c .before .before .before .before .before .before .before .before .before .before .before .before .before .admit .ensures) ∙ c .before .before .before .before .before .before .before .before .before .before .before .m .given .1) (c .before .before .before .before .before .before .before .before .before .if1 .left) in
+    verdict-goes (args .file .now) (args .node) (args .work .now) (args .schema .now) _ _ _ _ _ goes (c .before .before .before .before .before .before .before .fill .ensures) (c .before .before .judge .ensures .0) (c .before .before .judge .ensures .1)
 
 pub verdict-spec : {M : Type 1} → statement M
 verdict-spec =

@@ -16,7 +16,9 @@ slice-aggregate-write-schema-2 : tie.Need-slice-aggregate-write-schema-2
 slice-aggregate-write-schema-2 c = search needs
 
 write-schema-requires : tie.Need-write-schema-requires
-write-schema-requires c κs = (c .before .before .before .before .before .before .before .before .pre .0 .0, (witness-from (c .before .before .before .before .before .before .before .before .args .subsets .now) _ _ (c .before .before .before .before .before .maps-from .ensures) (c .before .before .before .before .before .before .before .before .pre .1 .1) (c .before .before .before .before .no-entries .ensures), c .before .before .before .before .before .before .before .before .pre .0 .1))
+write-schema-requires c κs =
+    let pre = c .before .before .before .before .before .before .before .before .pre in
+    (pre .0 .0, (witness-from (c .before .before .before .before .before .before .before .before .args .subsets .now) _ _ (c .before .before .before .before .before .maps-from .ensures) (pre .1 .1) (c .before .before .before .before .no-entries .ensures), pre .0 .1))
 
 same-length : tie.Need-same-length
 same-length c = search needs

@@ -1,33 +1,33 @@
--- The answers of Apply and Recover as numbers.
+-- What the answers of Apply and Recover are in numbers: document 01's number and values for each case.
 use Prim.Native.Nat.{ℕ}
 use Rattle.refusal.specs.Number.{numberOf}
 use Rattle.application.specs.declared.applying.Application.{Application}
 use Rattle.application.specs.declared.applying.Application.the-variants.{Applied, Refused}
 use Rattle.application.specs.declared.recovering.Recovery.{Recovery}
 use Rattle.application.specs.declared.recovering.Recovery.the-variants.{Recovered, Untyped, Refused as RecoveryRefused}
 
 -- Apply: 0, or the refusal's number
-unfoldable pub applicationNumber : Application → ℕ
+abbrev pub applicationNumber : Application → ℕ
 applicationNumber (Applied size length) = 0
 applicationNumber (Refused r) = numberOf r
 
 -- the schema's length, and the output record's; after a refusal what stood there
-unfoldable pub applicationSchema : Application → ℕ → ℕ
+abbrev pub applicationSchema : Application → ℕ → ℕ
 applicationSchema (Applied size length) old = size
 applicationSchema (Refused r) old = old
 
-unfoldable pub applicationOutput : Application → ℕ → ℕ
+abbrev pub applicationOutput : Application → ℕ → ℕ
 applicationOutput (Applied size length) old = length
 applicationOutput (Refused r) old = old
 
 -- Recover: 0, 255 for untyped, or the refusal's number
-unfoldable pub recoveryNumber : Recovery → ℕ
+abbrev pub recoveryNumber : Recovery → ℕ
 recoveryNumber (Recovered size) = 0
 recoveryNumber Untyped = 255
 recoveryNumber (RecoveryRefused r) = numberOf r
 
 -- the instantiation's length; else what stood there
-unfoldable pub recoveryValue : Recovery → ℕ → ℕ
+abbrev pub recoveryValue : Recovery → ℕ → ℕ
 recoveryValue (Recovered size) old = size
 recoveryValue Untyped old = old
 recoveryValue (RecoveryRefused r) old = old

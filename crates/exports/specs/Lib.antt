@@ -1,4 +1,0 @@
-pub mod Numbers
-pub mod Verdicts
-pub mod Schemas
-pub mod Instantiations
