@@ -27,6 +27,6 @@ module _ (file : List ℕ) (k : ℕ) (work schema : List ℕ) (size : ℕ) (said
       let found = verdict-unrefused file k work schema (λ r refused. let both = sym said ∙ refused in let z : _≡_ {A = ℕ} 0 1 = cc in omega arith) in
       let goes = found .1 .1 in
       let admits = admitted-passed file k (length work) (sliced-passed (admitted file k (length work)) (length schema) 4104 goes .0) in
-      let witness = verdict-witness file (found .0) (found .1 .0) (admits .accepted) k (admits .node) work schema goes size said in
+      let witness = verdict-witness file (found .0) (found .1 .0) (admits .accepted) k (admits .node) work schema size said in
       let rules = typing-typed file k written out (found .0) (found .1 .0) (witness .records) (record { accepted = admits .accepted; node = admits .node; slice = slice; bytes = witness .below; read = witness .reading .read; few = witness .reading .few }) (witness .type) in
       (witness .type, rules .0 (witness .typed))

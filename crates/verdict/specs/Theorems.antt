@@ -4,7 +4,6 @@
 --   Instantiation, HasImage, HasOutput   instantiations, image and output   (crate formulas, Instantiation)
 --   expressionAt     the expression of a node                               (crate formula, Expressions)
 --   formulaIn        the formula that stands in a work space                (StoredFormula)
---   admitted, sliced   refusals 1 to 12, and 13                             (crate formula, Stored; crate expression, Admission)
 --   Witness          bytes that are a schema which types an expression      (Judged)
 --   formulaSpace, verdictAnswer, verdictSpace, verdictSchema   what the operations leave, by their contracts (crate formula, Stored; Verdict)
 use Prim.Native.Nat.{ℕ, _*_, _≤_, _<_}
@@ -18,6 +17,7 @@ use lib.Dec.{ltb}
 use lib.ListN.{length, take}
 use Rattle.bits.specs.Tab.{over, take-over}
 use Rattle.types.specs.Types.{Attrs, IsType, Assignment, IsAssignment}
+use Rattle.algebra.specs.Expression.{Legal}
 use Rattle.algebra.specs.Rules.{Typed}
 use Rattle.formulas.specs.Instantiation.{Instantiation, InImage, HasImage, HasOutput}
 use Rattle.principal.specs.Principal.{Typing}
@@ -33,13 +33,13 @@ use Rattle.expression.specs.Record.{recordOf}
 use Rattle.expression.specs.RecordLaws.{record-empty}
 use Rattle.formula.specs.Expressions.{expressionAt, expression-legal}
 use Rattle.formula.specs.Stored.{formulasOf, admitted, formulaSpace}
-use Rattle.formula.specs.StoredLaws.{answer-filled, space-filled, admitted-refused, admitted-space}
+use Rattle.formula.specs.StoredLaws.{answer-filled, space-filled, admitted-passed, admitted-refused, admitted-space}
 use Rattle.verdict.specs.StoredFormula as Stored
 use Rattle.verdict.specs.StoredFormula.{formulaIn}
 use Rattle.verdict.specs.Judged.{Witness, blocked-untypable, witness-typed}
 use Rattle.verdict.specs.Lowest.{lowestOf, blockedBy, blockedOf}
-use Rattle.verdict.specs.Verdict.{witnessOf, witnessBytes, judged, judgement, verdictAnswer, verdictSpace, verdictSchema}
-use Rattle.verdict.specs.VerdictLaws.{judged-untypable, judged-typable, verdict-stops, verdict-passes}
+use Rattle.verdict.specs.Verdict.{witnessOf, witnessBytes, judged, judgement, judgedSchema, verdictAnswer, verdictSpace, verdictSchema}
+use Rattle.verdict.specs.VerdictLaws.{judged-untypable, judged-typable, verdict-stops, verdict-passes, verdict-unrefused}
 use Rattle.verdict.specs.declared.operation.Outcome.{Outcome}
 use Rattle.verdict.specs.declared.operation.Outcome.the-variants.{Typable, Untypable, Refused}
 
@@ -59,15 +59,30 @@ module _ (file : List ℕ) (m n : ℕ) (accepted : acceptance file ≡ Accepted 
     pub unique : (I J : Instantiation (formulaIn (formulaSpace file work) m k)) → ((r : ℕ) → r < m → (a : ℕ) → InImage I r a ↔ InImage J r a) → I ≡ J
     unique = rw space (Stored.unique file m n accepted work enough k node)
 
-  -- ---- Verdict, where it is not refused
+  -- ---- Verdict, where it is not refused: a verdict is given
 
-  module _ (work schema : List ℕ) (goes : sliced (admitted file k (length work)) (length schema) 4104 ≡ Accepted m n) where
-    few : m ≤ 8
-    few = accepted-file file m n accepted .counts .relations .1
+  few : m ≤ 8
+  few = accepted-file file m n accepted .counts .relations .1
+
+  legal : Legal m (expressionAt file k)
+  legal = expression-legal file m n accepted k node
+
+  module _ (work schema : List ℕ) (given : (r : Refusal) → verdictAnswer file k (length work) (length schema) ≡ Refused r → ⊥) where
+    passes : sliced (admitted file k (length work)) (length schema) 4104 ≡ Accepted m n
+    passes =
+        let found = verdict-unrefused file k work schema given in
+        let counts = sym (admitted-passed file k (length work) (sliced-passed (admitted file k (length work)) (length schema) 4104 (found .1 .1) .0) .accepted) ∙ accepted in
+        let relations : found .0 ≡ m = cc in
+        let nodes : found .1 .0 ≡ n = cc in
+        rw (← relations, ← nodes) (found .1 .1)
 
     -- the judgement on the node's expression
     answer : verdictAnswer file k (length work) (length schema) ≡ judgement m (lowestOf m (expressionAt file k))
-    answer = sym (verdict-passes file k work schema m n goes .0)
+    answer = sym (verdict-passes file k work schema m n passes .0)
+
+    -- what is written to the schema slice
+    written : verdictSchema file k (length work) schema ≡ judgedSchema m (lowestOf m (expressionAt file k)) schema
+    written = sym (verdict-passes file k work schema m n passes .1 .1)
 
     blocked-said : (a : ℕ) → verdictAnswer file k (length work) (length schema) ≡ Untypable a → blockedOf m (expressionAt file k) < 16
     unfolding blockedOf
@@ -81,15 +96,14 @@ module _ (file : List ℕ) (m n : ℕ) (accepted : acceptance file ≡ Accepted 
     pub verdict-untypable : ((a : ℕ) × (verdictAnswer file k (length work) (length schema) ≡ Untypable a)) ↔ (Typing m (expressionAt file k) → ⊥)
     unfolding blockedOf
     verdict-untypable =
-        let right = blocked-untypable m few (expressionAt file k) (expression-legal file m n accepted k node) in (
+        let right = blocked-untypable m few (expressionAt file k) legal in (
           (λ said. right .0 (blocked-said (said .0) (said .1))),
           (λ none. (blockedOf m (expressionAt file k), answer ∙ judged-untypable m (lowestOf m (expressionAt file k)) schema (right .1 none) .0)),
         )
 
-    -- the witness: what is written to the schema slice is read as a schema without a refusal, and types the node by the rules
-    pub verdict-witness : (size : ℕ) → verdictAnswer file k (length work) (length schema) ≡ Typable size → Witness m (expressionAt file k) (take size (verdictSchema file k (length work) schema))
+    witnessed : (size : ℕ) → verdictAnswer file k (length work) (length schema) ≡ Typable size → Witness m (expressionAt file k) (take size (verdictSchema file k (length work) schema))
     unfolding blockedOf witnessOf
-    verdict-witness size said = go (decLt (blockedOf m (expressionAt file k)) 16)
+    witnessed size said = go (decLt (blockedOf m (expressionAt file k)) 16)
       where
         go : Dec (blockedOf m (expressionAt file k) < 16) → Witness m (expressionAt file k) (take size (verdictSchema file k (length work) schema))
         go (yes h) = absurd (let other = sym said ∙ answer ∙ judged-untypable m (lowestOf m (expressionAt file k)) schema h .0 in let z : _≡_ {A = ℕ} 0 1 = cc in omega arith)
@@ -97,9 +111,12 @@ module _ (file : List ℕ) (m n : ℕ) (accepted : acceptance file ≡ Accepted 
             let gives = judged-typable m (lowestOf m (expressionAt file k)) schema (omega arith) in
             let whole = sym said ∙ answer ∙ gives .0 in
             let size-is : size ≡ length (witnessBytes m (lowestOf m (expressionAt file k))) = cc in
-            let written = sym (verdict-passes file k work schema m n goes .1 .1) ∙ gives .1 in
-            rw (size-is, written, take-over (witnessBytes m (lowestOf m (expressionAt file k))) schema)
-            (witness-typed m few (expressionAt file k) (expression-legal file m n accepted k node) (omega arith))
+            rw (size-is, written ∙ gives .1, take-over (witnessBytes m (lowestOf m (expressionAt file k))) schema)
+            (witness-typed m few (expressionAt file k) legal (omega arith))
+
+  -- the witness: what is written to the schema slice is read as a schema without a refusal, and types the node by the rules
+  pub verdict-witness : (work schema : List ℕ) (size : ℕ) → verdictAnswer file k (length work) (length schema) ≡ Typable size → Witness m (expressionAt file k) (take size (verdictSchema file k (length work) schema))
+  verdict-witness work schema size said = witnessed work schema (λ r refused. let both = sym said ∙ refused in let z : _≡_ {A = ℕ} 0 1 = cc in omega arith) size said
 
 -- ---- the work space after Verdict, whatever it answers: the formulas, as Formula leaves them, unless it refuses
 
