@@ -83,8 +83,15 @@ module _ (file : List ℕ) (k : ℕ) (bytes work schema out : List ℕ) (m n : �
       ∙ take-over (outputBytes (expressionAt file k) (subsetsOf bytes) (entriesIn ls)) out
 
 module _ (file : List ℕ) (k : ℕ) (bytes work schema out : List ℕ) (below : Bytes bytes) (size width : ℕ) (applied : applyAnswer file k bytes (length work) (length schema) (length out) ≡ Applied size width) where
+  -- the part of the schema slice that Apply wrote, and that of the output slice
+  abbrev pub schemaPart : List ℕ
+  schemaPart = take size (applySchema file k bytes (length work) schema (length out))
+
+  abbrev pub outputPart : List ℕ
+  outputPart = take width (applyOut file k bytes (length work) (length schema) out)
+
   -- recovering from the schema that was written gives the same instantiation, byte by byte
-  pub apply-recover : (m n : ℕ) → acceptance file ≡ Accepted m n → (work′ out′ : List ℕ) → n * 1024 ≤ length work′ → 812 ≤ length out′ → (recoverAnswer file k (take size (applySchema file k bytes (length work) schema (length out))) (length work′) (length out′) ≡ Recovered (length bytes)) × (recoverOut file k (take size (applySchema file k bytes (length work) schema (length out))) (length work′) out′ ≡ over bytes out′)
+  pub apply-recover : (m n : ℕ) → acceptance file ≡ Accepted m n → (work′ out′ : List ℕ) → n * 1024 ≤ length work′ → 812 ≤ length out′ → (recoverAnswer file k schemaPart (length work′) (length out′) ≡ Recovered (length bytes)) × (recoverOut file k schemaPart (length work′) out′ ≡ over bytes out′)
   apply-recover m n accepted work′ out′ space slice =
       let found = applied-applies file k bytes (length work) (length schema) (length out) size width applied in
       let a = found .1 .1 .1 in
@@ -94,7 +101,7 @@ module _ (file : List ℕ) (k : ℕ) (bytes work schema out : List ℕ) (below :
       (applied-recovered file k bytes work schema out (found .0) (found .1 .0) (found .1 .1 .0) below a work′ out′ (rw nodes space) slice)
 
   -- Typing gives that schema the output record that was written
-  pub apply-typing : (out′ : List ℕ) → 513 ≤ length out′ → (typingAnswer file k (take size (applySchema file k bytes (length work) schema (length out))) (length out′) ≡ TypedAnswer width) × (typingOut file k (take size (applySchema file k bytes (length work) schema (length out))) out′ ≡ over (take width (applyOut file k bytes (length work) (length schema) out)) out′)
+  pub apply-typing : (out′ : List ℕ) → 513 ≤ length out′ → (typingAnswer file k schemaPart (length out′) ≡ TypedAnswer width) × (typingOut file k schemaPart out′ ≡ over outputPart out′)
   apply-typing out′ slice =
       let found = applied-applies file k bytes (length work) (length schema) (length out) size width applied in
       let a = found .1 .1 .1 in
@@ -103,7 +110,7 @@ module _ (file : List ℕ) (k : ℕ) (bytes work schema out : List ℕ) (below :
       (gives .0 ∙ ap TypedAnswer (sym (apply-size file k bytes work schema out (found .0) (found .1 .0) (found .1 .1 .0) a size width applied .1)), gives .1)
 
   -- the bytes are an instantiation of the formula that Apply left in the work space, with the image and the output that Apply wrote
-  pub apply-instantiation : (m n : ℕ) → acceptance file ≡ Accepted m n → InstantiationOf (formulaIn (applySpace file k bytes work (length schema) (length out)) m k) m bytes (take size (applySchema file k bytes (length work) schema (length out))) (take width (applyOut file k bytes (length work) (length schema) out))
+  pub apply-instantiation : (m n : ℕ) → acceptance file ≡ Accepted m n → InstantiationOf (formulaIn (applySpace file k bytes work (length schema) (length out)) m k) m bytes schemaPart outputPart
   apply-instantiation m n accepted =
       let found = applied-applies file k bytes (length work) (length schema) (length out) size width applied in
       let a = found .1 .1 .1 in
@@ -175,16 +182,23 @@ module _ (file : List ℕ) (k : ℕ) (schema work out : List ℕ) (m n : ℕ) (t
 
 -- ---- Recover answered with an instantiation of `size` bytes
 
--- applying what was recovered gives the same schema, byte by byte
-pub recover-apply : (file : List ℕ) (k : ℕ) (schema work out : List ℕ) → Bytes schema → (size : ℕ) → recoverAnswer file k schema (length work) (length out) ≡ Recovered size → (m n : ℕ) → acceptance file ≡ Accepted m n → (work′ schema′ out′ : List ℕ) → n * 1024 ≤ length work′ → 4104 ≤ length schema′ → 513 ≤ length out′ → (width : ℕ) × ((applyAnswer file k (take size (recoverOut file k schema (length work) out)) (length work′) (length schema′) (length out′) ≡ Applied (length schema) width) × (applySchema file k (take size (recoverOut file k schema (length work) out)) (length work′) schema′ (length out′) ≡ over schema schema′))
-recover-apply file k schema work out below size said m n accepted work′ schema′ out′ space room slice =
-    let found = recovered-recovers file k schema work out size said in
-    let r = found .1 .1 .1 in
-    let counts = sym (r .accepted) ∙ accepted in
-    let nodes : found .1 .0 ≡ n = cc in
-    let typed = typed-said file k schema work out (found .0) (found .1 .0) (found .1 .1 .0) below r size said in
-    rw (recovered-part file k schema work out (found .0) (found .1 .0) (found .1 .1 .0) below r size said)
-    (_, recovered-applied file k schema work out (found .0) (found .1 .0) (found .1 .1 .0) below r typed work′ schema′ out′ (rw nodes space) room slice)
+module _ (file : List ℕ) (k : ℕ) (schema work out : List ℕ) (below : Bytes schema) (size : ℕ) (said : recoverAnswer file k schema (length work) (length out) ≡ Recovered size) where
+  -- the part of the instantiation slice that Recover wrote
+  abbrev pub instantiationPart : List ℕ
+  instantiationPart = take size (recoverOut file k schema (length work) out)
+
+  -- applying it gives the same schema, byte by byte
+  pub recover-apply : (m n : ℕ) → acceptance file ≡ Accepted m n → (work′ schema′ out′ : List ℕ) → n * 1024 ≤ length work′ → 4104 ≤ length schema′ → 513 ≤ length out′ → (width : ℕ) × ((applyAnswer file k instantiationPart (length work′) (length schema′) (length out′) ≡ Applied (length schema) width) × (applySchema file k instantiationPart (length work′) schema′ (length out′) ≡ over schema schema′))
+  recover-apply m n accepted work′ schema′ out′ space room slice =
+      let found = recovered-recovers file k schema work out size said in
+      let r = found .1 .1 .1 in
+      let counts = sym (r .accepted) ∙ accepted in
+      let nodes : found .1 .0 ≡ n = cc in
+      let typed = typed-said file k schema work out (found .0) (found .1 .0) (found .1 .1 .0) below r size said in
+      rw (recovered-part file k schema work out (found .0) (found .1 .0) (found .1 .1 .0) below r size said)
+      (_, recovered-applied file k schema work out (found .0) (found .1 .0) (found .1 .1 .0) below r typed work′ schema′ out′ (rw nodes space) room slice)
+
+-- ---- Recover beside Typing
 
 -- Recover says untyped exactly where Typing does
 pub recover-typing : (file : List ℕ) (k : ℕ) (schema work out : List ℕ) → Bytes schema → (m n : ℕ) (ts : List TypeRecord) → Recovers file k schema (length work) (length out) m n ts → (out′ : List ℕ) → 513 ≤ length out′ → (recoverAnswer file k schema (length work) (length out) ≡ Untyped) ↔ (typingAnswer file k schema (length out′) ≡ TypingUntyped)

@@ -18,15 +18,15 @@ use Rattle.typing.specs.declared.operation.Answer.the-variants.{Typed as
 
 -- Verdict said typable, and wrote a schema of so many bytes
 module _ (file : List ℕ) (k : ℕ) (work schema : List ℕ) (size : ℕ) (said : verdictAnswer file k (length work) (length schema) ≡ Typable size) where
-  -- the schema that it wrote
-  abbrev written : List ℕ
-  written = take size (verdictSchema file k (length work) schema)
+  -- the part of the schema slice that it wrote
+  abbrev pub witnessPart : List ℕ
+  witnessPart = take size (verdictSchema file k (length work) schema)
 
-  pub witness-typing : (out : List ℕ) → 513 ≤ length out → (t : Attrs) × ((width : ℕ) × ((typingAnswer file k (take size (verdictSchema file k (length work) schema)) (length out) ≡ TypedAnswer width) × RecordOf t (take width (typingOut file k (take size (verdictSchema file k (length work) schema)) out))))
+  pub witness-typing : (out : List ℕ) → 513 ≤ length out → (t : Attrs) × ((width : ℕ) × ((typingAnswer file k witnessPart (length out) ≡ TypedAnswer width) × RecordOf t (take width (typingOut file k witnessPart out))))
   witness-typing out slice =
       let found = verdict-unrefused file k work schema (λ r refused. let both = sym said ∙ refused in let z : _≡_ {A = ℕ} 0 1 = cc in omega arith) in
       let goes = found .1 .1 in
       let admits = admitted-passed file k (length work) (sliced-passed (admitted file k (length work)) (length schema) 4104 goes .0) in
       let witness = verdict-witness file (found .0) (found .1 .0) (admits .accepted) k (admits .node) work schema size said in
-      let rules = typing-typed file k written out (found .0) (found .1 .0) (witness .records) (record { accepted = admits .accepted; node = admits .node; slice = slice; bytes = witness .below; read = witness .reading .read; few = witness .reading .few }) (witness .type) in
+      let rules = typing-typed file k witnessPart out (found .0) (found .1 .0) (witness .records) (record { accepted = admits .accepted; node = admits .node; slice = slice; bytes = witness .below; read = witness .reading .read; few = witness .reading .few }) (witness .type) in
       (witness .type, rules .0 (witness .typed))
