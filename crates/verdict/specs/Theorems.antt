@@ -13,6 +13,7 @@ use mathlib.Core.Bool.{Bool, true, false, cond}
 use mathlib.Core.List.{List, []}
 use native.Mathlib.Decide.{decLt}
 use native.Mathlib.Omega.{arith}
+use lib.Dec.{ltb}
 use lib.ListN.{length, take}
 use Rattle.bits.specs.Tab.{over, take-over}
 use Rattle.types.specs.Types.{Attrs, IsType, Assignment, IsAssignment}
@@ -124,14 +125,13 @@ verdictFills (Typable size) = true
 verdictFills (Untypable a) = true
 verdictFills (Refused r) = false
 
--- either way
-judged-either : (t : Bool) (blocked : ℕ) (witness : List ℕ) → verdictFills (judged t blocked witness) ≡ true
-judged-either true blocked witness = refl
-judged-either false blocked witness = refl
-
 judged-fills : (m : ℕ) (lowest : ℕ → ℕ) → verdictFills (judgement m lowest) ≡ true
 unfolding judgement
-judged-fills m lowest = judged-either _ (blockedBy lowest) (witnessBytes m lowest)
+judged-fills m lowest = go (ltb (blockedBy lowest) 16)
+  where
+    go : (t : Bool) → verdictFills (judged t (blockedBy lowest) (witnessBytes m lowest)) ≡ true
+    go true = refl
+    go false = refl
 
 pub verdict-space : (file : List ℕ) (k : ℕ) (work : List ℕ) (size : ℕ) → verdictSpace file k work size ≡ cond (verdictFills (verdictAnswer file k (length work) size)) (formulaSpace file work) work
 unfolding verdictSpace verdictAnswer
