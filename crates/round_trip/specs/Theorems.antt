@@ -8,6 +8,7 @@
 --   RecordOf                              the record of a type                   (crate typing, Theorems)
 --   Instantiation, HasImage, HasOutput    instantiations, image and output       (crate formulas, Instantiation)
 --   AreBytes                              an instantiation that has the subsets and lists of bytes   (Link)
+--   InstantiationOf                       bytes that are an instantiation, with the schema and the output record of its image and output   (below)
 use Prim.Native.Nat.{ℕ, _*_, _≤_}
 use mathlib.Core.Path.{_≡_, refl, sym, ap, ap₂, _∙_}
 use mathlib.Core.Logic.{_↔_}
