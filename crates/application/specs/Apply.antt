@@ -18,7 +18,7 @@ use Rattle.instantiation.specs.Instantiation.{instantiationReading}
 use Rattle.instantiation.specs.declared.reading.Instantiation.{Instantiation}
 use Rattle.typing.specs.Output.{outputMap, outputList}
 use Rattle.typing.specs.Typing.{afterSchema}
-use Rattle.membership.specs.Special.{mapsFrom}
+use Rattle.special_maps.specs.Special.{mapsFrom}
 use Rattle.application.specs.Fits.{entriesFit, specialsFit}
 use Rattle.application.specs.declared.applying.Application.{Application}
 use Rattle.application.specs.declared.applying.Application.the-variants.{Applied, Refused}

@@ -39,8 +39,8 @@ use Rattle.typing.specs.Typing.{tableAnswer, tableOut, afterSchema}
 use Rattle.typing.specs.TypingLaws.{ReadTable, answer-typed, out-typed}
 use Rattle.typing.specs.declared.operation.Answer.{Answer}
 use Rattle.typing.specs.declared.operation.Answer.the-variants.{Typed, Untyped, Refused as TypingRefused}
-use Rattle.membership.specs.Special.{mapsFrom}
-use Rattle.membership.specs.SpecialLaws.{maps-length, maps-even}
+use Rattle.special_maps.specs.Special.{mapsFrom}
+use Rattle.special_maps.specs.SpecialLaws.{maps-length, maps-even}
 use Rattle.application.specs.Fitting.{entriesAllowed, specialsAllowed}
 use Rattle.application.specs.Fits.{entriesFit, specialsFit, entries-stored, specials-stored, fits-typed}
 use Rattle.application.specs.Apply.{afterFit, imageBytes, outputBytes, tableApplied, tableImage, tableOutput, entriesOf, readApplied, readImage, readOutput, readSpace, applyAnswer, applySpace, applySchema, applyOut}

@@ -24,8 +24,8 @@ use Rattle.membership.specs.Entries.{subsetOf}
 use Rattle.typing.specs.Output.{specialHolders, typedIn}
 use Rattle.typing.specs.OutputLaws.{all-typed}
 use Rattle.typing.specs.OutputRecord.{entry-cell}
-use Rattle.membership.specs.Special.{mapsFrom}
-use Rattle.membership.specs.SpecialLaws.{map-bit}
+use Rattle.special_maps.specs.Special.{mapsFrom}
+use Rattle.special_maps.specs.SpecialLaws.{map-bit}
 use Rattle.application.specs.Fitting.{entriesAllowed, specialsAllowed}
 
 -- the subset of each entry is a type variable

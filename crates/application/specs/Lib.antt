@@ -4,6 +4,4 @@ pub mod Apply
 pub mod Recover
 pub mod ApplyLaws
 pub mod RecoverLaws
-pub mod StandingFit
-pub mod WorkSpace
 pub mod Numbers

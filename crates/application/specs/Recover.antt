@@ -13,7 +13,7 @@ use Rattle.schema.specs.declared.reading.Schema.{Schema}
 use Rattle.instantiation.specs.Instantiation.{listsOf, instantiationBytes}
 use Rattle.typing.specs.Typing.{afterSchema}
 use Rattle.application.specs.Apply.{readSpace}
-use Rattle.membership.specs.Special.{subsetsFrom}
+use Rattle.special_maps.specs.Special.{subsetsFrom}
 use Rattle.application.specs.Fits.{entriesFit, specialsFit}
 use Rattle.application.specs.declared.recovering.Recovery.{Recovery}
 use Rattle.application.specs.declared.recovering.Recovery.the-variants.{Recovered, Untyped, Refused}

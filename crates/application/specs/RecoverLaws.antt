@@ -21,9 +21,9 @@ use Rattle.schema.specs.Schema.{schemaReading}
 use Rattle.schema.specs.declared.reading.Judgement.the-variants.{Read, Refused as ReadRefused}
 use Rattle.schema.specs.declared.reading.Schema.{Schema}
 use Rattle.typing.specs.TypingLaws.{ReadTable}
-use Rattle.membership.specs.Special.{subsetsFrom}
+use Rattle.special_maps.specs.Special.{subsetsFrom}
 use Rattle.instantiation.specs.Instantiation.{listsOf, instantiationBytes, WritesFrom}
-use Rattle.membership.specs.SpecialLaws.{subsets-small, subsets-size}
+use Rattle.special_maps.specs.SpecialLaws.{subsets-small, subsets-size}
 use Rattle.application.specs.Fitting.{specialsAllowed}
 use Rattle.application.specs.Fits.{entriesFit, specialsFit, specials-stored}
 use Rattle.application.specs.Apply.{readSpace}

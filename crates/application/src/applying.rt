@@ -14,10 +14,10 @@ use expression::Acceptance;
 use formula::admit;
 use formula::fill;
 use instantiation::read_instantiation;
-use membership::maps_from;
 use refusal::Refusal;
 use schema::Judgement;
 use schema::write_schema;
+use special_maps::maps_from;
 use typing::Answer;
 use typing::type_table;
 

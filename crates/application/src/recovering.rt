@@ -16,10 +16,10 @@ use expression::Acceptance;
 use formula::admit;
 use formula::fill;
 use instantiation::write_instantiation;
-use membership::subsets_from;
 use refusal::Refusal;
 use schema::Judgement;
 use schema::read_schema;
+use special_maps::subsets_from;
 
 // The length of the instantiation, or that the schema does not type the node, or the first refusal.
 pub enum Recovery {

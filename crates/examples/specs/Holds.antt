@@ -33,7 +33,7 @@ use Rattle.type_record.specs.Lists.{readFrom, readList, listed}
 use Rattle.type_record.specs.Record.{readRecord, recordSize, recordAt, recordByte, recordBytes}
 use Rattle.type_record.specs.RecordBytes.{record-length}
 use Rattle.membership.specs.Entries.{enter}
-use Rattle.membership.specs.Special.{mapOf, mapsFrom}
+use Rattle.special_maps.specs.Special.{mapOf, mapsFrom}
 use Rattle.schema.specs.Schema.{Records, recordsRefused, recordsRead, readRecords, schemaBytes, entriesOf, mapsOf, recordsOf}
 use Rattle.typing.specs.Output.{typedIn, outputMap, outputList}
 use Rattle.typing.specs.Typing.{typedAnswer, tableAnswer, typedOut, tableOut, typingAnswer, typingOut}

@@ -6,5 +6,3 @@ pub mod TableLaws
 pub mod Holders
 pub mod HolderLaws
 pub mod Holding
-pub mod Special
-pub mod SpecialLaws

@@ -1,3 +1,5 @@
+pub mod WorkSpace
+pub mod StandingFit
 pub mod Tables
 pub mod RoundTrip
 pub mod Undoing

@@ -44,8 +44,8 @@ use Rattle.instantiation.specs.ReadLaws.{IsLists, lists-read}
 use Rattle.instantiation.specs.Apart.{once-apart}
 use Rattle.instantiation.specs.Owners.{lists-holders}
 use Rattle.instantiation.specs.TableLaws.{subsets-none}
-use Rattle.membership.specs.Special.{mapsFrom}
-use Rattle.membership.specs.SpecialLaws.{map-bit}
+use Rattle.special_maps.specs.Special.{mapsFrom}
+use Rattle.special_maps.specs.SpecialLaws.{map-bit}
 use Rattle.application.specs.Apply.{outputBytes}
 use Rattle.application.specs.Fits.{fits-typed}
 use Rattle.round_trip.specs.Tables.{subsets-below}

@@ -17,9 +17,9 @@ use Rattle.instantiation.specs.Instantiation.{listsRead, readLists, entriesIn, 
 use Rattle.instantiation.specs.ReadLaws.{IsLists, lists-read, lists-written, written-lists, written-subsets}
 use Rattle.instantiation.specs.EntriesLaws.{entries-rising, entries-below, entries-lists, lists-of, lists-once, lists-entries}
 use Rattle.instantiation.specs.TableLaws.{ReadInstantiation, read-instantiation, subsets-size, subsets-none, subsets-small}
-use Rattle.membership.specs.Special.{mapsFrom, subsetsFrom}
-use Rattle.membership.specs.SpecialLaws.{subsets-back, maps-back, subset-zero}
-use Rattle.membership.specs.SpecialLaws as Special
+use Rattle.special_maps.specs.Special.{mapsFrom, subsetsFrom}
+use Rattle.special_maps.specs.SpecialLaws.{subsets-back, maps-back, subset-zero}
+use Rattle.special_maps.specs.SpecialLaws as Special
 use Rattle.application.specs.Fits.{entriesFit, specialsFit}
 use Rattle.application.specs.Apply.{imageBytes}
 use Rattle.application.specs.Recover.{recoveredBytes}

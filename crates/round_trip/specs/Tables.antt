@@ -20,13 +20,13 @@ use Rattle.membership.specs.TableLaws.{Below}
 use Rattle.typing.specs.Output.{specialHolders, typedIn}
 use Rattle.typing.specs.OutputLaws.{typed-special, typed-entry}
 use Rattle.typing.specs.OutputRecord.{entry-cell}
-use Rattle.membership.specs.Special.{mapsFrom, subsetsFrom}
-use Rattle.membership.specs.SpecialLaws.{maps-length, maps-even, maps-small as subset-maps-small, maps-empty as subset-maps-empty, subset-bit, subset-below, subset-zero, maps-back}
+use Rattle.special_maps.specs.Special.{mapsFrom, subsetsFrom}
+use Rattle.special_maps.specs.SpecialLaws.{maps-length, maps-even, maps-small as subset-maps-small, maps-empty as subset-maps-empty, subset-bit, subset-below, subset-zero, maps-back}
 use Rattle.schema.specs.Bounds.{held-at}
 use Rattle.application.specs.Fits.{entriesFit, specialsFit, fit-entries, special-fits, fit-specials, fits-typed}
 use Rattle.schema.specs.Image.{IsTable}
 use Rattle.application.specs.Recover.{fits}
-use Rattle.application.specs.StandingFit.{fit-held}
+use Rattle.round_trip.specs.StandingFit.{fit-held}
 
 -- ---- of instantiations
 

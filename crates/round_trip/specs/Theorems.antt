@@ -31,7 +31,7 @@ use Rattle.formula.specs.Stored.{formulaSpace}
 use Rattle.verdict.specs.StoredFormula.{formulaIn}
 use Rattle.type_record.specs.Record.{TypeRecord, typeOf}
 use Rattle.type_record.specs.RecordBytes.{record-length}
-use Rattle.membership.specs.Special.{mapsFrom}
+use Rattle.special_maps.specs.Special.{mapsFrom}
 use Rattle.schema.specs.Schema.{recordsRead, readRecords, assignmentOf, recordsOf, entriesOf, mapsOf}
 use Rattle.schema.specs.RecordsLaws.{AllRecords, records-read}
 use Rattle.instantiation.specs.Instantiation.{listsRead, readLists, entriesIn, subsetsOf}
@@ -43,7 +43,7 @@ use Rattle.typing.specs.Theorems.{RecordOf, typing-untyped}
 use Rattle.typing.specs.declared.operation.Answer.the-variants.{Typed as TypedAnswer, Untyped as TypingUntyped}
 use Rattle.application.specs.Apply.{imageBytes, outputBytes, applyAnswer, applySpace, applySchema, applyOut}
 use Rattle.application.specs.Recover.{recoveredBytes, recoverAnswer, recoverOut}
-use Rattle.application.specs.WorkSpace.{applyFills, apply-space}
+use Rattle.round_trip.specs.WorkSpace.{applyFills, apply-space}
 use Rattle.application.specs.declared.applying.Application.{Application}
 use Rattle.application.specs.declared.applying.Application.the-variants.{Applied}
 use Rattle.application.specs.declared.recovering.Recovery.the-variants.{Recovered, Untyped}

@@ -30,8 +30,8 @@ use Rattle.typing.specs.Output.{typedIn, outputList}
 use Rattle.typing.specs.Typing.{typingAnswer, typingOut}
 use Rattle.typing.specs.TypingLaws.{answer-typed, out-typed, typing-records}
 use Rattle.typing.specs.declared.operation.Answer.the-variants.{Typed}
-use Rattle.membership.specs.Special.{mapsFrom, subsetsFrom}
-use Rattle.membership.specs.SpecialLaws.{subsets-back}
+use Rattle.special_maps.specs.Special.{mapsFrom, subsetsFrom}
+use Rattle.special_maps.specs.SpecialLaws.{subsets-back}
 use Rattle.application.specs.Fits.{entriesFit, specialsFit, fits-typed}
 use Rattle.application.specs.Apply.{imageBytes, outputBytes, tableApplied, tableImage, tableOutput, applyAnswer, applySchema, applyOut}
 use Rattle.application.specs.ApplyLaws as Applying
@@ -39,7 +39,7 @@ use Rattle.application.specs.Recover.{fits, recoveredBytes, tableRecovered, tab
 use Rattle.application.specs.RecoverLaws as Recovering
 use Rattle.schema.specs.Image.{IsTable, image-size, image-records, image-maps, image-entries}
 use Rattle.round_trip.specs.Tables.{fits-same}
-use Rattle.application.specs.StandingFit.{fit-held}
+use Rattle.round_trip.specs.StandingFit.{fit-held}
 use Rattle.instantiation.specs.ListZero.{list-zero}
 use Rattle.round_trip.specs.RoundTrip.{applied-table, image-schema, recovered-same, recovered-table, written-instantiation, written-table, image-same}
 use Rattle.application.specs.declared.applying.Application.the-variants.{Applied}

@@ -28,8 +28,8 @@ use Rattle.formula.specs.Stored.{allowedBit, outputBit}
 use Rattle.formula.specs.StoredLaws.{allowed-is, allowed-below, output-is}
 use Rattle.type_record.specs.Record.{TypeRecord, typeOf}
 use Rattle.type_record.specs.RecordTypes.{type-of-special, type-of-other}
-use Rattle.membership.specs.Special.{mapsFrom}
-use Rattle.membership.specs.SpecialLaws.{maps-length, maps-even, maps-small, maps-empty, map-bit}
+use Rattle.special_maps.specs.Special.{mapsFrom}
+use Rattle.special_maps.specs.SpecialLaws.{maps-length, maps-even, maps-small, maps-empty, map-bit}
 use Rattle.schema.specs.Schema.{noRecord, assignmentOf, schemaReading}
 use Rattle.schema.specs.RecordsLaws.{schema-bytes}
 use Rattle.schema.specs.TableLaws.{ReadSchema}

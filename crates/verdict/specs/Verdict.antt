@@ -10,7 +10,7 @@ use Rattle.expression.specs.Admission.{after, sliced}
 use Rattle.formula.specs.Expressions.{expressionAt}
 use Rattle.formula.specs.Stored.{formulasOf, admitted}
 use Rattle.type_record.specs.Record.{TypeRecord}
-use Rattle.membership.specs.Special.{mapsFrom}
+use Rattle.special_maps.specs.Special.{mapsFrom}
 use Rattle.schema.specs.Schema.{schemaBytes, recordsOf}
 use Rattle.verdict.specs.Lowest.{lowestOf, blockedBy, chosenBy}
 use Rattle.verdict.specs.declared.operation.Outcome.{Outcome}

@@ -18,8 +18,8 @@ use Rattle.formula.specs.Stored.{formulasOf, admitted}
 use Rattle.formula.specs.StoredLaws.{stored-column, admitted-passed}
 use Rattle.membership.specs.Entries.{tableOf}
 use Rattle.membership.specs.TableLaws.{is-table}
-use Rattle.membership.specs.Special.{mapsFrom}
-use Rattle.membership.specs.SpecialLaws.{maps-length, maps-even}
+use Rattle.special_maps.specs.Special.{mapsFrom}
+use Rattle.special_maps.specs.SpecialLaws.{maps-length, maps-even}
 use Rattle.membership.specs.declared.merging.Entries.{Entries}
 use Rattle.schema.specs.Schema.{schemaBytes, recordsOf, WritesFrom}
 use Rattle.verdict.specs.Lowest.{lowestOf, lowestAt, blockedBy, chosenBy, subsetsAt}

@@ -4,7 +4,7 @@ ghost use mathlib.Core.List.{[]};
 ghost use Prim.Native.Nat.{_+_, _*_, _≤_};
 ghost use lib.ListN.{length, getD};
 ghost use Rattle.bits.specs.Tab.{over};
-ghost use Rattle.membership.specs.Special.{mapsFrom};
+ghost use Rattle.special_maps.specs.Special.{mapsFrom};
 ghost use Rattle.schema.specs.Schema.{schemaBytes, recordsOf};
 ghost use Rattle.verdict.specs.Lowest.{lowestAt};
 ghost use Rattle.verdict.specs.Verdict.{judgement, judgedSchema, verdictAnswer, verdictSpace, verdictSchema};
@@ -12,10 +12,10 @@ use crate::lowest::lowest_subsets;
 use expression::Acceptance;
 use formula::admit;
 use formula::fill;
-use membership::maps_from;
 use membership::no_entries;
 use refusal::Refusal;
 use schema::write_schema;
+use special_maps::maps_from;
 
 // The length of the witness schema, or the lowest special attribute whose column allows nothing, or the first refusal.
 pub enum Outcome {

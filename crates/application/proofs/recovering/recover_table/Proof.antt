@@ -1,6 +1,6 @@
 use native.Mathlib.Omega.{arith}
 use borrow.Author.Tests.{not-true, not-false}
-use Rattle.membership.specs.SpecialLaws.{subsets-size}
+use Rattle.special_maps.specs.SpecialLaws.{subsets-size}
 use Rattle.application.specs.RecoverLaws.{entry-untyped, special-untyped, table-recovered, recovered-from}
 use borrow.Author.Needs.{needs}
 use Rattle.application.proofs.recovering.recover_table.Statement.{statement}

@@ -11,7 +11,7 @@ use lib.Pow.{pow-mono}
 use Rattle.bits.specs.Bit.{bit, bit-first, bit-none, bit-above, digit-clear}
 use Rattle.bits.specs.Pack.{pack, pack-below, pack-bits, pack-same, bit-pack, bits-once}
 use Rattle.bits.specs.Tab.{tab, length-tab, getD-tab, tab-is}
-use Rattle.membership.specs.Special.{mapOf, mapsFrom, subsetFrom, subsetsFrom}
+use Rattle.special_maps.specs.Special.{mapOf, mapsFrom, subsetFrom, subsetsFrom}
 
 module _ (subsets : List ℕ) where
   pub maps-length : length (mapsFrom subsets) ≡ 8

@@ -3,10 +3,10 @@ use mathlib.Core.Path.{_≡_}
 use native.Mathlib.Omega.{arith}
 use lib.ListN.{replicate, length-replicate}
 use Rattle.bits.specs.Written.{Written, written-none, written-more, written-whole}
-use Rattle.membership.specs.Special.{mapOf, mapsFrom}
+use Rattle.special_maps.specs.Special.{mapOf, mapsFrom}
 use borrow.Author.Needs.{needs}
-use Rattle.membership.proofs.special.maps_from.Statement.{statement}
-use Rattle.membership.proofs.special.maps_from.Tie as tie
+use Rattle.special_maps.proofs.maps_from.Statement.{statement}
+use Rattle.special_maps.proofs.maps_from.Tie as tie
 
 abbrev Inv-loop : tie.InvT-loop
 Inv-loop subsets maps₀ r₀ maps r = (r ≤ 8) × Written (mapOf subsets) r (replicate 8 0) maps

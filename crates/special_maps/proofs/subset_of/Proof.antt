@@ -2,10 +2,10 @@ use Prim.Native.Nat.{_≤_}
 use mathlib.Core.Path.{_≡_, sym, _∙_}
 use native.Mathlib.Omega.{arith}
 use Rattle.bits.specs.PackFrom.{from-none, from-all}
-use Rattle.membership.specs.Special.{subsetFrom, bitsFrom, bits-lower, bits-below}
+use Rattle.special_maps.specs.Special.{subsetFrom, bitsFrom, bits-lower, bits-below}
 use borrow.Author.Needs.{needs}
-use Rattle.membership.proofs.special.subset_of.Statement.{statement}
-use Rattle.membership.proofs.special.subset_of.Tie as tie
+use Rattle.special_maps.proofs.subset_of.Statement.{statement}
+use Rattle.special_maps.proofs.subset_of.Tie as tie
 
 abbrev Inv-loop : tie.InvT-loop
 Inv-loop maps i x₀ r₀ x r = (r ≤ 8) × (x ≡ bitsFrom maps 8 i r)

@@ -2,7 +2,7 @@
 ghost use mathlib.Core.Path.{_≡_};
 ghost use Prim.Native.Nat.{_<_};
 ghost use lib.ListN.{length};
-ghost use Rattle.membership.specs.Special.{mapOf, mapsFrom, subsetFrom, subsetsFrom};
+ghost use Rattle.special_maps.specs.Special.{mapOf, mapsFrom, subsetFrom, subsetsFrom};
 
 // The map of relation r: bit i stands where r belongs to attribute i's subset.
 fn map_of(subsets: &[u8], r: usize) -> u16

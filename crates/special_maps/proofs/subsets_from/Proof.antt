@@ -3,10 +3,10 @@ use mathlib.Core.Path.{_≡_}
 use native.Mathlib.Omega.{arith}
 use lib.ListN.{replicate, length-replicate}
 use Rattle.bits.specs.Written.{Written, written-none, written-more, written-whole}
-use Rattle.membership.specs.Special.{subsetFrom, subsetsFrom}
+use Rattle.special_maps.specs.Special.{subsetFrom, subsetsFrom}
 use borrow.Author.Needs.{needs}
-use Rattle.membership.proofs.special.subsets_from.Statement.{statement}
-use Rattle.membership.proofs.special.subsets_from.Tie as tie
+use Rattle.special_maps.proofs.subsets_from.Statement.{statement}
+use Rattle.special_maps.proofs.subsets_from.Tie as tie
 
 abbrev Inv-loop : tie.InvT-loop
 Inv-loop maps subsets₀ i₀ subsets i = (i ≤ 16) × Written (subsetFrom maps) i (replicate 16 0) subsets
