@@ -8,7 +8,7 @@ use std::process::{Command, Output};
 use type_formula::{c, Refusal};
 use type_formula_tests::formula_examples::formula_examples;
 
-const HEADER: &str = include_str!("../../include/type_formula.h");
+const HEADER: &str = include_str!("../../../include/type_formula.h");
 const C: [&str; 2] = ["gcc", "-std=c11"];
 const CPP: [&str; 2] = ["g++", "-std=c++11"];
 const WARNINGS: [&str; 4] = ["-Wall", "-Wextra", "-Wpedantic", "-Werror"];

@@ -4,8 +4,8 @@
 use std::fs;
 use std::path::Path;
 
-const HEADER: &str = include_str!("../../include/type_formula.h");
-const CRATE: &str = include_str!("../../rust/src/c.rs");
+const HEADER: &str = include_str!("../../../include/type_formula.h");
+const CRATE: &str = include_str!("../../../rust/src/c.rs");
 
 /// A declaration: its name, the result's type, and each parameter with its type, as in C.
 #[derive(Debug, PartialEq, Eq, PartialOrd, Ord)]
