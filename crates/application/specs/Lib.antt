@@ -5,3 +5,4 @@ pub mod Recover
 pub mod ApplyLaws
 pub mod RecoverLaws
 pub mod Numbers
+pub mod WorkSpace

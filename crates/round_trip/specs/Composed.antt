@@ -15,7 +15,7 @@ use Rattle.formula.specs.Stored.{formulaSpace}
 use Rattle.formula.specs.StoredLaws.{space-again}
 use Rattle.application.specs.Apply.{applyAnswer, applySpace, applySchema, applyOut}
 use Rattle.application.specs.Recover.{recoverAnswer, recoverSpace, recoverOut}
-use Rattle.round_trip.specs.WorkSpace.{refusalFills, applyFills, recoverFills, apply-space, recover-space}
+use Rattle.application.specs.WorkSpace.{refusalFills, applyFills, recoverFills, apply-space, recover-space}
 use Rattle.round_trip.specs.Undoing.{applies-admits, apply-fits}
 use Rattle.round_trip.specs.Unrefused.{applied-applies}
 use Rattle.round_trip.specs.Theorems.{apply-filled, apply-recover}

@@ -43,7 +43,7 @@ use Rattle.typing.specs.Theorems.{RecordOf, typing-untyped}
 use Rattle.typing.specs.declared.operation.Answer.the-variants.{Typed as TypedAnswer, Untyped as TypingUntyped}
 use Rattle.application.specs.Apply.{imageBytes, outputBytes, applyAnswer, applySpace, applySchema, applyOut}
 use Rattle.application.specs.Recover.{recoveredBytes, recoverAnswer, recoverOut}
-use Rattle.round_trip.specs.WorkSpace.{applyFills, apply-space}
+use Rattle.application.specs.WorkSpace.{applyFills, apply-space}
 use Rattle.application.specs.declared.applying.Application.{Application}
 use Rattle.application.specs.declared.applying.Application.the-variants.{Applied}
 use Rattle.application.specs.declared.recovering.Recovery.the-variants.{Recovered, Untyped}
