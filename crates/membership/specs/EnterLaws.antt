@@ -1,5 +1,5 @@
 -- Laws of entering a list: each arm, the order of the entries, and who holds an attribute afterwards.
-use Prim.Native.Nat.{ℕ, _/_, _≤_, _<_}
+use Prim.Native.Nat.{ℕ, suc, _+_, _/_, _≤_, _<_}
 use mathlib.Core.Path.{_≡_, refl, sym, ap, _∙_}
 use mathlib.Core.Bool.{Bool, true, false, cond, _&&_, _||_, or-comm, or-false}
 use mathlib.Core.List.{List, [], _∷_}
@@ -8,6 +8,7 @@ use native.Mathlib.Omega.{arith}
 use borrow.Author.Tests.{lt-ltb, le-ltb, ltb-true, ltb-false, eqb-true, ne-eqb}
 use lib.Bits.{bitOr, or-shr, or-zero-r}
 use lib.Dec.{eqb, ltb}
+use lib.ListN.{length}
 use Rattle.bits.specs.Bit.{bit, bit-low, bit-or, bit-none}
 use Rattle.bits.specs.Rising.{member, Rising, rising-above}
 use Rattle.membership.specs.Entries.{entry, attributeOf, subsetOf, holdersIn, enter}
@@ -63,6 +64,19 @@ module _ (s a : ℕ) (more : List ℕ) (e : ℕ) (es : List ℕ) where
   pub enter-equal : a ≡ attributeOf e → enter s (a ∷ more) (e ∷ es) ≡ bitOr e s ∷ enter s more es
   unfolding enter
   enter-equal h = rw (le-ltb a (attributeOf e) (omega arith), le-ltb (attributeOf e) a (omega arith))
+
+-- ---- their number
+
+pub enter-few : (s : ℕ) (more es : List ℕ) → length (enter s more es) ≤ length more + length es
+unfolding enter
+enter-few s [] es = omega arith
+enter-few s (a ∷ more) [] = let rest = enter-few s more [] in omega arith
+enter-few s (a ∷ more) (e ∷ es) = go (order a (attributeOf e)) (enter-few s more (e ∷ es)) (enter-few s (a ∷ more) es) (enter-few s more es)
+  where
+    go : Order a (attributeOf e) → length (enter s more (e ∷ es)) ≤ length more + suc (length es) → length (enter s (a ∷ more) es) ≤ suc (length more) + length es → length (enter s more es) ≤ length more + length es → length (enter s (a ∷ more) (e ∷ es)) ≤ suc (length more) + suc (length es)
+    go (lower l) one two three = rw (enter-lower s a more e es l) (omega arith)
+    go (higher l) one two three = rw (enter-higher s a more e es l) (omega arith)
+    go (equal l) one two three = rw (enter-equal s a more e es l) (omega arith)
 
 -- ---- order
 

@@ -6,8 +6,6 @@ use mathlib.Core.List.{List, [], _∷_}
 use lib.Bits.{bitOr}
 use lib.Dec.{eqb, ltb}
 use lib.ListN.{length, getD, take}
-use Rattle.bits.specs.Tab.{tab}
-use Rattle.membership.specs.declared.merging.Entries.{Entries}
 
 -- an entry: an attribute and a subset, as one number
 abbrev pub entry : ℕ → ℕ → ℕ
@@ -32,16 +30,15 @@ enter s (a ∷ more) (e ∷ es) =
     cond (ltb a (attributeOf e)) (entry a s ∷ enter s more (e ∷ es))
     (cond (ltb (attributeOf e) a) (e ∷ enter s (a ∷ more) es) (bitOr e s ∷ enter s more es))
 
--- the first 256 entries, with zeros after the last: one more than a schema may have
-unfoldable pub tableOf : List ℕ → Entries
-tableOf es = record { count = length (take 256 es); items = tab 256 (λ i. getD es i 0) }
-
--- what a table is: entries below 2 ^ 24, at most 256
-pub record Table (t : Entries) : Type 0 where
-  pub size : length (t .items) ≡ 256
-  pub few : t .count ≤ 256
-  pub below : (j : ℕ) → getD (t .items) j 0 < 16777216
+-- of these entries, which rise, the first 256 stand at the front of the slice: one more than a schema may have
+pub record TableIn (es items : List ℕ) (count : ℕ) : Type 0 where
+  pub count-is : count ≡ length (take 256 es)
+  pub entries : take count items ≡ take 256 es
 
 -- a list's bytes, which begin with its count byte, are long enough for so many attributes
 abbrev pub ListFits : ℕ → List ℕ → Type 0
 ListFits count list = (i : ℕ) → i < count → i * 2 + 3 ≤ length list
+
+-- a slice with room for the attributes that so many bytes can list, two bytes each, up to 256
+abbrev pub RoomFor : ℕ → List ℕ → Type 0
+RoomFor size slice = (k : ℕ) → k ≤ 256 → k * 2 ≤ size → k ≤ length slice

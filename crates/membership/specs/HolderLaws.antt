@@ -6,14 +6,13 @@ use mathlib.Core.List.{List, [], _∷_}
 use native.Mathlib.Omega.{arith}
 use borrow.Author.Tests.{eqb-true}
 use lib.Dec.{eqb, lit<}
-use lib.ListN.{length, getD, take, drop}
-use lib.Seq.{ext-getD, getD-take, length-take-le, drop-cons}
+use lib.ListN.{length, getD, take}
+use lib.Seq.{length-take-le}
 use Rattle.bits.specs.Bit.{bit, bit-none}
 use Rattle.bits.specs.Rising.{member, Rising, rising-lower}
-use Rattle.bits.specs.Tab.{tab, length-tab, getD-tab}
 use Rattle.membership.specs.Entries.{attributeOf, subsetOf, holdersIn}
 use Rattle.membership.specs.EnterLaws.{RisingEntries, subset-bit, holders-below}
-use Rattle.membership.specs.Holders.{heldBy, heldList, ItemsFit}
+use Rattle.membership.specs.Holders.{heldBy, ItemsFit}
 use Rattle.membership.specs.TableLaws.{Below}
 
 -- a is listed for relation r exactly if r is one of its holders
@@ -54,20 +53,6 @@ held-below r (e ∷ es) h i = go (bit e r) (held-below r es (h .1)) i
     go true rest (suc i) = rest i
     go false rest i = rest i
 
--- what stands in a list of them
-pub held-attributes : (attributes : List ℕ) → length attributes ≤ 256 → take (heldList attributes .count) (heldList attributes .list) ≡ attributes
-unfolding heldList
-held-attributes attributes most =
-    let all = length-tab 256 (λ i. getD attributes i 0) in
-    let size = length-take-le (length attributes) (tab 256 (λ i. getD attributes i 0)) (omega arith) in
-    ext-getD 0 (take (length attributes) (tab 256 (λ i. getD attributes i 0))) attributes size
-    (λ i h. getD-take (length attributes) (tab 256 (λ i. getD attributes i 0)) i 0 (omega arith) ∙ getD-tab 256 (λ i. getD attributes i 0) i 0 (omega arith))
-
--- the list reaches that far
-pub held-fits : (attributes : List ℕ) → length attributes ≤ 256 → heldList attributes .count ≤ length (heldList attributes .list)
-unfolding heldList
-held-fits attributes most = let all = length-tab 256 (λ i. getD attributes i 0) in omega arith
-
 -- a subset is below 256
 pub holders-small : (es : List ℕ) (a : ℕ) → holdersIn es a < 256
 holders-small [] a = lit< tt
@@ -79,12 +64,5 @@ holders-small (e ∷ es) a = go (eqb a (attributeOf e)) (holders-small es a)
 
 -- ---- entries in memory
 
-module _ {items : List ℕ} {count : ℕ} (fit : ItemsFit items count) where
-  pub items-taken : length (take count items) ≡ count
-  items-taken = length-take-le count items (fit .enough)
-
-  -- from entry i on
-  pub items-split : (i : ℕ) → i < count → drop i (take count items) ≡ getD items i 0 ∷ drop (suc i) (take count items)
-  items-split i inside =
-      let s = items-taken in
-      drop-cons (take count items) i 0 (omega arith) ∙ ap (λ (e : ℕ). e ∷ drop (suc i) (take count items)) (getD-take count items i 0 inside)
+pub items-taken : {items : List ℕ} {count : ℕ} → ItemsFit items count → length (take count items) ≡ count
+items-taken {items} {count} fit = length-take-le count items (fit .enough)

@@ -1,8 +1,8 @@
 pub mod Entries
-pub mod EntriesOnce
 pub mod EnterLaws
-pub mod Merging
+pub mod EntriesOnce
 pub mod TableLaws
+pub mod Merging
 pub mod Holders
 pub mod HolderLaws
-pub mod Holding
+pub mod Keeping

@@ -1,16 +1,15 @@
 -- Laws of tables: what stands in one, and that entering a list into the first 256 entries gives the first 256 of all.
 use Prim.Native.Nat.{ℕ, zero, suc, _≤_, _<_}
-use mathlib.Core.Path.{_≡_, refl, sym, ap, ap₂, _∙_}
+use mathlib.Core.Path.{_≡_, refl, sym, ap, _∙_}
 use mathlib.Core.List.{List, [], _∷_}
-use native.Mathlib.Nat.{le-refl, min-le-left}
-use native.Mathlib.Decide.{decLt}
+use native.Mathlib.Nat.{le-refl, min-le-left, min-le-right}
 use native.Mathlib.Omega.{arith}
 use lib.Bits.{bitOr, or-lt}
 use lib.Dec.{lit<}
-use lib.ListN.{length, getD, take, replicate, length-take, length-replicate, getD-replicate, List·getD-eq-default}
+use lib.ListN.{length, getD, take, length-take}
 use lib.Seq.{take-nil, take-take, take-all, getD-take, ext-getD, length-take-le}
-use Rattle.bits.specs.Tab.{tab, length-tab, getD-tab, tab-is, over, over-none, over-length, over-front, over-back}
-use Rattle.membership.specs.Entries.{entry, attributeOf, enter, tableOf, Table}
+use Rattle.bits.specs.Written.{Written}
+use Rattle.membership.specs.Entries.{entry, attributeOf, enter, TableIn}
 use Rattle.membership.specs.EnterLaws.{enter-lower, enter-higher, enter-equal, Order, lower, higher, equal, order}
 
 -- ---- the first entries
@@ -30,72 +29,54 @@ enter-front s (suc n) (suc k) (a ∷ more) (e ∷ es) h =
     go (higher l) one two three = rw (enter-higher s a more e es l, enter-higher s a more e (take k es) l) (ap (λ (t : List ℕ). e ∷ t) two)
     go (equal l) one two three = rw (enter-equal s a more e es l, enter-equal s a more e (take k es) l) (ap (λ (t : List ℕ). bitOr e s ∷ t) three)
 
--- a count and 256 numbers that are the table
-pub table-made : (es : List ℕ) {c : ℕ} {l : List ℕ} → c ≡ length (take 256 es) → length l ≡ 256 → ((i : ℕ) → i < 256 → getD l i 0 ≡ getD es i 0) → record { count = c; items = l } ≡ tableOf es
-unfolding tableOf
-table-made es {c} {l} count size each = ap₂ (λ (c : ℕ) (l : List ℕ). record { count = c; items = l }) count (tab-is 256 (λ i. getD es i 0) 0 l size each)
-
--- a table depends on the first 256 entries alone
-table-same : (es fs : List ℕ) → take 256 es ≡ take 256 fs → tableOf es ≡ tableOf fs
-unfolding tableOf
-table-same es fs e =
-    ap₂ (λ (c : ℕ) (l : List ℕ). record { count = c; items = l }) (ap length e)
-    (tab-is 256 (λ i. getD fs i 0) 0 (tab 256 (λ i. getD es i 0)) (length-tab 256 (λ i. getD es i 0))
-    (λ i h. getD-tab 256 (λ i. getD es i 0) i 0 h ∙ sym (getD-take 256 es i 0 h) ∙ ap (λ (l : List ℕ). getD l i 0) e ∙ getD-take 256 fs i 0 h))
-
 -- ---- what stands in a table
 
-pub table-entries : (es : List ℕ) → take (tableOf es .count) (tableOf es .items) ≡ take 256 es
-unfolding tableOf
-table-entries es =
+-- the first entries, as they are written
+pub table-written : (es before items : List ℕ) (k : ℕ) → k ≤ length before → Written (λ x. getD es x 0) k before items → k ≡ length (take 256 es) → TableIn es items k
+table-written es before items k inside w size =
+    let same = w .size in
+    let front = length-take-le k items (omega arith) in
+    let whole = length-take 256 es in
     let most = min-le-left 256 (length es) in
-    let size = length-take 256 es in
-    let all = length-tab 256 (λ i. getD es i 0) in
-    let front = length-take-le (length (take 256 es)) (tab 256 (λ i. getD es i 0)) (omega arith) in
-    ext-getD 0 (take (length (take 256 es)) (tab 256 (λ i. getD es i 0))) (take 256 es) front
-    (λ i h. let below : i < length (take 256 es) = omega arith in
-    let inside : i < 256 = omega arith in
-    getD-take (length (take 256 es)) (tab 256 (λ i. getD es i 0)) i 0 below ∙ getD-tab 256 (λ i. getD es i 0) i 0 inside ∙ sym (getD-take 256 es i 0 inside))
-
-pub table-size : (es : List ℕ) → length (tableOf es .items) ≡ 256
-unfolding tableOf
-table-size es = length-tab 256 (λ i. getD es i 0)
-
-pub table-few : (es : List ℕ) → tableOf es .count ≤ 256
-unfolding tableOf
-table-few es = let most = min-le-left 256 (length es) in let size = length-take 256 es in omega arith
-
-pub table-item : (es : List ℕ) (i : ℕ) → i < 256 → getD (tableOf es .items) i 0 ≡ getD es i 0
-unfolding tableOf
-table-item es i h = getD-tab 256 (λ i. getD es i 0) i 0 h
-
--- the count, where there are at most 255 entries, and where there are more
-pub table-count : (es : List ℕ) → length es ≤ 255 → tableOf es .count ≡ length es
-unfolding tableOf
-table-count es h = ap length (take-all 256 es (omega arith))
-
-pub table-full : (es : List ℕ) → 255 < length es → 255 < tableOf es .count
-unfolding tableOf
-table-full es h = rw (length-take-le 256 es h) (lit< tt)
-
--- all entries, where there are at most 255
-pub table-all : (es : List ℕ) (n : ℕ) → length es ≡ n → n ≤ 255 → take n (tableOf es .items) ≡ es
-table-all es n size few =
-    ap (λ (k : ℕ). take k (tableOf es .items)) (sym (table-count es (omega arith) ∙ size)) ∙ table-entries es ∙ take-all 256 es (omega arith)
-
--- a table of at most 256 entries, as it is written
-pub table-over : (es : List ℕ) → length es ≤ 256 → record { count = length es; items = over es (replicate 256 0) } ≡ tableOf es
-table-over es most =
-    let zeros = length-replicate {A = ℕ} 256 0 in
-    table-made es (ap length (sym (take-all 256 es most))) (over-length es (replicate 256 0) (omega arith) ∙ zeros) (λ i h. each i h (decLt i (length es)))
-  where
-    each : (i : ℕ) → i < 256 → Dec (i < length es) → getD (over es (replicate 256 0)) i 0 ≡ getD es i 0
-    each i h (yes inside) = over-front es (replicate 256 0) i 0 inside
-    each i h (no past) = over-back es (replicate 256 0) i 0 (omega arith) ∙ getD-replicate {A = ℕ} 256 i 0 0 h ∙ sym (List·getD-eq-default es 0 {n = i} (omega arith))
+    record {
+      count-is = size;
+      entries =
+          ext-getD 0 (take k items) (take 256 es) (front ∙ size)
+          (λ i h. let below : i < k = omega arith in getD-take k items i 0 below ∙ w .front i below ∙ sym (getD-take 256 es i 0 (omega arith)));
+    }
 
 -- no entries
-pub table-none : record { count = 0; items = replicate 256 0 } ≡ tableOf []
-table-none = ap (λ (l : List ℕ). record { count = 0; items = l }) (sym (over-none (replicate 256 0))) ∙ table-over [] (omega arith)
+pub table-none : (items : List ℕ) → TableIn [] items 0
+table-none items = record { count-is = refl; entries = refl }
+
+module _ {es items : List ℕ} {count : ℕ} (t : TableIn es items count) where
+  pub table-few : count ≤ 256
+  table-few = let most = min-le-left 256 (length es) in let size = length-take 256 es in let is = t .count-is in omega arith
+
+  pub table-reaches : count ≤ length items
+  table-reaches =
+      let same = ap length (t .entries) in
+      let size = length-take count items in
+      let least = min-le-right count (length items) in
+      let is = t .count-is in
+      omega arith
+
+  -- the count, where there are at most 255 entries, and where there are more
+  pub table-count : length es ≤ 255 → count ≡ length es
+  table-count h = t .count-is ∙ ap length (take-all 256 es (omega arith))
+
+  pub table-full : 255 < length es → 255 < count
+  table-full h = let size = length-take-le 256 es h in let is = t .count-is in omega arith
+
+  -- all entries, where there are at most 255
+  pub table-all : length es ≤ 255 → take count items ≡ es
+  table-all h = t .entries ∙ take-all 256 es (omega arith)
+
+  -- entering a list into the first 256 entries gives the first 256 of all
+  pub enter-table : (s : ℕ) (more : List ℕ) {next : List ℕ} {size : ℕ} → TableIn (enter s more (take count items)) next size → TableIn (enter s more es) next size
+  enter-table s more u =
+      let same : take 256 (enter s more (take count items)) ≡ take 256 (enter s more es) = ap (λ (l : List ℕ). take 256 (enter s more l)) (t .entries) ∙ enter-front s 256 256 more es (le-refl 256) in
+      record { count-is = u .count-is ∙ ap length same; entries = u .entries ∙ same }
 
 -- ---- entries below 2 ^ 24
 
@@ -124,21 +105,9 @@ pub all-below : (b : ℕ) (xs : List ℕ) → ((i : ℕ) → getD xs i 0 < b) �
 all-below b [] below = tt
 all-below b (x ∷ xs) below = (below 0, all-below b xs (λ i. below (suc i)))
 
-pub is-table : (es : List ℕ) → Below 16777216 es → Table (tableOf es)
-is-table es h =
-    record {
-      size = table-size es;
-      few = table-few es;
-      below = λ j. item-below j (decLt j 256);
-    }
-  where
-    item-below : (j : ℕ) → Dec (j < 256) → getD (tableOf es .items) j 0 < 16777216
-    item-below j (yes inside) = rw (table-item es j inside) (below-at 16777216 es (lit< tt) h j)
-    item-below j (no past) = let size = table-size es in rw (List·getD-eq-default (tableOf es .items) 0 {n = j} (omega arith)) (lit< tt)
-
--- ---- entering a list into a table
-
-pub enter-table : (s : ℕ) (more es : List ℕ) → tableOf (enter s more (take (tableOf es .count) (tableOf es .items))) ≡ tableOf (enter s more es)
-enter-table s more es =
-    ap (λ (l : List ℕ). tableOf (enter s more l)) (table-entries es)
-    ∙ table-same (enter s more (take 256 es)) (enter s more es) (enter-front s 256 256 more es (le-refl 256))
+-- the entries of a table are below 2 ^ 24
+pub table-below : {es items : List ℕ} {count : ℕ} → TableIn es items count → Below 16777216 es → (i : ℕ) → i < count → getD items i 0 < 16777216
+table-below {es} {items} {count} t h i inside =
+    let few = table-few t in
+    let here = sym (getD-take count items i 0 inside) ∙ ap (λ (l : List ℕ). getD l i 0) (t .entries) ∙ getD-take 256 es i 0 (omega arith) in
+    rw here (below-at 16777216 es (lit< tt) h i)

@@ -3,8 +3,5 @@
 mod holders;
 mod merging;
 
-pub use holders::Held;
 pub use holders::held_by;
-pub use merging::Entries;
 pub use merging::enter;
-pub use merging::no_entries;

@@ -4,7 +4,7 @@ use mathlib.Core.Path.{_≡_}
 use mathlib.Core.Bool.{cond}
 use mathlib.Core.List.{List, [], _∷_, _++_}
 use lib.Dec.{ltb}
-use lib.ListN.{length, getD, drop}
+use lib.ListN.{length, getD, take, drop}
 use Rattle.bits.specs.Tab.{tab}
 use Rattle.types.specs.Types.{Assignment}
 use Rattle.refusal.specs.declared.Refusal.{Refusal}
@@ -12,10 +12,11 @@ use Rattle.refusal.specs.declared.Refusal.the-variants.{InputFollowed, TooManyA
 use Rattle.type_record.specs.declared.records.RecordReading.{RecordReading}
 use Rattle.type_record.specs.declared.records.RecordReading.the-variants.{Read as RecordRead, Refused as RecordRefused}
 use Rattle.type_record.specs.Record.{TypeRecord, readRecord, recordSize, recordAt, recordBytes, typeOf}
-use Rattle.membership.specs.Entries.{enter, tableOf}
-use Rattle.membership.specs.Holders.{heldBy}
+use Rattle.membership.specs.Entries.{enter}
+use Rattle.membership.specs.Holders.{heldBy, ItemsFit}
+use Rattle.schema.specs.declared.reading.Judgement.{Judgement}
 use Rattle.schema.specs.declared.reading.Judgement.the-variants.{Read, Refused}
-use Rattle.schema.specs.declared.reading.Schema.{Schema}
+use Rattle.schema.specs.declared.reading.SchemaReading.{SchemaReading}
 
 -- ---- the records
 
@@ -71,18 +72,33 @@ mapsOf ts = tab 8 (λ r. getD ts r noRecord .map)
 
 -- ---- reading
 
+-- what the bytes of a schema say: whether it is refused, and if not its membership table
+pub record Schema : Type 0 where
+  pub judgement : Judgement
+  -- a map of special attributes for each relation
+  pub special : List ℕ
+  pub entries : List ℕ
+
 unfoldable pub refusedSchema : Refusal → Schema
-refusedSchema r = record { judgement = Refused r; special = mapsOf []; entries = tableOf [] }
+refusedSchema r = record { judgement = Refused r; special = mapsOf []; entries = [] }
 
 -- "over 255 different ordinary attributes", once the records are read
 abbrev pub tabled : Records → Schema
 tabled (recordsRefused r) = refusedSchema r
 tabled (recordsRead ts) =
     cond (ltb 255 (length (entriesOf ts))) (refusedSchema TooManyAttributes)
-    (record { judgement = Read; special = mapsOf ts; entries = tableOf (entriesOf ts) })
+    (record { judgement = Read; special = mapsOf ts; entries = entriesOf ts })
 
 unfoldable pub schemaReading : ℕ → List ℕ → Schema
 schemaReading m bytes = tabled (readRecords m bytes)
+
+-- the same as it is handed on, with the number of the entries
+unfoldable pub readingOf : Schema → SchemaReading
+readingOf s = record { judgement = s .judgement; special = s .special; count = length (s .entries) }
+
+-- if the input was read, its entries stand at the front of the slice; after a refusal the slice is free
+abbrev pub EntriesStand : Judgement → List ℕ → List ℕ → Type 0
+EntriesStand judgement entries items = judgement ≡ Read → take (length entries) items ≡ entries
 
 -- ---- writing
 
@@ -94,6 +110,5 @@ recordsOf m special entries = tab m (λ r. record { map = getD special r 0; ordi
 pub record WritesFrom (special items : List ℕ) (count : ℕ) : Type 0 where
   pub maps : length special ≡ 8
   pub even : (r : ℕ) → getD special r 0 % 2 ≡ 0
-  pub size : length items ≡ 256
   pub few : count ≤ 255
-  pub below : (i : ℕ) → getD items i 0 < 16777216
+  pub fit : ItemsFit items count

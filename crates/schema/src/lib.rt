@@ -3,6 +3,6 @@ mod reading;
 mod writing;
 
 pub use reading::Judgement;
-pub use reading::Schema;
+pub use reading::SchemaReading;
 pub use reading::read_schema;
 pub use writing::write_schema;

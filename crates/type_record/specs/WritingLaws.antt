@@ -1,5 +1,5 @@
 -- Laws of writing a record: its first bytes, one attribute more, and the whole.
-use Prim.Native.Nat.{ℕ, _+_, _*_, _/_, _%_, _≤_}
+use Prim.Native.Nat.{ℕ, _+_, _*_, _/_, _%_, _≤_, _<_}
 use mathlib.Core.Path.{_≡_, sym, ap, _∙_}
 use mathlib.Core.List.{List}
 use native.Mathlib.Omega.{arith}
@@ -9,6 +9,10 @@ use Rattle.bits.specs.Tab.{over}
 use Rattle.bits.specs.Written.{Written, written-none, written-more, written-all}
 use Rattle.type_record.specs.Record.{recordSize, recordByte, recordBytes}
 use Rattle.type_record.specs.RecordBytes.{size-none, size-some, follows, follows-some, byte-first, byte-second, byte-count, byte-low, byte-high}
+
+-- attributes of two bytes each
+abbrev pub Ordinaries : List ℕ → Type 0
+Ordinaries listed = (i : ℕ) → getD listed i 0 < 65536
 
 module _ (map : ℕ) (ordinary old : List ℕ) where
   -- the map, its second byte written first

@@ -1,19 +1,24 @@
-use Prim.Native.Nat.{_-_}
-use native.Mathlib.Omega.{arith}
+use mathlib.Core.Path.{sym}
+use Rattle.bits.specs.PackFrom.{bit-digit}
+use Rattle.membership.specs.Keeping.{Keeping, keeping-first, keeping-next, keeping-end}
+use Rattle.bits.specs.Bit.{bit}
 use lib.ListN.{take}
-use Rattle.membership.specs.Holding.{Holding, holding-first, holding-listed, holding-passed, holding-end}
+use native.Mathlib.Omega.{arith}
+use Prim.Native.Nat.{_-_}
 use borrow.Author.Needs.{needs}
 use Rattle.membership.proofs.holders.held_by.Statement.{statement}
 use Rattle.membership.proofs.holders.held_by.Tie as tie
+use Rattle.membership.proofs.holders.held_by.Reads as reads
+use Rattle.membership.proofs.holders.held_by.Lts as lts
 
 abbrev Inv-loop : tie.InvT-loop
-Inv-loop items count r list₀ k₀ i₀ list k i = Holding r (take count items) list k i
+Inv-loop items count r list₀ k₀ i₀ list k i = Keeping (λ e. bit e r) (take count items) list₀ list k i
 
 abbrev μ-loop : tie.MeasureT-loop
 μ-loop items count r list₀ k₀ i₀ list k i = count - i
 
 loop-holds : tie.Need-loop-holds Inv-loop μ-loop
-loop-holds c = holding-first _ _
+loop-holds c = keeping-first _ _ _
 
 mul-e : tie.Need-mul-e Inv-loop μ-loop
 mul-e c = search needs
@@ -21,23 +26,17 @@ mul-e c = search needs
 shared-slice-read-e : tie.Need-shared-slice-read-e Inv-loop μ-loop
 shared-slice-read-e c = search needs
 
-shr-if1 : tie.Need-shr-if1 Inv-loop μ-loop
-shr-if1 c = search needs
-
-cast-list : tie.Need-cast-list Inv-loop μ-loop
-cast-list c = omega (arith, c .before .before .before .before .pre .1 .1 .below (c .before .before .before .loop .i))
-
 mul-list : tie.Need-mul-list Inv-loop μ-loop
 mul-list c = search needs
 
-array-write-list : tie.Need-array-write-list Inv-loop μ-loop
-array-write-list c =
-    let pre = c .before .before .before .before .pre in
-    let loop = c .before .before .before .loop in
-    let size = loop .inv .written .size in
-    let fewer = loop .inv .fewer in
-    let most = pre .1 .0 in
-    omega arith
+slice-write-list : tie.Need-slice-write-list Inv-loop μ-loop
+slice-write-list c = search needs
+
+shr-k : tie.Need-shr-k Inv-loop μ-loop
+shr-k c = search needs
+
+cast-k : tie.Need-cast-k Inv-loop μ-loop
+cast-k c = search needs
 
 add-k : tie.Need-add-k Inv-loop μ-loop
 add-k c = search needs
@@ -49,28 +48,13 @@ loop-less : tie.Need-loop-less Inv-loop μ-loop
 loop-less c = search needs
 
 loop-again : tie.Need-loop-again Inv-loop μ-loop
-loop-again c =
-    let pre = c .before .before .before .before .pre in
-    let loop = c .before .before .before .loop in
-    holding-listed (pre .1 .1) (loop .inv) (pre .1 .0) (c .before .before .loop-test .taken) (c .if1 .taken)
+loop-again c = keeping-next _ _ (c .before .before .before .pre .1 .0 .enough) (c .before .before .before .pre .1 .1) (c .before .before .loop .inv) (c .before .loop-test .taken) (sym (bit-digit _ _))
 
-add-i-2 : tie.Need-add-i-2 Inv-loop μ-loop
-add-i-2 c = search needs
-
-loop-less-2 : tie.Need-loop-less-2 Inv-loop μ-loop
-loop-less-2 c = search needs
-
-loop-again-2 : tie.Need-loop-again-2 Inv-loop μ-loop
-loop-again-2 c =
-    let pre = c .before .before .before .before .pre in
-    let loop = c .before .before .before .loop in
-    holding-passed (pre .1 .1) (loop .inv) (pre .1 .0) (c .before .before .loop-test .taken) (c .if1 .left)
+same-length : tie.Need-same-length Inv-loop μ-loop
+same-length c = search needs
 
 returns : tie.Need-returns Inv-loop μ-loop
-returns c =
-    let pre = c .before .before .pre in
-    let loop = c .before .loop in
-    holding-end (pre .1 .1) (loop .inv) (pre .1 .0) (c .loop-test .left)
+returns c = keeping-end _ _ (c .before .before .pre .1 .0 .enough) (c .before .before .pre .1 .1) (c .before .loop .inv) (c .loop-test .left)
 
 pub held-by-spec : {M : Type 1} → statement M
 held-by-spec =
@@ -81,15 +65,13 @@ held-by-spec =
     loop-holds
     mul-e
     shared-slice-read-e
-    shr-if1
-    cast-list
     mul-list
-    array-write-list
+    slice-write-list
+    shr-k
+    cast-k
     add-k
     add-i
     loop-less
     loop-again
-    add-i-2
-    loop-less-2
-    loop-again-2
+    same-length
     returns)

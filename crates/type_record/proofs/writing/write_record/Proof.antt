@@ -60,7 +60,7 @@ shared-slice-read-out : tie.Need-shared-slice-read-out Inv-loop μ-loop
 shared-slice-read-out c = search needs
 
 cast-out-3 : tie.Need-cast-out-3 Inv-loop μ-loop
-cast-out-3 c = omega (arith, c .shared-slice-known2 .given (c .before .before .loop .i))
+cast-out-3 c = search needs
 
 mul-out-2 : tie.Need-mul-out-2 Inv-loop μ-loop
 mul-out-2 c = search needs
@@ -78,7 +78,7 @@ shared-slice-read-out-2 : tie.Need-shared-slice-read-out-2 Inv-loop μ-loop
 shared-slice-read-out-2 c = search needs
 
 cast-out-4 : tie.Need-cast-out-4 Inv-loop μ-loop
-cast-out-4 c = omega (arith, c .shared-slice-known3 .given (c .before .before .before .loop .i))
+cast-out-4 c = omega (arith, c .before .before .before .before .before .before .before .pre .1 .0 .1 (c .before .before .before .loop .i))
 
 mul-out-4 : tie.Need-mul-out-4 Inv-loop μ-loop
 mul-out-4 c = search needs
