@@ -23,14 +23,13 @@ use Rattle.verdict.specs.StoredFormula.{formulaIn, stored-allowed}
 use Rattle.membership.specs.Entries.{subsetOf}
 use Rattle.schema.specs.Bounds.{Held, at-held}
 use Rattle.schema.specs.declared.reading.Judgement.the-variants.{Read}
-use Rattle.instantiation.specs.Instantiation.{standing, entriesIn, instantiationReading}
+use Rattle.instantiation.specs.Instantiation.{Instantiation, standing, entriesIn, instantiationReading}
 use Rattle.instantiation.specs.ListZero.{list-zero}
 use Rattle.instantiation.specs.ReadLaws.{lists-read}
 use Rattle.instantiation.specs.StandingBits.{zero-clear, standing-entry, entry-standing}
 use Rattle.instantiation.specs.TableLaws.{ReadInstantiation, instantiation-read, read-entries}
-use Rattle.instantiation.specs.declared.reading.Instantiation.{Instantiation}
 use Rattle.application.specs.Fits.{entriesFit, specialsFit, entry-fits, fit-entries}
-use Rattle.application.specs.Apply.{tableApplied, entriesOf, applyAnswer}
+use Rattle.application.specs.Apply.{tableApplied, applyAnswer}
 use Rattle.application.specs.ApplyLaws.{table-fits, entries-refused, specials-refused, read-goes, apply-goes, apply-passed}
 use Rattle.application.specs.declared.applying.Application.{Application}
 use Rattle.application.specs.declared.applying.Application.the-variants.{Refused}
@@ -106,10 +105,10 @@ module _ (file : List ℕ) (k : ℕ) (bytes work schema out : List ℕ) (m n : �
   found : (ls : List (List ℕ)) × ReadInstantiation bytes (instantiationReading bytes) ls
   found = instantiation-read bytes read
 
-  entries-are : entriesOf (instantiationReading bytes) ≡ entriesIn (found .0)
+  entries-are : instantiationReading bytes .entries ≡ entriesIn (found .0)
   entries-are = read-entries bytes (instantiationReading bytes) (found .0) (found .1)
 
-  answer : applyAnswer file k bytes (length work) (length schema) (length out) ≡ tableApplied m (expressionAt file k) (instantiationReading bytes .subsets) (entriesOf (instantiationReading bytes))
+  answer : applyAnswer file k bytes (length work) (length schema) (length out) ≡ tableApplied m (expressionAt file k) (instantiationReading bytes .subsets) (instantiationReading bytes .entries)
   answer =
       sym (apply-goes file k bytes work schema out m n goes _ _ _ _ refl refl refl refl .0)
       ∙ sym (read-goes file m n (expressionAt file k) (instantiationReading bytes) work schema out read _ _ _ _ refl refl refl refl .0)
@@ -119,20 +118,20 @@ module _ (file : List ℕ) (k : ℕ) (bytes work schema out : List ℕ) (m n : �
   said-fails said =
       sym (entries-standing m (expressionAt file k) bytes below (instantiationReading bytes) (found .0) (found .1))
       ∙ sym (ap (entriesFit m (expressionAt file k)) entries-are)
-      ∙ go (entriesFit m (expressionAt file k) (entriesOf (instantiationReading bytes))) refl (specialsFit m (expressionAt file k) (instantiationReading bytes .subsets)) refl
+      ∙ go (entriesFit m (expressionAt file k) (instantiationReading bytes .entries)) refl (specialsFit m (expressionAt file k) (instantiationReading bytes .subsets)) refl
     where
-      other : (a : Application) → tableApplied m (expressionAt file k) (instantiationReading bytes .subsets) (entriesOf (instantiationReading bytes)) ≡ a → a ≡ Refused TypeVariable
+      other : (a : Application) → tableApplied m (expressionAt file k) (instantiationReading bytes .subsets) (instantiationReading bytes .entries) ≡ a → a ≡ Refused TypeVariable
       other a is = sym is ∙ sym answer ∙ said
 
-      go : (t : Bool) → entriesFit m (expressionAt file k) (entriesOf (instantiationReading bytes)) ≡ t → (u : Bool) → specialsFit m (expressionAt file k) (instantiationReading bytes .subsets) ≡ u → t ≡ false
+      go : (t : Bool) → entriesFit m (expressionAt file k) (instantiationReading bytes .entries) ≡ t → (u : Bool) → specialsFit m (expressionAt file k) (instantiationReading bytes .subsets) ≡ u → t ≡ false
       go false fails u is = refl
-      go true fit false fails = absurd (let wrong = other (Refused SpecialSubset) (specials-refused m (expressionAt file k) (instantiationReading bytes .subsets) (entriesOf (instantiationReading bytes)) schema out fit fails .0) in let z : _≡_ {A = ℕ} 0 1 = cc in omega arith)
-      go true fit true special = absurd (let wrong = other _ (table-fits m (expressionAt file k) (instantiationReading bytes .subsets) (entriesOf (instantiationReading bytes)) schema out fit special .0) in let z : _≡_ {A = ℕ} 0 1 = cc in omega arith)
+      go true fit false fails = absurd (let wrong = other (Refused SpecialSubset) (specials-refused m (expressionAt file k) (instantiationReading bytes .subsets) (instantiationReading bytes .entries) schema out fit fails .0) in let z : _≡_ {A = ℕ} 0 1 = cc in omega arith)
+      go true fit true special = absurd (let wrong = other _ (table-fits m (expressionAt file k) (instantiationReading bytes .subsets) (instantiationReading bytes .entries) schema out fit special .0) in let z : _≡_ {A = ℕ} 0 1 = cc in omega arith)
 
   fails-said : standingFit m (expressionAt file k) bytes ≡ false → applyAnswer file k bytes (length work) (length schema) (length out) ≡ Refused TypeVariable
   fails-said fails =
       answer
-      ∙ entries-refused m (expressionAt file k) (instantiationReading bytes .subsets) (entriesOf (instantiationReading bytes)) schema out
+      ∙ entries-refused m (expressionAt file k) (instantiationReading bytes .subsets) (instantiationReading bytes .entries) schema out
       (ap (entriesFit m (expressionAt file k)) entries-are ∙ entries-standing m (expressionAt file k) bytes below (instantiationReading bytes) (found .0) (found .1) ∙ fails)
       .0
 

@@ -17,15 +17,13 @@ use Rattle.formula.specs.Expressions.{expressionAt, expression-legal}
 use Rattle.formula.specs.Stored.{admitted}
 use Rattle.formula.specs.StoredLaws.{Admits, admitted-passes}
 use Rattle.type_record.specs.Record.{TypeRecord, recordSize}
-use Rattle.schema.specs.Schema.{recordsRead, readRecords, recordsOf, entriesOf, mapsOf, schemaReading}
+use Rattle.schema.specs.Schema.{Schema, recordsRead, readRecords, recordsOf, entriesOf, mapsOf, schemaReading}
 use Rattle.schema.specs.RecordsLaws.{schema-most}
 use Rattle.schema.specs.TableLaws.{ReadSchema, read-schema, read-entries}
-use Rattle.schema.specs.declared.reading.Schema.{Schema}
-use Rattle.instantiation.specs.Instantiation.{entriesIn, subsetsOf, listsOf, instantiationReading}
+use Rattle.instantiation.specs.Instantiation.{Instantiation, entriesIn, subsetsOf, listsOf, instantiationReading}
 use Rattle.instantiation.specs.ReadLaws.{lists-read, written-long}
 use Rattle.instantiation.specs.TableLaws.{ReadInstantiation, subsets-none}
 use Rattle.instantiation.specs.TableLaws as Instantiations
-use Rattle.instantiation.specs.declared.reading.Instantiation.{Instantiation}
 use Rattle.typing.specs.Output.{typedIn, outputList}
 use Rattle.typing.specs.Typing.{typingAnswer, typingOut}
 use Rattle.typing.specs.TypingLaws.{answer-typed, out-typed, typing-records}

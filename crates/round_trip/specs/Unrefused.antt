@@ -17,12 +17,11 @@ use Rattle.schema.specs.Schema.{schemaReading}
 use Rattle.schema.specs.TableLaws.{schema-read}
 use Rattle.schema.specs.declared.reading.Judgement.{Judgement}
 use Rattle.schema.specs.declared.reading.Judgement.the-variants.{Read as SchemaRead, Refused as SchemaRefused}
-use Rattle.instantiation.specs.Instantiation.{instantiationReading}
+use Rattle.instantiation.specs.Instantiation.{Instantiation, instantiationReading}
 use Rattle.instantiation.specs.TableLaws.{instantiation-read, read-entries}
-use Rattle.instantiation.specs.declared.reading.Instantiation.{Instantiation}
 use Rattle.application.specs.Fits.{entriesFit, specialsFit}
 use Rattle.application.specs.ApplyLaws.{applied-fits, read-applied, apply-applied}
-use Rattle.application.specs.Apply.{entriesOf, readApplied, applyAnswer}
+use Rattle.application.specs.Apply.{readApplied, applyAnswer}
 use Rattle.application.specs.Recover.{recoverAnswer}
 use Rattle.application.specs.RecoverLaws as Recovering
 use Rattle.round_trip.specs.Undoing.{Applies, Recovers}
@@ -34,7 +33,7 @@ module _ (file : List ℕ) (k : ℕ) (bytes : List ℕ) (space size outSize : �
   made m n s w goes said =
       let read = read-applied m (expressionAt file k) (instantiationReading bytes) s w said in
       let lists = instantiation-read bytes (read .0) in
-      let fit = applied-fits m (expressionAt file k) (instantiationReading bytes .subsets) (entriesOf (instantiationReading bytes)) s w (read .1) in
+      let fit = applied-fits m (expressionAt file k) (instantiationReading bytes .subsets) (instantiationReading bytes .entries) s w (read .1) in
       let subsets = ap (λ (i : Instantiation). i .subsets) (lists .1 .is) in
       let entries = read-entries bytes (instantiationReading bytes) (lists .0) (lists .1) in
       (lists .0, record { goes = goes; read = lists .1; entries = sym (ap (entriesFit m (expressionAt file k)) entries) ∙ fit .0; special = sym (ap (specialsFit m (expressionAt file k)) subsets) ∙ fit .1 })

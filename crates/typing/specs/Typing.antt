@@ -2,17 +2,16 @@
 use Prim.Native.Nat.{ℕ}
 use mathlib.Core.Bool.{Bool, true, false}
 use mathlib.Core.List.{List}
-use lib.ListN.{length, take}
+use lib.ListN.{length}
 use Rattle.bits.specs.Tab.{over}
 use Rattle.refusal.specs.declared.Refusal.{Refusal}
 use Rattle.expression.specs.Admission.{after, asked, sliced}
 use Rattle.algebra.specs.Expression.{Expression}
 use Rattle.formula.specs.Expressions.{expressionAt}
 use Rattle.type_record.specs.Record.{recordSize, recordBytes}
-use Rattle.schema.specs.Schema.{schemaReading}
+use Rattle.schema.specs.Schema.{Schema, schemaReading}
 use Rattle.schema.specs.declared.reading.Judgement.{Judgement}
 use Rattle.schema.specs.declared.reading.Judgement.the-variants.{Read, Refused as SchemaRefused}
-use Rattle.schema.specs.declared.reading.Schema.{Schema}
 use Rattle.typing.specs.Output.{typedIn, outputMap, outputList}
 use Rattle.typing.specs.declared.operation.Answer.{Answer}
 use Rattle.typing.specs.declared.operation.Answer.the-variants.{Typed, Untyped, Refused}
@@ -40,10 +39,10 @@ afterSchema (SchemaRefused r) stop go = stop r
 afterSchema Read stop go = go
 
 unfoldable pub schemaAnswer : Expression → Schema → Answer
-schemaAnswer e s = afterSchema (s .judgement) Refused (tableAnswer e (s .special) (take (s .entries .count) (s .entries .items)))
+schemaAnswer e s = afterSchema (s .judgement) Refused (tableAnswer e (s .special) (s .entries))
 
 unfoldable pub schemaOut : Expression → Schema → List ℕ → List ℕ
-schemaOut e s out = afterSchema (s .judgement) (λ r. out) (tableOut e (s .special) (take (s .entries .count) (s .entries .items)) out)
+schemaOut e s out = afterSchema (s .judgement) (λ r. out) (tableOut e (s .special) (s .entries) out)
 
 -- ---- the operation: "10, 11, 12, 13", without 12, since there is no work space; and then the schema
 
