@@ -1,3 +1,5 @@
+pub mod Sets
+pub mod SetLaws
 pub mod Lanes
 pub mod LaneLaws
 pub mod LaneCells

@@ -3,6 +3,7 @@ mod filling;
 mod lanes;
 mod operation;
 mod output;
+mod sets;
 
 pub use operation::Answer;
 pub use operation::type_table;
