@@ -1,5 +1,6 @@
 pub mod Sets
 pub mod SetLaws
+pub mod SetCells
 pub mod Lanes
 pub mod LaneLaws
 pub mod LaneCells

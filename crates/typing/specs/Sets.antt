@@ -134,7 +134,7 @@ module _ (special items : List ℕ) (count width k : ℕ) (old sets : List ℕ) 
   abbrev pub NodeSets : Node → Type 0
   NodeSets (Relation r) = Laid 0 (getD special r 0) (relationWord items count r) (k * width) width old sets
   NodeSets (Binary op l r) = Combined op (l * width) (r * width) (k * width) width old sets
-  NodeSets (WithSet Selection l s) = Kept (l * width) (lacking (getD old (l * width + 1) 0) (bitsOf s)) (getD old (l * width + 1) 0)
-  NodeSets (WithSet Projection l s) = Dropped (l * width) (lacking (getD old (l * width + 1) 0) (bitsOf s)) (bitsOf s)
+  NodeSets (WithSet Selection l s) = (bitsOf s < 65536) × Kept (l * width) (lacking (getD old (l * width + 1) 0) (bitsOf s)) (getD old (l * width + 1) 0)
+  NodeSets (WithSet Projection l s) = (bitsOf s < 65536) × Dropped (l * width) (lacking (getD old (l * width + 1) 0) (bitsOf s)) (bitsOf s)
   NodeSets (Renaming l o n) = Kept (l * width) (renamingBreaks (getD old (l * width + 1) 0) (2 ^ o) (2 ^ n)) (renamed (getD old (l * width + 1) 0) (2 ^ o) (2 ^ n))
   NodeSets (ProjectingOut l o) = Kept (l * width) (lacking (getD old (l * width + 1) 0) (2 ^ o)) (without (getD old (l * width + 1) 0) (2 ^ o))
