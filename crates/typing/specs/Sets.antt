@@ -13,6 +13,7 @@ use Rattle.algebra.specs.Expression.{Expression}
 use Rattle.algebra.specs.Cell.{plain, out, ok}
 use Rattle.node.specs.declared.nodes.BinaryOp.{BinaryOp}
 use Rattle.node.specs.declared.nodes.BinaryOp.the-variants.{Union, Difference, Join, Product}
+use Rattle.node.specs.declared.nodes.SetOp.{SetOp}
 use Rattle.node.specs.declared.nodes.SetOp.the-variants.{Selection, Projection}
 use Rattle.node.specs.declared.nodes.Node.{Node}
 use Rattle.node.specs.declared.nodes.Node.the-variants.{Relation, Binary, WithSet, Renaming, ProjectingOut}
@@ -122,19 +123,23 @@ pub record Combining (op : BinaryOp) (left right at width : ℕ) (old sets : Lis
 abbrev pub Combined : BinaryOp → ℕ → ℕ → ℕ → ℕ → List ℕ → List ℕ → Type 0
 Combined op left right at width old sets = Combining op left right at width old sets (getD sets at 0)
 
+-- a selection or a projection by the set s, of the operand at place `from`
+abbrev pub SetLaid : SetOp → ℕ → ℕ → ℕ → ℕ → List ℕ → List ℕ → Type 0
+SetLaid Selection from s at width old sets = Laid (bitOr (getD old from 0) (lacking (getD old (from + 1) 0) s)) (getD old (from + 1) 0) (wordsAt old from) at width old sets
+SetLaid Projection from s at width old sets = Laid (bitOr (getD old from 0) (lacking (getD old (from + 1) 0) s)) s (λ v. 0) at width old sets
+
+-- a renaming of the attribute with bit o to the one with bit n
+abbrev pub RenamingLaid : ℕ → ℕ → ℕ → ℕ → ℕ → List ℕ → List ℕ → Type 0
+RenamingLaid from o n at width old sets = Laid (bitOr (getD old from 0) (renamingBreaks (getD old (from + 1) 0) o n)) (renamed (getD old (from + 1) 0) o n) (wordsAt old from) at width old sets
+
+-- projecting out the attribute with bit o
+abbrev pub OutLaid : ℕ → ℕ → ℕ → ℕ → List ℕ → List ℕ → Type 0
+OutLaid from o at width old sets = Laid (bitOr (getD old from 0) (lacking (getD old (from + 1) 0) o)) (without (getD old (from + 1) 0) o) (wordsAt old from) at width old sets
+
 -- the words of node k, from those of its operands
-module _ (special items : List ℕ) (count width k : ℕ) (old sets : List ℕ) where
-  -- one operand, at place `from`
-  abbrev pub Kept : ℕ → ℕ → ℕ → Type 0
-  Kept from broken given = Laid (bitOr (getD old from 0) broken) given (wordsAt old from) (k * width) width old sets
-
-  abbrev pub Dropped : ℕ → ℕ → ℕ → Type 0
-  Dropped from broken given = Laid (bitOr (getD old from 0) broken) given (λ v. 0) (k * width) width old sets
-
-  abbrev pub NodeSets : Node → Type 0
-  NodeSets (Relation r) = Laid 0 (getD special r 0) (relationWord items count r) (k * width) width old sets
-  NodeSets (Binary op l r) = Combined op (l * width) (r * width) (k * width) width old sets
-  NodeSets (WithSet Selection l s) = (bitsOf s < 65536) × Kept (l * width) (lacking (getD old (l * width + 1) 0) (bitsOf s)) (getD old (l * width + 1) 0)
-  NodeSets (WithSet Projection l s) = (bitsOf s < 65536) × Dropped (l * width) (lacking (getD old (l * width + 1) 0) (bitsOf s)) (bitsOf s)
-  NodeSets (Renaming l o n) = Kept (l * width) (renamingBreaks (getD old (l * width + 1) 0) (2 ^ o) (2 ^ n)) (renamed (getD old (l * width + 1) 0) (2 ^ o) (2 ^ n))
-  NodeSets (ProjectingOut l o) = Kept (l * width) (lacking (getD old (l * width + 1) 0) (2 ^ o)) (without (getD old (l * width + 1) 0) (2 ^ o))
+abbrev pub NodeSets : List ℕ → List ℕ → ℕ → ℕ → ℕ → List ℕ → List ℕ → Node → Type 0
+NodeSets special items count width k old sets (Relation r) = Laid 0 (getD special r 0) (relationWord items count r) (k * width) width old sets
+NodeSets special items count width k old sets (Binary op l r) = Combined op (l * width) (r * width) (k * width) width old sets
+NodeSets special items count width k old sets (WithSet op l s) = (bitsOf s < 65536) × SetLaid op (l * width) (bitsOf s) (k * width) width old sets
+NodeSets special items count width k old sets (Renaming l o n) = RenamingLaid (l * width) (2 ^ o) (2 ^ n) (k * width) width old sets
+NodeSets special items count width k old sets (ProjectingOut l o) = OutLaid (l * width) (2 ^ o) (k * width) width old sets

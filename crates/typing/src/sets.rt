@@ -3,9 +3,9 @@ ghost use mathlib.Core.Path.{_≡_};
 ghost use Prim.Native.Nat.{_+_, _-_, _*_, _^_, _≤_, _<_, min};
 ghost use lib.Bits.{bitOr};
 ghost use lib.ListN.{length, getD};
-ghost use Rattle.node.specs.declared.nodes.SetOp.the-variants.{Selection, Projection};
-ghost use Rattle.typing.specs.Sets.{widthOf, wordsAt, breaking, comingOut, lacking, without, renamingBreaks, renamed, entriesHeld, relationWord, Laid, Combined};
+ghost use Rattle.typing.specs.Sets.{widthOf, wordsAt, breaking, comingOut, entriesHeld, relationWord, Laid, Combined, SetLaid, RenamingLaid, OutLaid};
 use node::BinaryOp;
+use node::SetOp;
 
 // The attributes of a word that break the rule of an operator of two operands.
 fn breaking(op: BinaryOp, x: u64, y: u64) -> u64
@@ -148,4 +148,66 @@ pub fn lay_relation(
     }
     sets[at] = 0;
     sets[at + 1] = special;
+}
+
+// The words of a selection or a projection by the set with these bits.
+pub fn lay_with_set(
+    sets: &mut [u64],
+    op: SetOp,
+    from: usize,
+    s: u64,
+    at: usize,
+    width: usize,
+)
+    requires { ⌜ (from + width ≤ at) × (2 ≤ width) ⌝ }
+    requires { ⌜ at + width ≤ length (now sets) ⌝ }
+    ensures { λ _. ⌜ SetLaid op from s at width (now (sets .entry)) (now (sets .exit)) ⌝ }
+{
+    let x = sets[from + 1];
+    match op {
+        SetOp::Selection => {
+            keep_entries(sets, from, at, width, (x | s) ^ x, x);
+        }
+        SetOp::Projection => {
+            drop_entries(sets, from, at, width, (x | s) ^ x, s);
+        }
+    }
+}
+
+// The words of a renaming.
+pub fn lay_renaming(
+    sets: &mut [u64],
+    from: usize,
+    old: u8,
+    new: u8,
+    at: usize,
+    width: usize,
+)
+    requires { ⌜ (old < 16) × (new < 16) ⌝ }
+    requires { ⌜ (from + width ≤ at) × (2 ≤ width) ⌝ }
+    requires { ⌜ at + width ≤ length (now sets) ⌝ }
+    ensures { λ _. ⌜ RenamingLaid from (2 ^ old) (2 ^ new) at width (now (sets .entry)) (now (sets .exit)) ⌝ }
+{
+    let x = sets[from + 1];
+    let o = 1u64 << old;
+    let n = 1u64 << new;
+    keep_entries(sets, from, at, width, ((x | o) ^ x) | (x & n), ((x | o) ^ o) | n);
+}
+
+// The words of a projecting out.
+pub fn lay_projecting_out(
+    sets: &mut [u64],
+    from: usize,
+    old: u8,
+    at: usize,
+    width: usize,
+)
+    requires { ⌜ old < 16 ⌝ }
+    requires { ⌜ (from + width ≤ at) × (2 ≤ width) ⌝ }
+    requires { ⌜ at + width ≤ length (now sets) ⌝ }
+    ensures { λ _. ⌜ OutLaid from (2 ^ old) at width (now (sets .entry)) (now (sets .exit)) ⌝ }
+{
+    let x = sets[from + 1];
+    let o = 1u64 << old;
+    keep_entries(sets, from, at, width, (x | o) ^ x, (x | o) ^ o);
 }
