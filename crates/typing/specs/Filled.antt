@@ -1,18 +1,17 @@
 -- How the sets are filled, node by node.
 use Prim.Native.Nat.{ℕ, _+_, _*_, _≤_, _<_}
-use mathlib.Core.Path.{_≡_, sym, ap, subst, _∙_}
+use mathlib.Core.Path.{_≡_}
 use mathlib.Core.List.{List}
 use mathlib.Core.Logic.{_⊎_, inl, inr}
 use native.Mathlib.Nat.{eq-or-lt-of-le}
 use native.Mathlib.Omega.{arith}
 use lib.ListN.{length, getD, take}
-use Rattle.algebra.specs.Expression.{Expression}
 use Rattle.node.specs.declared.nodes.Node.{Node}
 use Rattle.node.specs.declared.nodes.Node.the-variants.{Relation, Binary, WithSet, Renaming, ProjectingOut}
 use Rattle.node.specs.declared.nodes.SetOp.the-variants.{Selection, Projection}
 use Rattle.node.specs.Legal.{LegalNode}
 use Rattle.expression.specs.ReadFile.{nodeAt}
-use Rattle.formula.specs.Expressions.{expressionAt, expression-is, ofNode}
+use Rattle.formula.specs.Expressions.{expressionAt, expression-is}
 use Rattle.typing.specs.Sets.{TypeIn, wordsAt, NodeSets}
 use Rattle.typing.specs.SetLaws.{node-below}
 use Rattle.typing.specs.SetCells.{Words, type-same, node-type}

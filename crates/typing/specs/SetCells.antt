@@ -1,25 +1,25 @@
 -- Over the types of its operands, the words of a node are its type.
 use Prim.Native.Nat.{ℕ, zero, suc, _+_, _-_, _*_, _/_, _%_, _^_, _≤_, _<_, min}
-use mathlib.Core.Path.{_≡_, refl, sym, ap, ap₂, subst, _∙_}
-use mathlib.Core.Bool.{Bool, true, false, cond, not, _&&_, _||_, and-comm}
+use mathlib.Core.Path.{_≡_, refl, sym, ap, ap₂, _∙_}
+use mathlib.Core.Bool.{Bool, true, false, cond, not, _&&_, _||_, and-comm, or-comm}
 use mathlib.Core.List.{List}
-use native.Mathlib.Decide.{decLt, decLe}
-use native.Mathlib.Nat.{add-zero, mod-lt, min-le-left, min-le-right}
+use native.Mathlib.Decide.{decLt}
+use native.Mathlib.Nat.{add-zero, mod-lt}
 use native.Mathlib.Omega.{arith}
 use borrow.Author.Tests.{lt-ltb, le-ltb, ne-eqb, not-true}
-use lib.Bits.{bitOr, bitAnd, bitXor, or-lt, and-lt, xor-lt}
+use lib.Bits.{bitOr, bitAnd, or-lt, and-lt, xor-lt}
 use lib.Dec.{eqb, eqb·zero-suc, eqb·suc-zero, eqb·suc-suc, lit<}
 use lib.ListN.{length, getD, take, List·getD-eq-default}
 use lib.Pow.{pow-mono, pow-lt}
 use lib.Seq.{getD-take, length-take-le}
 use Rattle.bits.specs.Bit.{bit, differs, bit-above, bit-none, bit-or, bit-and, bit-xor, bit-power}
-use Rattle.bits.specs.Booleans.{and-left, and-right, is-false}
+use Rattle.bits.specs.Booleans.{and-left, and-right}
 use Rattle.bits.specs.Pack.{pack, pack-below, bit-pack, bits-once}
 use Rattle.attribute_set.specs.AttrSet.{special as isSpecial, hasAttribute, bitsOf}
 use Rattle.attribute_set.specs.Laws.{Clear, special-range, special-zero}
 use Rattle.attribute_set.specs.declared.AttrSet.{AttrSet}
 use Rattle.algebra.specs.Expression.{Expression, relation, binary, withSet, renaming, projectingOut, selection, projection}
-use Rattle.algebra.specs.Cell.{plain, ok, out, breaks, yields, breaksSet, yieldsSet, breaksRenaming, yieldsRenaming, breaksOut, yieldsOut}
+use Rattle.algebra.specs.Cell.{plain, breaks, yields, breaksRenaming, yieldsRenaming, breaksOut, yieldsOut}
 use Rattle.node.specs.declared.nodes.BinaryOp.{BinaryOp}
 use Rattle.node.specs.declared.nodes.BinaryOp.the-variants.{Union, Difference, Join, Product}
 use Rattle.node.specs.declared.nodes.SetOp.the-variants.{Selection, Projection}
@@ -28,7 +28,7 @@ use Rattle.node.specs.declared.nodes.Node.the-variants.{Relation, Binary, WithS
 use Rattle.node.specs.Legal.{LegalNode}
 use Rattle.formula.specs.Expressions.{operatorOf, named, ofNode}
 use Rattle.formula.specs.StepCells.{named-is}
-use Rattle.typing.specs.Sets.{widthOf, placeColumn, heldAt, okAt, outAt, placeBit, TypeIn, wordsAt, breaking, comingOut, lacking, without, renamingBreaks, renamed, entriesHeld, relationWord, Laid, Breaks, Combined, NodeSets}
+use Rattle.typing.specs.Sets.{placeColumn, okAt, outAt, placeBit, TypeIn, wordsAt, breaking, comingOut, lacking, without, renamingBreaks, renamed, entriesHeld, relationWord, Laid, Breaks, SetLaid, RenamingLaid, OutLaid, NodeSets}
 use Rattle.typing.specs.SetLaws.{or-clear, or-none}
 
 -- the words of a list of words
@@ -93,11 +93,11 @@ lacking-bit x s i = bit-xor (bitOr x s) x i ∙ ap (λ (b : Bool). differs b (bi
     go false true = refl
     go false false = refl
 
-without-bit : (x s i : ℕ) → bit (without x s) i ≡ bit x i && not (bit s i)
+without-bit : (x s i : ℕ) → bit (without x s) i ≡ cond (bit s i) false (bit x i)
 unfolding without
 without-bit x s i = bit-xor (bitOr x s) s i ∙ ap (λ (b : Bool). differs b (bit s i)) (bit-or x s i) ∙ go (bit x i) (bit s i)
   where
-    go : (a b : Bool) → differs (a || b) b ≡ a && not b
+    go : (a b : Bool) → differs (a || b) b ≡ cond b false a
     go true true = refl
     go true false = refl
     go false true = refl
@@ -149,6 +149,25 @@ special-place word j h =
 
 -- ---- what the words of a node have to be
 
+-- an operator of one operand, on the attribute of a place: `broken` is its rule, `given` its result
+record Step (special entries : List ℕ) (e g : Expression) (broken given : ℕ → Bool → Bool) : Type 0 where
+  isOk : (j : ℕ) → okAt g special entries j ≡ okAt e special entries j && not (broken j (outAt e special entries j))
+  isOut : (j : ℕ) → outAt g special entries j ≡ given j (outAt e special entries j)
+
+-- b is what breaks the rule in word 1, where the operand has x; no entry breaks it
+record Front (broken : ℕ → Bool → Bool) (b x : ℕ) : Type 0 where
+  below : b < 2 ^ 64
+  bits : (i : ℕ) → i < 64 → bit b i ≡ broken i (bit x i)
+  free : (j : ℕ) → 64 ≤ j → (o : Bool) → broken j o ≡ false
+
+-- y is what comes out in word 1, where no attribute breaks the rule
+abbrev Gives : (ℕ → Bool → Bool) → (ℕ → Bool → Bool) → ℕ → ℕ → Type 0
+Gives broken given y x = (i : ℕ) → i < 64 → broken i (bit x i) ≡ false → bit y i ≡ given i (bit x i)
+
+-- no attribute breaks the rule
+abbrev Passes : (ℕ → Bool → Bool) → ℕ → (ℕ → ℕ) → Type 0
+Passes broken width x = (j : ℕ) → j < (width - 1) * 64 → broken j (placeBit x j) ≡ false
+
 module _ (special entries : List ℕ) (width : ℕ) (wide : 2 ≤ width) where
   -- the same words
   pub type-same : {e : Expression} {x y : ℕ → ℕ} → ((v : ℕ) → v < width → y v ≡ x v) → TypeIn e special entries width x → TypeIn e special entries width y
@@ -160,30 +179,30 @@ module _ (special entries : List ℕ) (width : ℕ) (wide : 2 ≤ width) where
         output = λ z j h. ap (λ (w : ℕ). bit w (j % 64)) (same (1 + j / 64) (omega arith)) ∙ t .output (sym none ∙ z) j h;
       }
 
-  -- one operand: `broken` and `given` are the operator's rule and result on the attribute of a place
-  module _ (e g : Expression) (broken given : ℕ → Bool → Bool) (isOk : (j : ℕ) → okAt g special entries j ≡ okAt e special entries j && not (broken j (outAt e special entries j))) (isOut : (j : ℕ) → outAt g special entries j ≡ given j (outAt e special entries j)) (x y : ℕ → ℕ) (t : TypeIn e special entries width x) where
-    unary-type : (y 0 ≡ 0 → (x 0 ≡ 0) × ((j : ℕ) → j < (width - 1) * 64 → broken j (placeBit x j) ≡ false)) → (x 0 ≡ 0 → ((j : ℕ) → j < (width - 1) * 64 → broken j (placeBit x j) ≡ false) → y 0 ≡ 0) → ((j : ℕ) → j < (width - 1) * 64 → broken j (placeBit x j) ≡ false → placeBit y j ≡ given j (placeBit x j)) → TypeIn g special entries width y
+  -- one operand
+  module _ {e g : Expression} {broken given : ℕ → Bool → Bool} (step : Step special entries e g broken given) (x y : ℕ → ℕ) (t : TypeIn e special entries width x) where
+    unary-type : (y 0 ≡ 0 → (x 0 ≡ 0) × Passes broken width x) → (x 0 ≡ 0 → Passes broken width x → y 0 ≡ 0) → ((j : ℕ) → j < (width - 1) * 64 → broken j (placeBit x j) ≡ false → placeBit y j ≡ given j (placeBit x j)) → TypeIn g special entries width y
     unary-type clear kept gives =
         record {
-          typed = λ z j h. isOk j ∙ rw (t .typed (clear z .0) j h) (ap not (sym (ap (broken j) (t .output (clear z .0) j h)) ∙ clear z .1 j h));
-          untyped = λ all. let z = t .untyped (λ j h. and-left (okAt e special entries j) _ (sym (isOk j) ∙ all j h)) in
-              kept z (λ j h. ap (broken j) (t .output z j h) ∙ not-true _ (and-right (okAt e special entries j) _ (sym (isOk j) ∙ all j h)));
-          output = λ z j h. gives j h (clear z .1 j h) ∙ ap (given j) (t .output (clear z .0) j h) ∙ sym (isOut j);
+          typed = λ z j h. step .isOk j ∙ rw (t .typed (clear z .0) j h) (ap not (sym (ap (broken j) (t .output (clear z .0) j h)) ∙ clear z .1 j h));
+          untyped = λ all. let z = t .untyped (λ j h. and-left (okAt e special entries j) _ (sym (step .isOk j) ∙ all j h)) in
+              kept z (λ j h. ap (broken j) (t .output z j h) ∙ not-true _ (and-right (okAt e special entries j) _ (sym (step .isOk j) ∙ all j h)));
+          output = λ z j h. gives j h (clear z .1 j h) ∙ ap (given j) (t .output (clear z .0) j h) ∙ sym (step .isOut j);
         }
 
     -- where only word 1 can break the rule
-    front-type : (b : ℕ) → b < 2 ^ 64 → y 0 ≡ bitOr (x 0) b → ((i : ℕ) → i < 64 → bit b i ≡ broken i (bit (x 1) i)) → ((j : ℕ) → 64 ≤ j → (o : Bool) → broken j o ≡ false) → ((i : ℕ) → i < 64 → broken i (bit (x 1) i) ≡ false → bit (y 1) i ≡ given i (bit (x 1) i)) → ((j : ℕ) → 64 ≤ j → j < (width - 1) * 64 → placeBit y j ≡ given j (placeBit x j)) → TypeIn g special entries width y
-    front-type b below is breaks free gives rest = unary-type clear kept (λ j h free. go j h free (decLt j 64))
+    front-type : (b : ℕ) → y 0 ≡ bitOr (x 0) b → Front broken b (x 1) → Gives broken given (y 1) (x 1) → ((j : ℕ) → 64 ≤ j → j < (width - 1) * 64 → placeBit y j ≡ given j (placeBit x j)) → TypeIn g special entries width y
+    front-type b is front gives rest = unary-type clear kept (λ j h free. go j h free (decLt j 64))
       where
         passes : b ≡ 0 → (j : ℕ) → Dec (j < 64) → broken j (placeBit x j) ≡ false
-        passes z j (yes less) = ap (broken j) (special-place x j less) ∙ sym (breaks j less) ∙ ap (λ (w : ℕ). bit w j) z ∙ bit-none j
-        passes z j (no more) = free j (omega arith) (placeBit x j)
+        passes z j (yes less) = ap (broken j) (special-place x j less) ∙ sym (front .bits j less) ∙ ap (λ (w : ℕ). bit w j) z ∙ bit-none j
+        passes z j (no more) = front .free j (omega arith) (placeBit x j)
 
-        clear : y 0 ≡ 0 → (x 0 ≡ 0) × ((j : ℕ) → j < (width - 1) * 64 → broken j (placeBit x j) ≡ false)
+        clear : y 0 ≡ 0 → (x 0 ≡ 0) × Passes broken width x
         clear z = let both = or-clear (x 0) b (sym is ∙ z) in (both .0, λ j h. passes (both .1) j (decLt j 64))
 
-        kept : x 0 ≡ 0 → ((j : ℕ) → j < (width - 1) * 64 → broken j (placeBit x j) ≡ false) → y 0 ≡ 0
-        kept z all = is ∙ or-none (x 0) b z (word-clear b below (λ i h. breaks i h ∙ ap (broken i) (sym (special-place x i h)) ∙ all i (omega arith)))
+        kept : x 0 ≡ 0 → Passes broken width x → y 0 ≡ 0
+        kept z all = is ∙ or-none (x 0) b z (word-clear b (front .below) (λ i h. front .bits i h ∙ ap (broken i) (sym (special-place x i h)) ∙ all i (omega arith)))
 
         go : (j : ℕ) → j < (width - 1) * 64 → broken j (placeBit x j) ≡ false → Dec (j < 64) → placeBit y j ≡ given j (placeBit x j)
         go j h free (yes less) = let at = special-place x j less in special-place y j less ∙ gives j less (ap (broken j) (sym at) ∙ free) ∙ ap (given j) (sym at)
@@ -270,43 +289,41 @@ module _ (special items : List ℕ) (count width : ℕ) (wide : 2 ≤ width) whe
           ∙ relation-bit items count r (1 + j / 64) (j % 64) fits (omega arith) (mod-lt j (lit< tt))
           ∙ rw (place, le-ltb j 64 (omega arith))
 
-  -- a node of one operand whose words are laid down
-  module _ (e g : Expression) (broken given : ℕ → Bool → Bool) (isOk : (j : ℕ) → okAt g special entries j ≡ okAt e special entries j && not (broken j (outAt e special entries j))) (isOut : (j : ℕ) → outAt g special entries j ≡ given j (outAt e special entries j)) where
-    laid-type : (b gives : ℕ) (entry : ℕ → ℕ) (from at : ℕ) (old sets : List ℕ) → Laid (bitOr (getD old from 0) b) gives entry at width old sets → TypeIn e special entries width (wordsAt old from) → b < 2 ^ 64 → ((i : ℕ) → i < 64 → bit b i ≡ broken i (bit (getD old (from + 1) 0) i)) → ((j : ℕ) → 64 ≤ j → (o : Bool) → broken j o ≡ false) → ((i : ℕ) → i < 64 → broken i (bit (getD old (from + 1) 0) i) ≡ false → bit gives i ≡ given i (bit (getD old (from + 1) 0) i)) → ((j : ℕ) → 64 ≤ j → bit (entry (1 + j / 64)) (j % 64) ≡ given j (placeBit (wordsAt old from) j)) → TypeIn g special entries width (wordsAt sets at)
-    laid-type b gives entry from at old sets laid t below breaks free gives-is rest =
-        front-type special entries width wide e g broken given isOk isOut (wordsAt old from) (wordsAt sets at) t b below
-        (rw (add-zero at, add-zero from) (laid .first))
-        breaks
-        free
-        (λ i h passes. ap (λ (x : ℕ). bit x i) (laid .second) ∙ gives-is i h passes)
-        (λ j some h. ap (λ (x : ℕ). bit x (j % 64)) (laid .rest .entries (1 + j / 64) (omega arith) (omega arith)) ∙ rest j some)
-
   module _ (e : Expression) (from at : ℕ) (old sets : List ℕ) (words : Words old) (t : TypeIn e special entries width (wordsAt old from)) where
     abbrev x : ℕ
     x = getD old (from + 1) 0
 
+    -- one operand, whose words are laid down
+    laid-type : {g : Expression} {broken given : ℕ → Bool → Bool} {b y : ℕ} {entry : ℕ → ℕ} → Step special entries e g broken given → Front broken b x → Gives broken given y x → ((j : ℕ) → 64 ≤ j → bit (entry (1 + j / 64)) (j % 64) ≡ given j (placeBit (wordsAt old from) j)) → Laid (bitOr (getD old from 0) b) y entry at width old sets → TypeIn g special entries width (wordsAt sets at)
+    laid-type {b = b} step front gives rest laid =
+        front-type special entries width wide step (wordsAt old from) (wordsAt sets at) t b
+        (rw (add-zero at, add-zero from) (laid .first))
+        front
+        (λ i h passes. ap (λ (x : ℕ). bit x i) (laid .second) ∙ gives i h passes)
+        (λ j some h. ap (λ (x : ℕ). bit x (j % 64)) (laid .rest .entries (1 + j / 64) (omega arith) (omega arith)) ∙ rest j some)
+
     module _ (s : AttrSet) (clear : Clear s) (small : bitsOf s < 65536) where
-      lacking-set : (i : ℕ) → i < 64 → bit (lacking x (bitsOf s)) i ≡ named s (placeColumn i) && not (bit x i)
-      lacking-set i h = lacking-bit x (bitsOf s) i ∙ ap (λ (n : Bool). n && not (bit x i)) (sym (named-place s clear small i h))
+      lacking-set : Front (λ j o. named s (placeColumn j) && not o) (lacking x (bitsOf s)) x
+      lacking-set =
+          record {
+            below = lacking-below x (bitsOf s) (words (from + 1)) (omega arith);
+            bits = λ i h. lacking-bit x (bitsOf s) i ∙ ap (λ (n : Bool). n && not (bit x i)) (sym (named-place s clear small i h));
+            free = λ j some o. rw (named-entry s j some);
+          }
 
-      lacking-small : lacking x (bitsOf s) < 2 ^ 64
-      lacking-small = lacking-below x (bitsOf s) (words (from + 1)) (omega arith)
-
-      selection-type : Laid (bitOr (getD old from 0) (lacking x (bitsOf s))) x (wordsAt old from) at width old sets → TypeIn (withSet selection (named s) e) special entries width (wordsAt sets at)
-      selection-type laid =
-          laid-type e (withSet selection (named s) e) (λ j. breaksSet plain selection (named s (placeColumn j))) (λ j. yieldsSet plain selection (named s (placeColumn j))) (λ j. refl) (λ j. refl) (lacking x (bitsOf s)) x (wordsAt old from) from at old sets laid t
-          lacking-small
+      selection-type : SetLaid Selection from (bitsOf s) at width old sets → TypeIn (withSet selection (named s) e) special entries width (wordsAt sets at)
+      selection-type =
+          laid-type {broken = λ j o. named s (placeColumn j) && not o} {given = λ j o. o}
+          (record { isOk = λ j. refl; isOut = λ j. refl })
           lacking-set
-          (λ j some o. rw (named-entry s j some))
           (λ i h passes. refl)
           (λ j some. refl)
 
-      projection-type : Laid (bitOr (getD old from 0) (lacking x (bitsOf s))) (bitsOf s) (λ v. 0) at width old sets → TypeIn (withSet projection (named s) e) special entries width (wordsAt sets at)
-      projection-type laid =
-          laid-type e (withSet projection (named s) e) (λ j. breaksSet plain projection (named s (placeColumn j))) (λ j. yieldsSet plain projection (named s (placeColumn j))) (λ j. refl) (λ j. refl) (lacking x (bitsOf s)) (bitsOf s) (λ v. 0) from at old sets laid t
-          lacking-small
+      projection-type : SetLaid Projection from (bitsOf s) at width old sets → TypeIn (withSet projection (named s) e) special entries width (wordsAt sets at)
+      projection-type =
+          laid-type {broken = λ j o. named s (placeColumn j) && not o} {given = λ j o. cond (named s (placeColumn j)) o false}
+          (record { isOk = λ j. refl; isOut = λ j. refl })
           lacking-set
-          (λ j some o. rw (named-entry s j some))
           (λ i h passes. sym (named-place s clear small i h) ∙ kept (named s (placeColumn i)) (bit x i) passes)
           (λ j some. bit-none (j % 64) ∙ rw (named-entry s j some))
         where
@@ -319,19 +336,16 @@ module _ (special items : List ℕ) (count width : ℕ) (wide : 2 ≤ width) whe
     power-small a is = let range = special-range a is in pow-lt {i = a} {j = 64} (omega arith)
 
     module _ (o : ℕ) (isOld : isSpecial o ≡ true) where
-      without-is : (v old : Bool) → v && not old ≡ cond old false v
-      without-is true true = refl
-      without-is true false = refl
-      without-is false true = refl
-      without-is false false = refl
-
-      projecting-out-type : Laid (bitOr (getD old from 0) (lacking x (2 ^ o))) (without x (2 ^ o)) (wordsAt old from) at width old sets → TypeIn (projectingOut o e) special entries width (wordsAt sets at)
-      projecting-out-type laid =
-          laid-type e (projectingOut o e) (λ j. breaksOut plain (eqb (placeColumn j) o)) (λ j. yieldsOut plain (eqb (placeColumn j) o)) (λ j. refl) (λ j. refl) (lacking x (2 ^ o)) (without x (2 ^ o)) (wordsAt old from) from at old sets laid t
-          (lacking-below x (2 ^ o) (words (from + 1)) (power-small o isOld))
-          (λ i h. lacking-bit x (2 ^ o) i ∙ ap (λ (b : Bool). b && not (bit x i)) (sym (is-place o isOld i h)))
-          (λ j some v. rw (is-entry o isOld j some))
-          (λ i h passes. without-bit x (2 ^ o) i ∙ without-is (bit x i) (bit (2 ^ o) i) ∙ ap (λ (b : Bool). cond b false (bit x i)) (sym (is-place o isOld i h)))
+      projecting-out-type : OutLaid from (2 ^ o) at width old sets → TypeIn (projectingOut o e) special entries width (wordsAt sets at)
+      projecting-out-type =
+          laid-type {broken = λ j. breaksOut plain (eqb (placeColumn j) o)} {given = λ j. yieldsOut plain (eqb (placeColumn j) o)}
+          (record { isOk = λ j. refl; isOut = λ j. refl })
+          (record {
+            below = lacking-below x (2 ^ o) (words (from + 1)) (power-small o isOld);
+            bits = λ i h. lacking-bit x (2 ^ o) i ∙ ap (λ (b : Bool). b && not (bit x i)) (sym (is-place o isOld i h));
+            free = λ j some v. rw (is-entry o isOld j some);
+          })
+          (λ i h passes. without-bit x (2 ^ o) i ∙ ap (λ (b : Bool). cond b false (bit x i)) (sym (is-place o isOld i h)))
           (λ j some. rw (is-entry o isOld j some))
 
       module _ (n : ℕ) (isNew : isSpecial n ≡ true) where
@@ -341,24 +355,32 @@ module _ (special items : List ℕ) (count width : ℕ) (wide : 2 ≤ width) whe
 
         renamed-bit : (i : ℕ) → bit (renamed x (2 ^ o) (2 ^ n)) i ≡ yieldsRenaming plain (bit (2 ^ o) i) (bit (2 ^ n) i) (bit x i)
         unfolding renamed
-        renamed-bit i = bit-or (without x (2 ^ o)) (2 ^ n) i ∙ ap (λ (b : Bool). b || bit (2 ^ n) i) (without-bit x (2 ^ o) i ∙ without-is (bit x i) (bit (2 ^ o) i)) ∙ go (bit (2 ^ n) i) (cond (bit (2 ^ o) i) false (bit x i))
+        renamed-bit i =
+            bit-or (without x (2 ^ o)) (2 ^ n) i
+            ∙ ap (λ (b : Bool). b || bit (2 ^ n) i) (without-bit x (2 ^ o) i)
+            ∙ or-comm (cond (bit (2 ^ o) i) false (bit x i)) (bit (2 ^ n) i)
+            ∙ go (bit (2 ^ n) i) (cond (bit (2 ^ o) i) false (bit x i))
           where
-            go : (new v : Bool) → v || new ≡ cond new true v
-            go true true = refl
-            go true false = refl
-            go false true = refl
-            go false false = refl
+            go : (new v : Bool) → new || v ≡ cond new true v
+            go true v = refl
+            go false v = refl
 
         breaks-below : renamingBreaks x (2 ^ o) (2 ^ n) < 2 ^ 64
         unfolding renamingBreaks
-        breaks-below = or-lt 64 (lacking x (2 ^ o)) (bitAnd x (2 ^ n)) (lacking-below x (2 ^ o) (words (from + 1)) (power-small o isOld)) (and-lt 64 x (2 ^ n) (words (from + 1)) (power-small n isNew))
+        breaks-below =
+            or-lt 64 (lacking x (2 ^ o)) (bitAnd x (2 ^ n))
+            (lacking-below x (2 ^ o) (words (from + 1)) (power-small o isOld))
+            (and-lt 64 x (2 ^ n) (words (from + 1)) (power-small n isNew))
 
-        renaming-type : Laid (bitOr (getD old from 0) (renamingBreaks x (2 ^ o) (2 ^ n))) (renamed x (2 ^ o) (2 ^ n)) (wordsAt old from) at width old sets → TypeIn (renaming o n e) special entries width (wordsAt sets at)
-        renaming-type laid =
-            laid-type e (renaming o n e) (λ j. breaksRenaming plain (eqb (placeColumn j) o) (eqb (placeColumn j) n)) (λ j. yieldsRenaming plain (eqb (placeColumn j) o) (eqb (placeColumn j) n)) (λ j. refl) (λ j. refl) (renamingBreaks x (2 ^ o) (2 ^ n)) (renamed x (2 ^ o) (2 ^ n)) (wordsAt old from) from at old sets laid t
-            breaks-below
-            (λ i h. breaks-bit i ∙ ap₂ (λ (a b : Bool). breaksRenaming plain a b (bit x i)) (sym (is-place o isOld i h)) (sym (is-place n isNew i h)))
-            (λ j some v. rw (is-entry o isOld j some, is-entry n isNew j some))
+        renaming-type : RenamingLaid from (2 ^ o) (2 ^ n) at width old sets → TypeIn (renaming o n e) special entries width (wordsAt sets at)
+        renaming-type =
+            laid-type {broken = λ j. breaksRenaming plain (eqb (placeColumn j) o) (eqb (placeColumn j) n)} {given = λ j. yieldsRenaming plain (eqb (placeColumn j) o) (eqb (placeColumn j) n)}
+            (record { isOk = λ j. refl; isOut = λ j. refl })
+            (record {
+              below = breaks-below;
+              bits = λ i h. breaks-bit i ∙ ap₂ (λ (a b : Bool). breaksRenaming plain a b (bit x i)) (sym (is-place o isOld i h)) (sym (is-place n isNew i h));
+              free = λ j some v. rw (is-entry o isOld j some, is-entry n isNew j some);
+            })
             (λ i h passes. renamed-bit i ∙ ap₂ (λ (a b : Bool). yieldsRenaming plain a b (bit x i)) (sym (is-place o isOld i h)) (sym (is-place n isNew i h)))
             (λ j some. rw (is-entry o isOld j some, is-entry n isNew j some))
 

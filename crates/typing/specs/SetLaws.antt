@@ -1,18 +1,18 @@
 -- Laws of sets for the code: the loops that lay down a node's words.
 use Prim.Native.Nat.{ℕ, _+_, _-_, _*_, _/_, _%_, _^_, _≤_, _<_, min}
-use mathlib.Core.Path.{_≡_, refl, sym, ap, ap₂, _∙_}
+use mathlib.Core.Path.{_≡_, refl, sym, ap₂, _∙_}
 use mathlib.Core.List.{List}
 use mathlib.Core.Logic.{_⊎_, inl, inr}
 use native.Mathlib.Nat.{eq-or-lt-of-le, add-zero, add-mul, one-mul, mul-le-mul-right}
 use native.Mathlib.Omega.{arith}
-use lib.Bits.{bitOr, bitAnd, and-le-l, and-le-r, or-add-and, or-zero-l}
+use lib.Bits.{bitOr, and-le-l, and-le-r, or-add-and, or-zero-l}
 use lib.ListN.{length, getD, set, length-set}
 use lib.Pow.{pow-mono}
 use lib.Seq.{getD-set-same, getD-set-other}
 use Rattle.bits.specs.Bit.{bit}
 use Rattle.bits.specs.PackFrom.{packFrom, from-none, from-lower, from-below, from-all, bit-digit}
 use Rattle.node.specs.declared.nodes.BinaryOp.{BinaryOp}
-use Rattle.typing.specs.Sets.{wordsAt, breaking, comingOut, entriesHeld, relationWord, Laying, Laid, Breaks, Combining, Combined}
+use Rattle.typing.specs.Sets.{wordsAt, breaking, comingOut, entriesHeld, relationWord, Laying, Laid, Combining, Combined}
 
 -- a node's words end where a later node's begin
 pub node-below : (l k width : ℕ) → l < k → l * width + width ≤ k * width

@@ -32,14 +32,7 @@ fn coming_out(op: BinaryOp, x: u64, y: u64) -> u64
 }
 
 // The words of a node of two operands, from their places to the node's.
-pub fn combine(
-    sets: &mut [u64],
-    op: BinaryOp,
-    left: usize,
-    right: usize,
-    at: usize,
-    width: usize,
-)
+pub fn combine(sets: &mut [u64], op: BinaryOp, left: usize, right: usize, at: usize, width: usize)
     requires { ⌜ (left + width ≤ at) × (right + width ≤ at) ⌝ }
     requires { ⌜ (1 ≤ width) × (at + width ≤ length (now sets)) ⌝ }
     ensures { λ _. ⌜ Combined op left right at width (now (sets .entry)) (now (sets .exit)) ⌝ }
@@ -57,14 +50,7 @@ pub fn combine(
 }
 
 // The words of a node with its operand's entries.
-pub fn keep_entries(
-    sets: &mut [u64],
-    from: usize,
-    at: usize,
-    width: usize,
-    broken: u64,
-    given: u64,
-)
+pub fn keep_entries(sets: &mut [u64], from: usize, at: usize, width: usize, broken: u64, given: u64)
     requires { ⌜ (from + width ≤ at) × (2 ≤ width) ⌝ }
     requires { ⌜ at + width ≤ length (now sets) ⌝ }
     ensures { λ _. ⌜ Laid (bitOr (getD (now (sets .entry)) from 0) broken) given (wordsAt (now (sets .entry)) from) at width (now (sets .entry)) (now (sets .exit)) ⌝ }
@@ -81,14 +67,7 @@ pub fn keep_entries(
 }
 
 // The words of a node without entries.
-pub fn drop_entries(
-    sets: &mut [u64],
-    from: usize,
-    at: usize,
-    width: usize,
-    broken: u64,
-    given: u64,
-)
+pub fn drop_entries(sets: &mut [u64], from: usize, at: usize, width: usize, broken: u64, given: u64)
     requires { ⌜ (from + width ≤ at) × (2 ≤ width) ⌝ }
     requires { ⌜ at + width ≤ length (now sets) ⌝ }
     ensures { λ _. ⌜ Laid (bitOr (getD (now (sets .entry)) from 0) broken) given (λ v. 0) at width (now (sets .entry)) (now (sets .exit)) ⌝ }
@@ -151,14 +130,7 @@ pub fn lay_relation(
 }
 
 // The words of a selection or a projection by the set with these bits.
-pub fn lay_with_set(
-    sets: &mut [u64],
-    op: SetOp,
-    from: usize,
-    s: u64,
-    at: usize,
-    width: usize,
-)
+pub fn lay_with_set(sets: &mut [u64], op: SetOp, from: usize, s: u64, at: usize, width: usize)
     requires { ⌜ (from + width ≤ at) × (2 ≤ width) ⌝ }
     requires { ⌜ at + width ≤ length (now sets) ⌝ }
     ensures { λ _. ⌜ SetLaid op from s at width (now (sets .entry)) (now (sets .exit)) ⌝ }
@@ -175,14 +147,7 @@ pub fn lay_with_set(
 }
 
 // The words of a renaming.
-pub fn lay_renaming(
-    sets: &mut [u64],
-    from: usize,
-    old: u8,
-    new: u8,
-    at: usize,
-    width: usize,
-)
+pub fn lay_renaming(sets: &mut [u64], from: usize, old: u8, new: u8, at: usize, width: usize)
     requires { ⌜ (old < 16) × (new < 16) ⌝ }
     requires { ⌜ (from + width ≤ at) × (2 ≤ width) ⌝ }
     requires { ⌜ at + width ≤ length (now sets) ⌝ }
@@ -191,17 +156,18 @@ pub fn lay_renaming(
     let x = sets[from + 1];
     let o = 1u64 << old;
     let n = 1u64 << new;
-    keep_entries(sets, from, at, width, ((x | o) ^ x) | (x & n), ((x | o) ^ o) | n);
+    keep_entries(
+        sets,
+        from,
+        at,
+        width,
+        ((x | o) ^ x) | (x & n),
+        ((x | o) ^ o) | n,
+    );
 }
 
 // The words of a projecting out.
-pub fn lay_projecting_out(
-    sets: &mut [u64],
-    from: usize,
-    old: u8,
-    at: usize,
-    width: usize,
-)
+pub fn lay_projecting_out(sets: &mut [u64], from: usize, old: u8, at: usize, width: usize)
     requires { ⌜ old < 16 ⌝ }
     requires { ⌜ (from + width ≤ at) × (2 ≤ width) ⌝ }
     requires { ⌜ at + width ≤ length (now sets) ⌝ }

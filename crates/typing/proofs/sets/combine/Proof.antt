@@ -69,7 +69,11 @@ loop-less : tie.Need-loop-less Inv-loop μ-loop
 loop-less c = search needs
 
 loop-again : tie.Need-loop-again Inv-loop μ-loop
-loop-again c = let args = c .before .before .before .before .before .before .before .before .before .args in let inv = c .before .before .before .before .before .loop .inv in let size = inv .2 .size in (omega arith, omega arith, combining-next (c .before .before .before .before .before .loop .v) (c .before .before .before .before .before .loop .sets) (c .before .before .before .before .before .loop .broken) (c .before .breaking .result) (c .coming-out .result) (inv .0) (omega arith) (omega arith) (omega arith) (c .before .breaking .ensures) (c .coming-out .ensures) (inv .2))
+loop-again c =
+    let args = c .before .before .before .before .before .before .before .before .before .args in
+    let inv = c .before .before .before .before .before .loop .inv in
+    let size = inv .2 .size in
+    (omega arith, omega arith, combining-next (c .before .before .before .before .before .loop .v) (c .before .before .before .before .before .loop .sets) (c .before .before .before .before .before .loop .broken) (c .before .breaking .result) (c .coming-out .result) (inv .0) (omega arith) (omega arith) (omega arith) (c .before .breaking .ensures) (c .coming-out .ensures) (inv .2))
 
 mul-sets-2 : tie.Need-mul-sets-2 Inv-loop μ-loop
 mul-sets-2 c = search needs
@@ -81,7 +85,11 @@ same-length : tie.Need-same-length Inv-loop μ-loop
 same-length c = let inv = c .before .loop .inv in simp length-set (inv .2 .size)
 
 returns : tie.Need-returns Inv-loop μ-loop
-returns c = let inv = c .before .loop .inv in let size = inv .2 .size in let all : c .before .loop .v ≡ c .before .before .before .before .before .args .width = omega arith in combining-end (c .before .before .before .before .before .args .width) (c .before .loop .sets) (c .before .loop .broken) (omega arith) (rw all at (inv .2))
+returns c =
+    let inv = c .before .loop .inv in
+    let size = inv .2 .size in
+    let all : c .before .loop .v ≡ c .before .before .before .before .before .args .width = omega arith in
+    combining-end (c .before .before .before .before .before .args .width) (c .before .loop .sets) (c .before .loop .broken) (omega arith) (rw all at (inv .2))
 
 pub combine-spec : {M : Type 1} → statement M
 combine-spec =

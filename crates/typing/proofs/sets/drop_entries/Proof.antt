@@ -39,7 +39,11 @@ loop-less : tie.Need-loop-less Inv-loop μ-loop
 loop-less c = search needs
 
 loop-again : tie.Need-loop-again Inv-loop μ-loop
-loop-again c = let args = c .before .before .before .args in let loop = c .before .loop in let size = loop .inv .2 .size in (omega arith, omega arith, laying-next (loop .v) (loop .sets) 0 (omega arith) refl (loop .inv .2))
+loop-again c =
+    let args = c .before .before .before .args in
+    let loop = c .before .loop in
+    let size = loop .inv .2 .size in
+    (omega arith, omega arith, laying-next (loop .v) (loop .sets) 0 (omega arith) refl (loop .inv .2))
 
 mul-sets-2 : tie.Need-mul-sets-2 Inv-loop μ-loop
 mul-sets-2 c = search needs
@@ -60,7 +64,12 @@ same-length : tie.Need-same-length Inv-loop μ-loop
 same-length c = let size = c .before .loop .inv .2 .size in simp length-set size
 
 returns : tie.Need-returns Inv-loop μ-loop
-returns c = let args = c .before .before .before .args in let loop = c .before .loop in let size = loop .inv .2 .size in let all : loop .v ≡ args .width = omega arith in laying-end (args .width) (loop .sets) _ _ (omega arith) (rw all at (loop .inv .2))
+returns c =
+    let args = c .before .before .before .args in
+    let loop = c .before .loop in
+    let size = loop .inv .2 .size in
+    let all : loop .v ≡ args .width = omega arith in
+    laying-end (args .width) (loop .sets) _ _ (omega arith) (rw all at (loop .inv .2))
 
 pub drop-entries-spec : {M : Type 1} → statement M
 drop-entries-spec =

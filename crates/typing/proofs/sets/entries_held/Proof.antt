@@ -13,13 +13,20 @@ abbrev μ-loop : tie.MeasureT-loop
 μ-loop items r from end x₀ i₀ x i = i
 
 loop-holds : tie.Need-loop-holds Inv-loop μ-loop
-loop-holds c = let args = c .args in let some = c .pre .0 .1 in (some, omega arith, sym (held-none (args .items .now) (args .r) (args .from) (args .end) some))
+loop-holds c =
+    let args = c .args in
+    let some = c .pre .0 .1 in
+    (some, omega arith, sym (held-none (args .items .now) (args .r) (args .from) (args .end) some))
 
 sub-i : tie.Need-sub-i Inv-loop μ-loop
 sub-i c = search needs
 
 mul-x : tie.Need-mul-x Inv-loop μ-loop
-mul-x c = let args = c .before .before .args in let is = c .before .loop .inv .2 in let below = held-below (args .items .now) (args .r) (args .from) (args .end) (c .before .loop .i) (c .loop-test .taken) (c .before .before .pre .1 .0) in omega arith
+mul-x c =
+    let args = c .before .before .args in
+    let is = c .before .loop .inv .2 in
+    let below = held-below (args .items .now) (args .r) (args .from) (args .end) (c .before .loop .i) (c .loop-test .taken) (c .before .before .pre .1 .0) in
+    omega arith
 
 mul-x-2 : tie.Need-mul-x-2 Inv-loop μ-loop
 mul-x-2 c = search needs
@@ -34,16 +41,25 @@ cast-x : tie.Need-cast-x Inv-loop μ-loop
 cast-x c = search needs
 
 add-x : tie.Need-add-x Inv-loop μ-loop
-add-x c = let args = c .before .before .before .args in let is = c .before .before .loop .inv .2 in let below = held-below (args .items .now) (args .r) (args .from) (args .end) (c .before .before .loop .i) (c .before .loop-test .taken) (c .before .before .before .pre .1 .0) in omega arith
+add-x c =
+    let args = c .before .before .before .args in
+    let is = c .before .before .loop .inv .2 in
+    let below = held-below (args .items .now) (args .r) (args .from) (args .end) (c .before .before .loop .i) (c .before .loop-test .taken) (c .before .before .before .pre .1 .0) in
+    omega arith
 
 loop-less : tie.Need-loop-less Inv-loop μ-loop
 loop-less c = search needs
 
 loop-again : tie.Need-loop-again Inv-loop μ-loop
-loop-again c = let args = c .before .before .before .args in (omega arith, omega arith, rw (c .before .before .loop .inv .2) (sym (held-lower (args .items .now) (args .r) (args .from) (args .end) (c .before .before .loop .i) (c .before .loop-test .taken) (c .before .before .loop .inv .1))))
+loop-again c =
+    let args = c .before .before .before .args in
+    (omega arith, omega arith, rw (c .before .before .loop .inv .2) (sym (held-lower (args .items .now) (args .r) (args .from) (args .end) (c .before .before .loop .i) (c .before .loop-test .taken) (c .before .before .loop .inv .1))))
 
 returns : tie.Need-returns Inv-loop μ-loop
-returns c = let args = c .before .before .args in let all : c .before .loop .i ≡ args .from = omega arith in (rw all at (c .before .loop .inv .2)) ∙ held-all (args .items .now) (args .r) (args .from) (args .end)
+returns c =
+    let args = c .before .before .args in
+    let all : c .before .loop .i ≡ args .from = omega arith in
+    (rw all at (c .before .loop .inv .2)) ∙ held-all (args .items .now) (args .r) (args .from) (args .end)
 
 pub entries-held-spec : {M : Type 1} → statement M
 entries-held-spec =

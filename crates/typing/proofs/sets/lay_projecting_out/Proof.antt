@@ -25,7 +25,9 @@ same-length c = search needs
 
 returns : tie.Need-returns
 unfolding lacking without
-returns c = let args = c .before .before .before .before .before .before .args in rw (shifted-one 64 (args .old) (omega arith)) at (c .before .before .keep-entries .ensures)
+returns c =
+    let args = c .before .before .before .before .before .before .args in
+    rw (shifted-one 64 (args .old) (omega arith)) at (c .before .before .keep-entries .ensures)
 
 pub lay-projecting-out-spec : {M : Type 1} → statement M
 lay-projecting-out-spec =

@@ -1,4 +1,4 @@
-use Prim.Native.Nat.{_+_, _-_, _*_, _≤_}
+use Prim.Native.Nat.{_-_, _≤_}
 use mathlib.Core.Path.{_≡_, refl}
 use native.Mathlib.Omega.{arith}
 use lib.ListN.{length-set}
@@ -30,7 +30,10 @@ lesser-requires : tie.Need-lesser-requires Inv-loop μ-loop
 lesser-requires c κs = search needs
 
 entries-held-requires : tie.Need-entries-held-requires Inv-loop μ-loop
-entries-held-requires c κs = let end = c .lesser .ensures in let wide = c .before .before .before .before .before .pre .1 .0 in ((c .before .before .before .before .before .pre .0 .0, omega arith), (omega arith, omega arith))
+entries-held-requires c κs =
+    let end = c .lesser .ensures in
+    let wide = c .before .before .before .before .before .pre .1 .0 in
+    ((c .before .before .before .before .before .pre .0 .0, omega arith), (omega arith, omega arith))
 
 add-sets : tie.Need-add-sets Inv-loop μ-loop
 add-sets c = search needs
@@ -48,7 +51,11 @@ loop-less : tie.Need-loop-less Inv-loop μ-loop
 loop-less c = search needs
 
 loop-again : tie.Need-loop-again Inv-loop μ-loop
-loop-again c = let args = c .before .before .before .before .before .before .args in let loop = c .before .before .before .loop in let size = loop .inv .2 .size in (omega arith, omega arith, laying-next (loop .v) (loop .sets) _ (omega arith) (relation-word (args .items .now) (args .count) (args .r) (loop .v) _ _ _ refl (c .before .lesser .ensures) (c .entries-held .ensures)) (loop .inv .2))
+loop-again c =
+    let args = c .before .before .before .before .before .before .args in
+    let loop = c .before .before .before .loop in
+    let size = loop .inv .2 .size in
+    (omega arith, omega arith, laying-next (loop .v) (loop .sets) _ (omega arith) (relation-word (args .items .now) (args .count) (args .r) (loop .v) _ _ _ refl (c .before .lesser .ensures) (c .entries-held .ensures)) (loop .inv .2))
 
 mul-sets-2 : tie.Need-mul-sets-2 Inv-loop μ-loop
 mul-sets-2 c = search needs
@@ -69,7 +76,12 @@ same-length : tie.Need-same-length Inv-loop μ-loop
 same-length c = let size = c .before .loop .inv .2 .size in simp length-set size
 
 returns : tie.Need-returns Inv-loop μ-loop
-returns c = let args = c .before .before .before .before .args in let loop = c .before .loop in let size = loop .inv .2 .size in let all : loop .v ≡ args .width = omega arith in laying-end (args .width) (loop .sets) _ _ (omega arith) (rw all at (loop .inv .2))
+returns c =
+    let args = c .before .before .before .before .args in
+    let loop = c .before .loop in
+    let size = loop .inv .2 .size in
+    let all : loop .v ≡ args .width = omega arith in
+    laying-end (args .width) (loop .sets) _ _ (omega arith) (rw all at (loop .inv .2))
 
 pub lay-relation-spec : {M : Type 1} → statement M
 lay-relation-spec =

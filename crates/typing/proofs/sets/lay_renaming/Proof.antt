@@ -28,7 +28,11 @@ same-length c = search needs
 
 returns : tie.Need-returns
 unfolding lacking without renamingBreaks renamed
-returns c = let args = c .before .before .before .before .before .before .args in let old = c .before .before .before .before .before .before .pre .0 .0 in let new = c .before .before .before .before .before .before .pre .0 .1 in rw (shifted-one 64 (args .old) (omega arith), shifted-one 64 (args .new) (omega arith)) at (c .before .before .keep-entries .ensures)
+returns c =
+    let args = c .before .before .before .before .before .before .args in
+    let old = c .before .before .before .before .before .before .pre .0 .0 in
+    let new = c .before .before .before .before .before .before .pre .0 .1 in
+    rw (shifted-one 64 (args .old) (omega arith), shifted-one 64 (args .new) (omega arith)) at (c .before .before .keep-entries .ensures)
 
 pub lay-renaming-spec : {M : Type 1} → statement M
 lay-renaming-spec =
