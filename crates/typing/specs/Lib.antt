@@ -1,3 +1,7 @@
+pub mod Sets
+pub mod SetLaws
+pub mod SetCells
+pub mod Filled
 pub mod Lanes
 pub mod LaneLaws
 pub mod LaneCells

@@ -1,8 +1,10 @@
 // Typing: whether a schema types a node, and the output record.
+mod filled;
 mod filling;
 mod lanes;
 mod operation;
 mod output;
+mod sets;
 
 pub use operation::Answer;
 pub use operation::type_table;
