@@ -44,9 +44,12 @@ pub record Resumed (m : ℕ) (bytes special items spare : List ℕ) (found at r 
   pub rest : readRecords m bytes ≡ precedeAll done (readRecords (m - r) (drop at bytes))
 
 -- a refused schema has no entries to stand anywhere
-pub refused-free : {s : SchemaReading} (x : Refusal) (entries items : List ℕ) → s ≡ readingOf (refusedSchema x) → EntriesStand (s .judgement) entries items
+pub refused-free : {s : SchemaReading} (x : Refusal) (entries items spare : List ℕ) → s ≡ readingOf (refusedSchema x) → EntriesStand (s .judgement) entries items × (s .count ≤ length spare)
 unfolding readingOf refusedSchema
-refused-free x entries items is read = absurd (let other : Refused x ≡ Read = sym (ap (λ (t : SchemaReading). t .judgement) is) ∙ read in let z : _≡_ {A = ℕ} 0 1 = cc in omega arith)
+refused-free x entries items spare is = (λ read. absurd (never (sym (ap (λ (t : SchemaReading). t .judgement) is) ∙ read)), rw is (omega arith))
+  where
+    never : Refused x ≡ Read → ⊥
+    never same = let z : _≡_ {A = ℕ} 0 1 = cc in omega arith
 
 -- room in a slice of the same length
 pub room-same : (size : ℕ) (slice others : List ℕ) → length others ≡ length slice → RoomFor size slice → RoomFor size others
@@ -232,3 +235,11 @@ module _ {m : ℕ} {bytes special items spare : List ℕ} {found at r : ℕ} (h 
       let at-last : m - r ≡ 0 = omega arith in
       let stands : take found items ≡ entriesOf (h .done) = rw at-last at (table-all (h .table) small) in
       rw is (ap₂ (λ (s : List ℕ) (n : ℕ). record { judgement = Read; special = s; count = n }) (h .maps) number, rw (← number) stands)
+
+  -- a slice with room for the bytes has room for the entries
+  pub resumed-fits : found ≤ 255 → (slice : List ℕ) → RoomFor (length bytes) slice → found ≤ length slice
+  resumed-fits under slice room =
+      let least = table-least (h .table) in
+      let short = h .short in
+      let inside = h .inside in
+      room found (omega arith) (omega arith)

@@ -66,6 +66,7 @@ pub fn read_schema(bytes: &[u8], m: u8, items: &mut [u32], spare: &mut [u32]) ->
     requires { ⌜ RoomFor (length (now bytes)) (now items) × RoomFor (length (now bytes)) (now spare) ⌝ }
     ensures { λ s. ⌜ s ≡ readingOf (schemaReading m (now (bytes .entry))) ⌝ }
     ensures { λ s. ⌜ EntriesStand (s .judgement) (schemaReading m (now (bytes .entry)) .entries) (now (items .exit)) ⌝ }
+    ensures { λ s. ⌜ s .count ≤ length (now (spare .exit)) ⌝ }
 {
     let mut special = [0u16; 8];
     let mut count = 0;

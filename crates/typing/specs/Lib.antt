@@ -1,13 +1,9 @@
+pub mod Output
+pub mod OutputLaws
 pub mod Sets
 pub mod SetLaws
 pub mod SetCells
-pub mod Filled
-pub mod Lanes
-pub mod LaneLaws
-pub mod LaneCells
 pub mod Filling
-pub mod Output
-pub mod OutputLaws
 pub mod Judged
 pub mod Typing
 pub mod TypingLaws

@@ -1,14 +1,14 @@
 -- Typing over a membership table, by the cells of the node's expression: "s is allowed in a column when an attribute of that column, held by exactly the relations in s, breaks no rule in the node's expression; the output bit says whether the result then has it" (document 01).
 use Prim.Native.Nat.{ℕ}
-use mathlib.Core.Bool.{Bool, cond, _&&_}
-use mathlib.Core.List.{List, [], _∷_}
+use mathlib.Core.Bool.{Bool, _&&_}
+use mathlib.Core.List.{List}
 use lib.ListN.{length, getD}
 use Rattle.bits.specs.AllBelow.{allBelow}
 use Rattle.bits.specs.Bit.{bit}
 use Rattle.bits.specs.Pack.{pack}
 use Rattle.algebra.specs.Expression.{Expression}
 use Rattle.algebra.specs.Cell.{plain, out, ok}
-use Rattle.membership.specs.Entries.{attributeOf}
+use Rattle.membership.specs.Holders.{kept}
 
 -- the relations that have special attribute i, by the maps of their records
 abbrev pub specialHolders : List ℕ → ℕ → ℕ → Bool
@@ -26,5 +26,4 @@ outputMap e special = pack 16 (λ i. out plain e i (specialHolders special i))
 
 -- the ordinary attributes of the output
 abbrev pub outputList : Expression → List ℕ → List ℕ
-outputList e [] = []
-outputList e (x ∷ xs) = cond (out plain e 0 (bit x)) (attributeOf x ∷ outputList e xs) (outputList e xs)
+outputList e entries = kept (λ x. out plain e 0 (bit x)) entries

@@ -1,13 +1,13 @@
 -- The output record is a type record, and what it says about each attribute is what the attribute's cell says.
 use Prim.Native.Nat.{ℕ, zero, suc, _%_, _≤_, _<_}
-use mathlib.Core.Path.{_≡_, refl, sym, _∙_}
+use mathlib.Core.Path.{_≡_, refl, sym, ap, _∙_}
 use mathlib.Core.Bool.{Bool, true, false, cond}
 use mathlib.Core.List.{List, [], _∷_}
-use native.Mathlib.Nat.{lt-of-lt-of-le}
+use native.Mathlib.Nat.{lt-of-lt-of-le, min-le-right}
 use native.Mathlib.Omega.{arith}
 use borrow.Author.Tests.{eqb-true, eq-eqb, ne-eqb}
 use lib.Dec.{eqb, lit<}
-use lib.ListN.{length, getD}
+use lib.ListN.{length, getD, take, length-take}
 use Rattle.bits.specs.Bit.{bit}
 use Rattle.bits.specs.Pack.{pack-below}
 use Rattle.bits.specs.Rising.{member, Rising, rising-lower, rising-above}
@@ -16,11 +16,14 @@ use Rattle.algebra.specs.Cell.{plain, out, ok}
 use Rattle.algebra.specs.CellLaws.{cell-depends}
 use Rattle.type_record.specs.Record.{TypeRecord}
 use Rattle.type_record.specs.RecordBytes.{IsRecord}
+use Rattle.type_record.specs.WritingLaws.{Ordinaries}
+use Rattle.membership.specs.Holders.{ItemsFit}
+use Rattle.membership.specs.HolderLaws.{items-taken, taken-below}
 use Rattle.membership.specs.Entries.{attributeOf, subsetOf, holdersIn}
 use Rattle.membership.specs.EnterLaws.{RisingEntries, subset-bit}
 use Rattle.membership.specs.TableLaws.{Below}
 use Rattle.typing.specs.Output.{outputMap, outputList}
-use Rattle.typing.specs.Judged.{map-even, none-held}
+use Rattle.typing.specs.OutputLaws.{map-even, none-held}
 
 -- the output record over a table
 unfoldable pub outputRecord : Expression → List ℕ → List ℕ → TypeRecord
@@ -56,6 +59,22 @@ output-below e (x ∷ xs) h i = go (out plain e 0 (bit x)) (output-below e xs (h
     go true rest zero = let below = h .0 in omega arith
     go true rest (suc i) = rest i
     go false rest i = rest i
+
+-- ---- its list in a slice
+
+module _ (e : Expression) (items : List ℕ) (count : ℕ) {n : ℕ} (list : List ℕ) (number : n ≡ length (outputList e (take count items))) (is : take n list ≡ outputList e (take count items)) where
+  pub listed-reaches : n ≤ length list
+  listed-reaches =
+      let same = ap length is in
+      let size = length-take n list in
+      let least = min-le-right n (length list) in
+      omega arith
+
+  pub listed-most : ItemsFit items count → count ≤ 255 → (length (take n list) ≤ 255) × Ordinaries (take n list)
+  listed-most fit few =
+      let size = items-taken fit in
+      let fewer = output-few e (take count items) in
+      rw is (omega arith, output-below e (take count items) (taken-below fit))
 
 -- ---- the record
 

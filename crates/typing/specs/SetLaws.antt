@@ -22,6 +22,25 @@ node-below l k width h =
     let one = one-mul width in
     omega arith
 
+-- the words of the nodes up to k
+pub node-room : (k width size : ℕ) → k * width + width ≤ size → (k + 1) * width ≤ size
+node-room k width size h =
+    let step = add-mul k 1 width in
+    let one = one-mul width in
+    omega arith
+
+-- at most 64 nodes and 255 entries: six words a node
+pub words-most : (k count : ℕ) → k < 64 → count ≤ 255 → (k + 1) * (2 + (count + 63) / 64) ≤ 384
+words-most k count below few =
+    let nodes = mul-le-mul-right {m = k + 1} {n = 64} (2 + (count + 63) / 64) (omega arith) in
+    omega arith
+
+pub node-words : (k width size : ℕ) → (k + 1) * width ≤ size → k * width + width ≤ size
+node-words k width size h =
+    let step = add-mul k 1 width in
+    let one = one-mul width in
+    omega arith
+
 -- ---- words that are 0
 
 pub or-clear : (a b : ℕ) → bitOr a b ≡ 0 → (a ≡ 0) × (b ≡ 0)

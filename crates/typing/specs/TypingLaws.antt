@@ -1,11 +1,14 @@
 -- Laws of Typing: what the code finds is what the definitions say, the results after each refusal, and after none.
-use Prim.Native.Nat.{ℕ, _+_, _*_, _%_, _≤_}
+use Prim.Native.Nat.{ℕ, _+_, _*_, _/_, _%_, _^_, _≤_, _<_}
 use mathlib.Core.Path.{_≡_, refl, sym, ap, ap₂, _∙_}
-use mathlib.Core.Bool.{Bool, true, false}
+use mathlib.Core.Bool.{true, false}
 use mathlib.Core.List.{List}
 use lib.Dec.{eqb}
+use native.Mathlib.Nat.{add-zero}
+use native.Mathlib.Omega.{arith}
+use Rattle.bits.specs.Bit.{bit}
+use borrow.Author.Tests.{eq-eqb, ne-eqb}
 use lib.ListN.{length, getD, take}
-use Rattle.bits.specs.AllBelow.{allBelow}
 use Rattle.bits.specs.Tab.{over}
 use Rattle.bits.specs.Word.{Bytes}
 use Rattle.refusal.specs.declared.Refusal.{Refusal}
@@ -13,26 +16,20 @@ use Rattle.expression.specs.declared.files.Acceptance.the-variants.{Accepted, R
 use Rattle.expression.specs.Admission.{asked, sliced}
 use Rattle.algebra.specs.Expression.{Expression, Legal}
 use Rattle.formula.specs.Expressions.{expressionAt}
+use Rattle.bits.specs.Pack.{pack-below}
 use Rattle.type_record.specs.Record.{TypeRecord, recordSize, recordBytes}
-use Rattle.schema.specs.Schema.{recordsRead, readRecords, entriesOf, mapsOf, schemaReading, WritesFrom}
-use Rattle.schema.specs.TableLaws.{ReadSchema, schema-read, read-schema, read-entries, read-zeros, read-table}
+use Rattle.schema.specs.Schema.{Schema, recordsRead, readRecords, entriesOf, mapsOf, schemaReading, readingOf, EntriesStand, WritesFrom}
+use Rattle.schema.specs.TableLaws.{schema-read, read-schema, read-entries, read-table}
 use Rattle.schema.specs.declared.reading.Judgement.the-variants.{Read, Refused as SchemaRefused}
-use Rattle.schema.specs.declared.reading.Schema.{Schema}
-use Rattle.typing.specs.Filling.{NodeLanes}
+use Rattle.schema.specs.declared.reading.SchemaReading.{SchemaReading}
+use Rattle.typing.specs.Sets.{widthOf, TypeIn, wordsAt}
+use Rattle.typing.specs.Filling.{Filled}
 use Rattle.typing.specs.Output.{typedIn, outputMap, outputList}
-use Rattle.typing.specs.OutputLaws.{mapIn, listIn}
-use Rattle.typing.specs.Judged.{lanesOf, TableItems, typed-lanes, map-is, list-is, map-even}
+use Rattle.typing.specs.OutputLaws.{map-even}
+use Rattle.typing.specs.Judged.{OutputBits, typed-words, map-is, entry-output}
 use Rattle.typing.specs.Typing.{tableAnswer, tableOut, schemaAnswer, schemaOut, typingAnswer, typingOut}
 use Rattle.typing.specs.declared.operation.Answer.{Answer}
 use Rattle.typing.specs.declared.operation.Answer.the-variants.{Typed, Untyped, Refused}
-
--- a table that was read: it can be written, and there are zeros after its last entry
-pub record ReadTable (special items : List ℕ) (count : ℕ) : Type 0 where
-  pub writes : WritesFrom special items count
-  pub zeros : (i : ℕ) → count ≤ i → getD items i 0 ≡ 0
-
-pub table-items : {special items : List ℕ} {count : ℕ} → ReadTable special items count → TableItems items count
-table-items t = record { size = t .writes .size; few = t .writes .few; zeros = t .zeros }
 
 -- ---- over a table
 
@@ -54,31 +51,52 @@ module _ (e : Expression) (special entries : List ℕ) where
   unfolding tableOut
   out-untyped out fails = rw fails
 
-module _ (file : List ℕ) (m k : ℕ) (legal : Legal m (expressionAt file k)) (special items : List ℕ) (count : ℕ) (allowed output : List ℕ) (table : ReadTable special items count) (lanes : NodeLanes file special items (lanesOf count) k allowed output) where
+-- the words of node k's type say whether it is typed, and its output
+module _ (file : List ℕ) (m k : ℕ) (legal : Legal m (expressionAt file k)) (special items : List ℕ) (count : ℕ) (small : (r : ℕ) → getD special r 0 < 65536) (table : WritesFrom special items count) (sets : List ℕ) (filled : Filled file special (take count items) (widthOf count) (k + 1) sets) (below : (p : ℕ) → getD sets p 0 < 2 ^ 64) where
   abbrev e : Expression
   e = expressionAt file k
 
-  typed-is : (t : Bool) → t ≡ allBelow (lanesOf count) (λ b. eqb (getD allowed (k * 48 + b) 0) 255) → t ≡ typedIn e special (take count items)
-  typed-is t is = is ∙ typed-lanes m e legal special items count k allowed output (table-items table) (lanes .lane)
+  -- the place of its words
+  abbrev start : ℕ
+  start = k * widthOf count
 
-  pub table-untyped : (out : List ℕ) (t : Bool) → t ≡ false → t ≡ allBelow (lanesOf count) (λ b. eqb (getD allowed (k * 48 + b) 0) 255) → (Untyped ≡ tableAnswer e special (take count items)) × (out ≡ tableOut e special (take count items) out)
-  table-untyped out t fails is = let not-typed = sym (typed-is t is) ∙ fails in (sym (answer-untyped e special (take count items) not-typed), sym (out-untyped e special (take count items) out not-typed))
+  t : TypeIn e special (take count items) (widthOf count) (wordsAt sets start)
+  t = filled .node k (omega arith)
 
-  -- the record that the lanes say is the output's
-  pub table-typed : (out written : List ℕ) (t : Bool) (size : ℕ) → t ≡ true → t ≡ allBelow (lanesOf count) (λ b. eqb (getD allowed (k * 48 + b) 0) 255) → size ≡ recordSize (length (listIn items count output k)) → written ≡ over (recordBytes (mapIn output k) (listIn items count output k)) out → (Typed size ≡ tableAnswer e special (take count items)) × (written ≡ tableOut e special (take count items) out)
-  table-typed out written t size holds is size-is wrote =
-      let typed = sym (typed-is t is) ∙ holds in
-      let list = list-is m e legal special items count k allowed output (table-items table) (lanes .lane) typed in
-      let map = map-is m e legal special items count k allowed output (table-items table) (lanes .lane) typed in (
-        ap Typed (size-is ∙ ap (λ (l : List ℕ). recordSize (length l)) list) ∙ sym (answer-typed e special (take count items) typed),
-        wrote ∙ ap₂ (λ (x : ℕ) (l : List ℕ). over (recordBytes x l) out) map list ∙ sym (out-typed e special (take count items) out typed),
-      )
+  first-is : wordsAt sets start 0 ≡ getD sets start 0
+  first-is = ap (λ (p : ℕ). getD sets p 0) (add-zero start)
 
-  -- bit 0 of its map is clear
-  pub found-even : (t : Bool) → t ≡ true → t ≡ allBelow (lanesOf count) (λ b. eqb (getD allowed (k * 48 + b) 0) 255) → mapIn output k % 2 ≡ 0
-  found-even t holds is =
-      let typed = sym (typed-is t is) ∙ holds in
-      ap (λ (x : ℕ). x % 2) (map-is m e legal special items count k allowed output (table-items table) (lanes .lane) typed) ∙ map-even m e legal special (table .writes .even)
+  typed-is : eqb (wordsAt sets start 0) 0 ≡ typedIn e special (take count items)
+  typed-is = typed-words m e legal special items count small (table .fit .enough) (wordsAt sets start) (λ v. below (start + v)) t
+
+  pub table-untyped : (out : List ℕ) → (getD sets start 0 ≡ 0 → ⊥) → (Untyped ≡ tableAnswer e special (take count items)) × (out ≡ tableOut e special (take count items) out)
+  table-untyped out broken =
+      let fails = sym typed-is ∙ ne-eqb (wordsAt sets start 0) 0 (λ z. broken (sym first-is ∙ z)) in
+      (sym (answer-untyped e special (take count items) fails), sym (out-untyped e special (take count items) out fails))
+
+  module _ (clear : getD sets start 0 ≡ 0) where
+    map-found : getD sets (start + 1) 0 ≡ outputMap e special
+    map-found = map-is m e legal special items count small (table .fit .enough) (wordsAt sets start) (λ v. below (start + v)) t (first-is ∙ clear)
+
+    pub output-bits : start + widthOf count ≤ length sets → OutputBits e items count sets (start + 2)
+    output-bits fits =
+        record {
+          inside = omega arith;
+          bits = λ i h. let from : start + 2 + i / 64 ≡ start + (2 + i / 64) = omega arith in
+              ap (λ (p : ℕ). bit (getD sets p 0) (i % 64)) from ∙ entry-output m e legal special items count small (table .fit .enough) (wordsAt sets start) (λ v. below (start + v)) t (first-is ∙ clear) i h;
+        }
+
+    -- its map is of two bytes, and bit 0 is clear
+    pub map-fits : (getD sets (start + 1) 0 < 65536) × (getD sets (start + 1) 0 % 2 ≡ 0)
+    unfolding outputMap
+    map-fits = (rw map-found (pack-below 16 _), ap (λ (x : ℕ). x % 2) map-found ∙ map-even m e legal special (table .even))
+
+    pub table-typed : (out written listed : List ℕ) (size : ℕ) → listed ≡ outputList e (take count items) → size ≡ recordSize (length listed) → written ≡ over (recordBytes (getD sets (start + 1) 0) listed) out → (Typed size ≡ tableAnswer e special (take count items)) × (written ≡ tableOut e special (take count items) out)
+    table-typed out written listed size list-is size-is wrote =
+        let typed = sym typed-is ∙ eq-eqb (wordsAt sets start 0) 0 (first-is ∙ clear) in (
+          ap Typed (size-is ∙ ap (λ (l : List ℕ). recordSize (length l)) list-is) ∙ sym (answer-typed e special (take count items) typed),
+          wrote ∙ ap₂ (λ (x : ℕ) (l : List ℕ). over (recordBytes x l) out) map-found list-is ∙ sym (out-typed e special (take count items) out typed),
+        )
 
 -- ---- over a schema
 
@@ -87,16 +105,35 @@ module _ (e : Expression) (s : Schema) (out : List ℕ) where
   unfolding schemaAnswer schemaOut
   schema-stops r is = rw is (refl, refl)
 
-  pub schema-goes : s .judgement ≡ Read → (t : Answer) (written : List ℕ) → t ≡ tableAnswer e (s .special) (take (s .entries .count) (s .entries .items)) → written ≡ tableOut e (s .special) (take (s .entries .count) (s .entries .items)) out → (t ≡ schemaAnswer e s) × (written ≡ schemaOut e s out)
+  pub schema-goes : s .judgement ≡ Read → (t : Answer) (written : List ℕ) → t ≡ tableAnswer e (s .special) (s .entries) → written ≡ tableOut e (s .special) (s .entries) out → (t ≡ schemaAnswer e s) × (written ≡ schemaOut e s out)
   unfolding schemaAnswer schemaOut
   schema-goes is t written answered wrote = rw is (answered, wrote)
 
+-- what is found in the bytes, by the reading that was handed on
+pub read-stopped : (m : ℕ) (bytes : List ℕ) (x : SchemaReading) (r : Refusal) → x ≡ readingOf (schemaReading m bytes) → x .judgement ≡ SchemaRefused r → schemaReading m bytes .judgement ≡ SchemaRefused r
+unfolding readingOf
+read-stopped m bytes x r is said = sym (ap (λ (y : SchemaReading). y .judgement) is) ∙ said
+
 -- a schema that was read has such a table
-pub schema-table : (m : ℕ) (bytes : List ℕ) (s : Schema) → m ≤ 8 → Bytes bytes → s ≡ schemaReading m bytes → s .judgement ≡ Read → ReadTable (s .special) (s .entries .items) (s .entries .count)
-schema-table m bytes s most below is read = rw is (made (schema-read m bytes (rw is at read)))
-  where
-    made : (ts : List TypeRecord) × ReadSchema m bytes (schemaReading m bytes) ts → ReadTable (schemaReading m bytes .special) (schemaReading m bytes .entries .items) (schemaReading m bytes .entries .count)
-    made r = record { writes = read-table m bytes (schemaReading m bytes) (r .0) most below (r .1); zeros = read-zeros m bytes (schemaReading m bytes) (r .0) (r .1) }
+pub record TableRead (m : ℕ) (bytes items : List ℕ) (x : SchemaReading) : Type 0 where
+  pub table : WritesFrom (x .special) items (x .count)
+  pub special : x .special ≡ schemaReading m bytes .special
+  pub entries : take (x .count) items ≡ schemaReading m bytes .entries
+  pub judged : schemaReading m bytes .judgement ≡ Read
+
+pub schema-table : (m : ℕ) (bytes items : List ℕ) (x : SchemaReading) → m ≤ 8 → Bytes bytes → x ≡ readingOf (schemaReading m bytes) → EntriesStand (x .judgement) (schemaReading m bytes .entries) items → x .judgement ≡ Read → TableRead m bytes items x
+unfolding readingOf
+schema-table m bytes items x most below is stands read =
+    let judged = sym (ap (λ (y : SchemaReading). y .judgement) is) ∙ read in
+    let special = ap (λ (y : SchemaReading). y .special) is in
+    let number = ap (λ (y : SchemaReading). y .count) is in
+    let found = schema-read m bytes judged in
+    record {
+      table = rw (special, number) (read-table m bytes (schemaReading m bytes) (found .0) items most below (found .1) (stands read));
+      special = special;
+      entries = rw number (stands read);
+      judged = judged;
+    }
 
 -- ---- the answer and the result slice
 

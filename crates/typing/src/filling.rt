@@ -1,16 +1,61 @@
-// The lanes of all nodes up to the one that is asked.
+// The types of all nodes up to the one that is asked.
 ghost use mathlib.Core.Path.{_≡_};
 ghost use Prim.Native.Nat.{_+_, _*_, _≤_, _<_};
-ghost use lib.ListN.{length};
+ghost use lib.ListN.{length, take};
 ghost use Rattle.expression.specs.declared.files.Acceptance.the-variants.{Accepted};
 ghost use Rattle.expression.specs.ReadFile.{acceptance, sizeAt};
 ghost use Rattle.formula.specs.Filling.{Here};
-ghost use Rattle.typing.specs.Filling.{NodeLanes, Filled};
-use crate::lanes::node_lane;
+ghost use Rattle.node.specs.Legal.{LegalNode};
+ghost use Rattle.typing.specs.Sets.{widthOf, NodeSets};
+ghost use Rattle.typing.specs.Filling.{Filled};
+use crate::sets::combine;
+use crate::sets::lay_projecting_out;
+use crate::sets::lay_relation;
+use crate::sets::lay_renaming;
+use crate::sets::lay_with_set;
+use node::Node;
 use node::decode;
 use node::size_of;
 
-// Reads node k at byte `at` of the file, fills its lanes, and gives the byte after it.
+// The words of node k, whose operands' words are there.
+fn lay_node(
+    node: Node,
+    m: u8,
+    k: u8,
+    special: &[u16],
+    items: &[u32],
+    count: usize,
+    width: usize,
+    sets: &mut [u64],
+)
+    requires { ⌜ (m ≤ 8) × LegalNode m k node ⌝ }
+    requires { ⌜ (length (now special) ≡ 8) × (count ≤ length (now items)) ⌝ }
+    requires { ⌜ (width ≡ widthOf count) × (k * width + width ≤ length (now sets)) ⌝ }
+    ensures { λ _. ⌜ NodeSets (now (special .entry)) (now (items .entry)) count width k (now (sets .entry)) (now (sets .exit)) node ⌝ }
+{
+    let at = k as usize * width;
+    match node {
+        Node::Relation(r) => {
+            let map = special[r as usize] as u64;
+            lay_relation(sets, map, items, count, r, at, width);
+        }
+        Node::Binary(op, l, r) => {
+            combine(sets, op, l as usize * width, r as usize * width, at, width);
+        }
+        Node::WithSet(op, l, s) => {
+            let bits = s.to_bits() as u64;
+            lay_with_set(sets, op, l as usize * width, bits, at, width);
+        }
+        Node::Renaming(l, old, new) => {
+            lay_renaming(sets, l as usize * width, old, new, at, width);
+        }
+        Node::ProjectingOut(l, old) => {
+            lay_projecting_out(sets, l as usize * width, old, at, width);
+        }
+    }
+}
+
+// Reads node k at byte `at` of the file, lays its words down, and gives the byte after it.
 fn fill_node(
     file: &[u8],
     m: u8,
@@ -18,52 +63,44 @@ fn fill_node(
     at: usize,
     special: &[u16],
     items: &[u32],
-    lanes: usize,
-    allowed: &mut [u8],
-    output: &mut [u8],
+    count: usize,
+    width: usize,
+    sets: &mut [u64],
 ) -> usize
     requires { ⌜ Here (now file) m k at ⌝ }
-    requires { ⌜ (length (now special) ≡ 8) × (length (now items) ≡ 256) ⌝ }
-    requires { ⌜ (lanes ≤ 48) × (k * 48 + 48 ≤ length (now allowed)) ⌝ }
-    requires { ⌜ length (now output) ≡ length (now allowed) ⌝ }
-    requires { ⌜ Filled (now file) (now special) (now items) lanes k 0 (now allowed) (now output) ⌝ }
+    requires { ⌜ (length (now special) ≡ 8) × (count ≤ length (now items)) ⌝ }
+    requires { ⌜ (width ≡ widthOf count) × (k * width + width ≤ length (now sets)) ⌝ }
+    requires { ⌜ Filled (now file) (now special) (take count (now items)) width k (now sets) ⌝ }
     ensures { λ r. ⌜ r ≡ at + sizeAt (now (file .entry)) k ⌝ }
-    ensures { λ _. ⌜ Filled (now (file .entry)) (now (special .entry)) (now (items .entry)) lanes (k + 1) 0 (now (allowed .exit)) (now (output .exit)) ⌝ }
+    ensures { λ _. ⌜ Filled (now (file .entry)) (now (special .entry)) (take count (now (items .entry))) width (k + 1) (now (sets .exit)) ⌝ }
 {
     let node = decode(&file[at..]);
-    let mut b = 0;
-    while b < lanes {
-        let lane = node_lane(special, items, allowed, output, node, b);
-        let place = k as usize * 48 + b;
-        allowed[place] = lane.allowed;
-        output[place] = lane.output;
-        b += 1;
-    }
+    lay_node(node, m, k, special, items, count, width, sets);
     at + size_of(file[at])
 }
 
-// Fills the lanes of the nodes up to `node`.
-pub fn fill_lanes(
+// The types of the nodes up to `node`, over a membership table.
+pub fn fill_sets(
     file: &[u8],
     m: u8,
     n: u8,
     node: u8,
     special: &[u16],
     items: &[u32],
-    lanes: usize,
-    allowed: &mut [u8],
-    output: &mut [u8],
+    count: usize,
+    width: usize,
+    sets: &mut [u64],
 )
     requires { ⌜ acceptance (now file) ≡ Accepted m n ⌝ }
-    requires { ⌜ (length (now special) ≡ 8) × (length (now items) ≡ 256) ⌝ }
-    requires { ⌜ (lanes ≤ 48) × (node < n) ⌝ }
-    requires { ⌜ (length (now allowed) ≡ 3072) × (length (now output) ≡ 3072) ⌝ }
-    ensures { λ _. ⌜ NodeLanes (now (file .entry)) (now (special .entry)) (now (items .entry)) lanes node (now (allowed .exit)) (now (output .exit)) ⌝ }
+    requires { ⌜ (node < n) × (length (now special) ≡ 8) ⌝ }
+    requires { ⌜ (count ≤ length (now items)) × (count ≤ 255) ⌝ }
+    requires { ⌜ (width ≡ widthOf count) × ((node + 1) * width ≤ length (now sets)) ⌝ }
+    ensures { λ _. ⌜ Filled (now (file .entry)) (now (special .entry)) (take count (now (items .entry))) width (node + 1) (now (sets .exit)) ⌝ }
 {
     let mut at = 2;
     let mut k = 0;
     while k <= node {
-        at = fill_node(file, m, k, at, special, items, lanes, allowed, output);
+        at = fill_node(file, m, k, at, special, items, count, width, sets);
         k += 1;
     }
 }

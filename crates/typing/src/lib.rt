@@ -1,7 +1,5 @@
 // Typing: whether a schema types a node, and the output record.
-mod filled;
 mod filling;
-mod lanes;
 mod operation;
 mod output;
 mod sets;

@@ -1,21 +1,22 @@
 // The operation Typing.
 ghost use mathlib.Core.Path.{_≡_};
-ghost use Prim.Native.Nat.{_≤_, _<_};
+ghost use Prim.Native.Nat.{_+_, _*_, _≤_, _<_};
 ghost use lib.ListN.{length, take};
 ghost use Rattle.expression.specs.declared.files.Acceptance.the-variants.{Accepted};
 ghost use Rattle.expression.specs.ReadFile.{acceptance};
 ghost use Rattle.formula.specs.Expressions.{expressionAt};
-ghost use Rattle.schema.specs.Schema.{schemaReading};
+ghost use Rattle.membership.specs.Entries.{RoomFor};
+ghost use Rattle.schema.specs.Schema.{schemaReading, WritesFrom};
 ghost use Rattle.typing.specs.Typing.{tableAnswer, tableOut, schemaAnswer, schemaOut, typingAnswer, typingOut};
-ghost use Rattle.typing.specs.TypingLaws.{ReadTable};
-use crate::filling::fill_lanes;
-use crate::output::all_allowed;
-use crate::output::write_output;
+ghost use Rattle.typing.specs.Sets.{widthOf};
+use crate::filling::fill_sets;
+use crate::output::list_output;
 use expression::Acceptance;
 use expression::ask;
 use refusal::Refusal;
 use schema::Judgement;
 use schema::read_schema;
+use type_record::write_record;
 
 // The length of the output record, or that the schema does not type the node, or the first refusal.
 pub enum Answer {
@@ -24,7 +25,39 @@ pub enum Answer {
     Refused(Refusal),
 }
 
-// A node over a membership table.
+// A node over a membership table, with a slice for the types of the nodes up to it, and one for the output's
+// attributes. Both are free afterwards.
+fn type_within(
+    file: &[u8],
+    m: u8,
+    n: u8,
+    node: u8,
+    special: &[u16],
+    items: &[u32],
+    count: usize,
+    list: &mut [u32],
+    sets: &mut [u64],
+    out: &mut [u8],
+) -> Answer
+    requires { ⌜ acceptance (now file) ≡ Accepted m n ⌝ }
+    requires { ⌜ (node < n) × (513 ≤ length (now out)) ⌝ }
+    requires { ⌜ WritesFrom (now special) (now items) count ⌝ }
+    requires { ⌜ (count ≤ length (now list)) × (node * widthOf count + widthOf count ≤ length (now sets)) ⌝ }
+    ensures { λ r. ⌜ r ≡ tableAnswer (expressionAt (now (file .entry)) node) (now (special .entry)) (take count (now (items .entry))) ⌝ }
+    ensures { λ _. ⌜ now (out .exit) ≡ tableOut (expressionAt (now (file .entry)) node) (now (special .entry)) (take count (now (items .entry))) (now (out .entry)) ⌝ }
+{
+    let width = 2 + (count + 63) / 64;
+    fill_sets(file, m, n, node, special, items, count, width, sets);
+    let at = node as usize * width;
+    if sets[at] != 0 {
+        return Answer::Untyped;
+    }
+    let map = sets[at + 1] as u16;
+    let listed = list_output(file, node, items, count, sets, at + 2, list);
+    Answer::Typed(write_record(out, map, &list[..listed]))
+}
+
+// A node over a membership table, with a slice for the output's attributes.
 pub fn type_table(
     file: &[u8],
     m: u8,
@@ -33,52 +66,89 @@ pub fn type_table(
     special: &[u16],
     items: &[u32],
     count: usize,
+    list: &mut [u32],
     out: &mut [u8],
 ) -> Answer
     requires { ⌜ acceptance (now file) ≡ Accepted m n ⌝ }
     requires { ⌜ (node < n) × (513 ≤ length (now out)) ⌝ }
-    requires { ⌜ ReadTable (now special) (now items) count ⌝ }
+    requires { ⌜ WritesFrom (now special) (now items) count × (count ≤ length (now list)) ⌝ }
     ensures { λ r. ⌜ r ≡ tableAnswer (expressionAt (now (file .entry)) node) (now (special .entry)) (take count (now (items .entry))) ⌝ }
     ensures { λ _. ⌜ now (out .exit) ≡ tableOut (expressionAt (now (file .entry)) node) (now (special .entry)) (take count (now (items .entry))) (now (out .entry)) ⌝ }
 {
-    let lanes = 16 + (count + 7) / 8;
-    let mut allowed = [0u8; 3072];
-    let mut output = [0u8; 3072];
-    fill_lanes(
+    if (node as usize + 1) * (2 + (count + 63) / 64) <= 24 {
+        let mut sets = [0u64; 24];
+        return type_within(
+            file,
+            m,
+            n,
+            node,
+            special,
+            items,
+            count,
+            list,
+            &mut sets,
+            out,
+        );
+    }
+    let mut sets = [0u64; 384];
+    type_within(
         file,
         m,
         n,
         node,
         special,
         items,
-        lanes,
-        &mut allowed,
-        &mut output,
-    );
-    if !all_allowed(&allowed, node, lanes) {
-        return Answer::Untyped;
-    }
-    Answer::Typed(write_output(&output, node, items, count, out))
+        count,
+        list,
+        &mut sets,
+        out,
+    )
 }
 
-// A node of an accepted file under the schema in these bytes.
-fn type_schema(file: &[u8], m: u8, n: u8, node: u8, bytes: &[u8], out: &mut [u8]) -> Answer
+// A node of an accepted file under the schema in these bytes, with two slices for its entries.
+fn type_schema(
+    file: &[u8],
+    m: u8,
+    n: u8,
+    node: u8,
+    bytes: &[u8],
+    items: &mut [u32],
+    spare: &mut [u32],
+    out: &mut [u8],
+) -> Answer
     requires { ⌜ acceptance (now file) ≡ Accepted m n ⌝ }
     requires { ⌜ (node < n) × (513 ≤ length (now out)) ⌝ }
+    requires { ⌜ RoomFor (length (now bytes)) (now items) × RoomFor (length (now bytes)) (now spare) ⌝ }
     ensures { λ r. ⌜ r ≡ schemaAnswer (expressionAt (now (file .entry)) node) (schemaReading m (now (bytes .entry))) ⌝ }
     ensures { λ _. ⌜ now (out .exit) ≡ schemaOut (expressionAt (now (file .entry)) node) (schemaReading m (now (bytes .entry))) (now (out .entry)) ⌝ }
 {
-    let schema = read_schema(bytes, m);
+    let schema = read_schema(bytes, m, items, spare);
     let judgement = schema.judgement;
     match judgement {
         Judgement::Refused(r) => Answer::Refused(r),
         Judgement::Read => {
             let special = schema.special;
-            let entries = schema.entries;
-            let items = entries.items;
-            type_table(file, m, n, node, &special, &items, entries.count, out)
+            let count = schema.count;
+            type_table(file, m, n, node, &special, items, count, spare, out)
         }
     }
+}
+
+// The same with room for as many entries as the bytes can list.
+fn type_sized(file: &[u8], m: u8, n: u8, node: u8, bytes: &[u8], out: &mut [u8]) -> Answer
+    requires { ⌜ acceptance (now file) ≡ Accepted m n ⌝ }
+    requires { ⌜ (node < n) × (513 ≤ length (now out)) ⌝ }
+    ensures { λ r. ⌜ r ≡ schemaAnswer (expressionAt (now (file .entry)) node) (schemaReading m (now (bytes .entry))) ⌝ }
+    ensures { λ _. ⌜ now (out .exit) ≡ schemaOut (expressionAt (now (file .entry)) node) (schemaReading m (now (bytes .entry))) (now (out .entry)) ⌝ }
+{
+    if bytes.len() <= 64 {
+        let mut items = [0u32; 32];
+        let mut spare = [0u32; 32];
+        return type_schema(file, m, n, node, bytes, &mut items, &mut spare, out);
+    }
+    let mut items = [0u32; 256];
+    let mut spare = [0u32; 256];
+    type_schema(file, m, n, node, bytes, &mut items, &mut spare, out)
 }
 
 // Typing: refusals 1 to 11, 13, 14 to 18.
@@ -92,7 +162,7 @@ pub fn typing(file: &[u8], node: usize, schema: &[u8], out: &mut [u8]) -> Answer
             if out.len() < 513 {
                 return Answer::Refused(Refusal::ResultSlice);
             }
-            type_schema(file, m, n, node as u8, schema, out)
+            type_sized(file, m, n, node as u8, schema, out)
         }
     }
 }

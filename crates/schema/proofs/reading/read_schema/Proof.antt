@@ -1,4 +1,4 @@
-use Rattle.schema.proofs.Resume.{Resumed, resumed-start, refused-free, room-same, resumed-refused, record-fits, enters, resumed-next, resumed-followed, resumed-over, resumed-end}
+use Rattle.schema.proofs.Resume.{Resumed, resumed-start, refused-free, room-same, resumed-refused, record-fits, enters, resumed-next, resumed-followed, resumed-over, resumed-end, resumed-fits}
 use lib.ListN.{length}
 use native.Mathlib.Omega.{arith}
 use mathlib.Core.Path.{_≡_, refl, sym, _∙_}
@@ -51,7 +51,7 @@ same-length-2 : tie.Need-same-length-2 Inv-loop μ-loop
 same-length-2 c = c .before .before .before .before .before .before .before .loop .inv .2
 
 returns : tie.Need-returns Inv-loop μ-loop
-returns c = (c .refused .ensures ∙ resumed-refused (c .before .before .before .before .before .before .before .loop .inv .0) (λ x. omega (arith, c .before .before .before .before .before .before .before .before .before .before .shared-slice-known .given x)) (c .before .before .before .before .before .before .before .before .before .before .before .pre .0) (c .before .before .before .before .before .before .loop-test .taken) (sym (c .before .before .before .before .read-record .ensures) ∙ c .before .before .refusal .given .1), refused-free _ _ _ (c .refused .ensures))
+returns c = (c .refused .ensures ∙ resumed-refused (c .before .before .before .before .before .before .before .loop .inv .0) (λ x. omega (arith, c .before .before .before .before .before .before .before .before .before .before .shared-slice-known .given x)) (c .before .before .before .before .before .before .before .before .before .before .before .pre .0) (c .before .before .before .before .before .before .loop-test .taken) (sym (c .before .before .before .before .read-record .ensures) ∙ c .before .before .refusal .given .1), refused-free _ _ _ (c .before .before .before .before .before .before .before .loop .spare) (c .refused .ensures))
 
 enum-known-map : tie.Need-enum-known-map Inv-loop μ-loop
 enum-known-map c = search needs
@@ -122,7 +122,7 @@ same-length-4 : tie.Need-same-length-4 Inv-loop μ-loop
 same-length-4 c = c .before .before .before .loop .inv .2
 
 returns-2 : tie.Need-returns-2 Inv-loop μ-loop
-returns-2 c = (c .refused2 .ensures ∙ resumed-followed (c .before .before .before .loop .inv .0) (λ x. omega (arith, c .before .before .before .before .before .before .shared-slice-known .given x)) (c .before .before .before .before .before .before .before .pre .0) (c .before .before .loop-test .left) (c .before .if1 .taken), refused-free _ _ _ (c .refused2 .ensures))
+returns-2 c = (c .refused2 .ensures ∙ resumed-followed (c .before .before .before .loop .inv .0) (λ x. omega (arith, c .before .before .before .before .before .before .shared-slice-known .given x)) (c .before .before .before .before .before .before .before .pre .0) (c .before .before .loop-test .left) (c .before .if1 .taken), refused-free _ _ _ (c .before .before .before .loop .spare) (c .refused2 .ensures))
 
 refused-requires-3 : tie.Need-refused-requires-3 Inv-loop μ-loop
 refused-requires-3 c κs = search needs
@@ -134,7 +134,7 @@ same-length-6 : tie.Need-same-length-6 Inv-loop μ-loop
 same-length-6 c = c .before .before .before .before .loop .inv .2
 
 returns-3 : tie.Need-returns-3 Inv-loop μ-loop
-returns-3 c = (c .refused3 .ensures ∙ resumed-over (c .before .before .before .before .loop .inv .0) (λ x. omega (arith, c .before .before .before .before .before .before .before .shared-slice-known .given x)) (c .before .before .before .before .before .before .before .before .pre .0) (c .before .before .before .loop-test .left) (c .before .before .if1 .left) (c .before .if2 .taken), refused-free _ _ _ (c .refused3 .ensures))
+returns-3 c = (c .refused3 .ensures ∙ resumed-over (c .before .before .before .before .loop .inv .0) (λ x. omega (arith, c .before .before .before .before .before .before .before .shared-slice-known .given x)) (c .before .before .before .before .before .before .before .before .pre .0) (c .before .before .before .loop-test .left) (c .before .before .if1 .left) (c .before .if2 .taken), refused-free _ _ _ (c .before .before .before .before .loop .spare) (c .refused3 .ensures))
 
 same-length-7 : tie.Need-same-length-7 Inv-loop μ-loop
 same-length-7 c = c .before .before .before .loop .inv .1
@@ -145,7 +145,7 @@ same-length-8 c = c .before .before .before .loop .inv .2
 returns-4 : tie.Need-returns-4 Inv-loop μ-loop
 returns-4 c =
     let end = resumed-end (c .before .before .before .loop .inv .0) (λ x. omega (arith, c .before .before .before .before .before .before .shared-slice-known .given x)) (c .before .before .before .before .before .before .before .pre .0) (c .before .before .loop-test .left) (c .before .if1 .left) (c .if2 .left) in
-    (end .0, λ read. end .1)
+    (end .0, ((λ read. end .1), resumed-fits (c .before .before .before .loop .inv .0) (λ x. omega (arith, c .before .before .before .before .before .before .shared-slice-known .given x)) (c .before .before .before .before .before .before .before .pre .0) (c .if2 .left) (c .before .before .before .loop .spare) (room-same (length (c .before .before .before .before .before .before .before .args .bytes .now)) (c .before .before .before .before .before .before .before .args .spare .now) (c .before .before .before .loop .spare) (c .before .before .before .loop .inv .2) (c .before .before .before .before .before .before .before .pre .1 .1))))
 
 pub read-schema-spec : {M : Type 1} → statement M
 read-schema-spec =

@@ -1,62 +1,87 @@
-use mathlib.Core.Path.{refl}
-use borrow.Author.Tests.{not-true, not-false}
-use native.Mathlib.Omega.{arith}
+use Rattle.typing.specs.SetLaws.{words-most, node-words}
 use Rattle.expression.specs.Accepted.{accepted-file}
-use Rattle.formula.specs.Expressions.{expression-legal}
-use Rattle.typing.specs.TypingLaws.{table-untyped, table-typed, found-even}
+use native.Mathlib.Omega.{arith}
+use Prim.Native.Nat.{_+_, _*_, _/_}
 use borrow.Author.Needs.{needs}
 use Rattle.typing.proofs.operation.type_table.Statement.{statement}
 use Rattle.typing.proofs.operation.type_table.Tie as tie
+use Rattle.typing.proofs.operation.type_table.Reads as reads
+use Rattle.typing.proofs.operation.type_table.Lts as lts
+use Rattle.typing.proofs.operation.type_within.Reads as type-within-reads
 
-add-lanes : tie.Need-add-lanes
-add-lanes c = search needs
+add-if1 : tie.Need-add-if1
+add-if1 c = search needs
 
-add-lanes-2 : tie.Need-add-lanes-2
-add-lanes-2 c = search needs
+add-if1-2 : tie.Need-add-if1-2
+add-if1-2 c = search needs
 
-slice-aggregate-fill-lanes : tie.Need-slice-aggregate-fill-lanes
-slice-aggregate-fill-lanes c = search needs
+add-if1-3 : tie.Need-add-if1-3
+add-if1-3 c = search needs
 
-slice-aggregate-fill-lanes-2 : tie.Need-slice-aggregate-fill-lanes-2
-slice-aggregate-fill-lanes-2 c = search needs
+mul-if1 : tie.Need-mul-if1
+mul-if1 c =
+    let nodes = (accepted-file (c .before .before .before .before .before .args .file .now) (c .before .before .before .before .before .args .m) (c .before .before .before .before .before .args .n) (c .before .before .before .before .before .pre .0) .counts .nodes .1) in
+    let node = c .before .before .before .before .before .pre .1 .0 .0 in
+    let few = c .before .before .before .before .before .pre .1 .1 .0 .few in
+    let wide = words-most (c .before .before .before .before .before .args .node) (c .before .before .before .before .before .args .count) (omega arith) few in
+    omega arith
 
-fill-lanes-requires : tie.Need-fill-lanes-requires
-fill-lanes-requires c κs = (c .before .before .before .before .before .before .pre .0, ((c .before .before .before .before .before .before .pre .1 .1 .writes .maps, c .before .before .before .before .before .before .pre .1 .1 .writes .size), ((let few = c .before .before .before .before .before .before .pre .1 .1 .writes .few in omega arith, c .before .before .before .before .before .before .pre .1 .0 .0), (refl, refl))))
+slice-aggregate-type-within : tie.Need-slice-aggregate-type-within
+slice-aggregate-type-within c = search needs
 
-slice-aggregate-all-allowed : tie.Need-slice-aggregate-all-allowed
-slice-aggregate-all-allowed c = search needs
-
-all-allowed-requires : tie.Need-all-allowed-requires
-all-allowed-requires c κs = let few = c .before .before .before .before .before .before .before .before .before .before .pre .1 .1 .writes .few in let below = c .before .before .before .before .before .before .before .before .before .before .pre .1 .0 .0 in let nodes = accepted-file (c .before .before .before .before .before .before .before .before .before .before .args .file .now) (c .before .before .before .before .before .before .before .before .before .before .args .m) (c .before .before .before .before .before .before .before .before .before .before .args .n) (c .before .before .before .before .before .before .before .before .before .before .pre .0) .counts .nodes .1 in let size = c .before .before .allowed2 .given in (omega arith, omega arith)
-
-returns : tie.Need-returns
-returns c = table-untyped (c .before .before .before .before .before .before .before .before .before .before .before .before .args .file .now) (c .before .before .before .before .before .before .before .before .before .before .before .before .args .m) (c .before .before .before .before .before .before .before .before .before .before .before .before .args .node) (expression-legal (c .before .before .before .before .before .before .before .before .before .before .before .before .args .file .now) (c .before .before .before .before .before .before .before .before .before .before .before .before .args .m) (c .before .before .before .before .before .before .before .before .before .before .before .before .args .n) (c .before .before .before .before .before .before .before .before .before .before .before .before .pre .0) (c .before .before .before .before .before .before .before .before .before .before .before .before .args .node) (c .before .before .before .before .before .before .before .before .before .before .before .before .pre .1 .0 .0)) (c .before .before .before .before .before .before .before .before .before .before .before .before .args .special .now) (c .before .before .before .before .before .before .before .before .before .before .before .before .args .items .now) (c .before .before .before .before .before .before .before .before .before .before .before .before .args .count) _ _ (c .before .before .before .before .before .before .before .before .before .before .before .before .pre .1 .1) (c .before .before .before .before .before .fill-lanes .ensures) (c .before .before .before .before .before .before .before .before .before .before .before .before .args .out .now) _ (not-true _ (c .if1 .taken)) (c .before .all-allowed .ensures)
-
-slice-aggregate-write-output : tie.Need-slice-aggregate-write-output
-slice-aggregate-write-output c = search needs
-
-write-output-requires : tie.Need-write-output-requires
-write-output-requires c κs = let few = c .before .before .before .before .before .before .before .before .before .before .before .before .before .before .pre .1 .1 .writes .few in let below = c .before .before .before .before .before .before .before .before .before .before .before .before .before .before .pre .1 .0 .0 in let nodes = accepted-file (c .before .before .before .before .before .before .before .before .before .before .before .before .before .before .args .file .now) (c .before .before .before .before .before .before .before .before .before .before .before .before .before .before .args .m) (c .before .before .before .before .before .before .before .before .before .before .before .before .before .before .args .n) (c .before .before .before .before .before .before .before .before .before .before .before .before .before .before .pre .0) .counts .nodes .1 in let size = c .before .before .before .before .before .output2 .given in let whole = c .before .before .before .before .before .before .before .before .before .before .before .before .before .before .pre .1 .1 .writes .size in ((omega arith, c .before .before .before .before .before .before .before .before .before .before .before .before .before .before .pre .1 .0 .1), ((whole, few), (record { enough = omega arith; below = c .before .before .before .before .before .before .before .before .before .before .before .before .before .before .pre .1 .1 .writes .below }, found-even (c .before .before .before .before .before .before .before .before .before .before .before .before .before .before .args .file .now) (c .before .before .before .before .before .before .before .before .before .before .before .before .before .before .args .m) (c .before .before .before .before .before .before .before .before .before .before .before .before .before .before .args .node) (expression-legal (c .before .before .before .before .before .before .before .before .before .before .before .before .before .before .args .file .now) (c .before .before .before .before .before .before .before .before .before .before .before .before .before .before .args .m) (c .before .before .before .before .before .before .before .before .before .before .before .before .before .before .args .n) (c .before .before .before .before .before .before .before .before .before .before .before .before .before .before .pre .0) (c .before .before .before .before .before .before .before .before .before .before .before .before .before .before .args .node) (c .before .before .before .before .before .before .before .before .before .before .before .before .before .before .pre .1 .0 .0)) (c .before .before .before .before .before .before .before .before .before .before .before .before .before .before .args .special .now) (c .before .before .before .before .before .before .before .before .before .before .before .before .before .before .args .items .now) (c .before .before .before .before .before .before .before .before .before .before .before .before .before .before .args .count) _ _ (c .before .before .before .before .before .before .before .before .before .before .before .before .before .before .pre .1 .1) (c .before .before .before .before .before .before .before .fill-lanes .ensures) _ (not-false _ (c .before .before .if1 .left)) (c .before .before .before .all-allowed .ensures))))
+type-within-requires : tie.Need-type-within-requires
+type-within-requires c κs =
+    let nodes = (accepted-file (c .before .before .before .before .before .before .before .before .before .args .file .now) (c .before .before .before .before .before .before .before .before .before .args .m) (c .before .before .before .before .before .before .before .before .before .args .n) (c .before .before .before .before .before .before .before .before .before .pre .0) .counts .nodes .1) in
+    let node = c .before .before .before .before .before .before .before .before .before .pre .1 .0 .0 in
+    let few = c .before .before .before .before .before .before .before .before .before .pre .1 .1 .0 .few in
+    let wide = words-most (c .before .before .before .before .before .before .before .before .before .args .node) (c .before .before .before .before .before .before .before .before .before .args .count) (omega arith) few in
+    let few = c .before .before .before .if1 .taken in
+    (c .before .before .before .before .before .before .before .before .before .pre .0, (c .before .before .before .before .before .before .before .before .before .pre .1 .0, (c .before .before .before .before .before .before .before .before .before .pre .1 .1 .0, (c .before .before .before .before .before .before .before .before .before .pre .1 .1 .1, node-words (c .before .before .before .before .before .before .before .before .before .args .node) (2 + (c .before .before .before .before .before .before .before .before .before .args .count + 63) / 64) _ (omega arith)))))
 
 same-length : tie.Need-same-length
 same-length c = search needs
 
+same-length-2 : tie.Need-same-length-2
+same-length-2 c = search needs
+
+returns : tie.Need-returns
+returns c = search needs
+
+slice-aggregate-type-within-2 : tie.Need-slice-aggregate-type-within-2
+slice-aggregate-type-within-2 c = search needs
+
+type-within-requires-2 : tie.Need-type-within-requires-2
+type-within-requires-2 c κs =
+    let nodes = (accepted-file (c .before .before .before .before .before .before .before .before .before .args .file .now) (c .before .before .before .before .before .before .before .before .before .args .m) (c .before .before .before .before .before .before .before .before .before .args .n) (c .before .before .before .before .before .before .before .before .before .pre .0) .counts .nodes .1) in
+    let node = c .before .before .before .before .before .before .before .before .before .pre .1 .0 .0 in
+    let few = c .before .before .before .before .before .before .before .before .before .pre .1 .1 .0 .few in
+    let wide = words-most (c .before .before .before .before .before .before .before .before .before .args .node) (c .before .before .before .before .before .before .before .before .before .args .count) (omega arith) few in
+    (c .before .before .before .before .before .before .before .before .before .pre .0, (c .before .before .before .before .before .before .before .before .before .pre .1 .0, (c .before .before .before .before .before .before .before .before .before .pre .1 .1 .0, (c .before .before .before .before .before .before .before .before .before .pre .1 .1 .1, node-words (c .before .before .before .before .before .before .before .before .before .args .node) (2 + (c .before .before .before .before .before .before .before .before .before .args .count + 63) / 64) _ (omega arith)))))
+
+same-length-3 : tie.Need-same-length-3
+same-length-3 c = search needs
+
+same-length-4 : tie.Need-same-length-4
+same-length-4 c = search needs
+
 returns-2 : tie.Need-returns-2
-returns-2 c = table-typed (c .before .before .before .before .before .before .before .before .before .before .before .before .before .before .before .before .before .args .file .now) (c .before .before .before .before .before .before .before .before .before .before .before .before .before .before .before .before .before .args .m) (c .before .before .before .before .before .before .before .before .before .before .before .before .before .before .before .before .before .args .node) (expression-legal (c .before .before .before .before .before .before .before .before .before .before .before .before .before .before .before .before .before .args .file .now) (c .before .before .before .before .before .before .before .before .before .before .before .before .before .before .before .before .before .args .m) (c .before .before .before .before .before .before .before .before .before .before .before .before .before .before .before .before .before .args .n) (c .before .before .before .before .before .before .before .before .before .before .before .before .before .before .before .before .before .pre .0) (c .before .before .before .before .before .before .before .before .before .before .before .before .before .before .before .before .before .args .node) (c .before .before .before .before .before .before .before .before .before .before .before .before .before .before .before .before .before .pre .1 .0 .0)) (c .before .before .before .before .before .before .before .before .before .before .before .before .before .before .before .before .before .args .special .now) (c .before .before .before .before .before .before .before .before .before .before .before .before .before .before .before .before .before .args .items .now) (c .before .before .before .before .before .before .before .before .before .before .before .before .before .before .before .before .before .args .count) _ _ (c .before .before .before .before .before .before .before .before .before .before .before .before .before .before .before .before .before .pre .1 .1) (c .before .before .before .before .before .before .before .before .before .before .fill-lanes .ensures) (c .before .before .before .before .before .before .before .before .before .before .before .before .before .before .before .before .before .args .out .now) _ _ _ (not-false _ (c .before .before .before .before .before .if1 .left)) (c .before .before .before .before .before .before .all-allowed .ensures) (c .before .before .write-output .ensures .0) (c .before .before .write-output .ensures .1)
+returns-2 c = search needs
 
 pub type-table-spec : {M : Type 1} → statement M
 type-table-spec =
     tie.close
     (tie.spec
-    add-lanes
-    add-lanes-2
-    slice-aggregate-fill-lanes
-    slice-aggregate-fill-lanes-2
-    fill-lanes-requires
-    slice-aggregate-all-allowed
-    all-allowed-requires
-    returns
-    slice-aggregate-write-output
-    write-output-requires
+    add-if1
+    add-if1-2
+    add-if1-3
+    mul-if1
+    slice-aggregate-type-within
+    type-within-requires
     same-length
+    same-length-2
+    returns
+    slice-aggregate-type-within-2
+    type-within-requires-2
+    same-length-3
+    same-length-4
     returns-2)

@@ -19,11 +19,11 @@ enum-known-m c = search needs
 returns : tie.Need-returns
 returns c = typing-stops (c .before .before .before .before .before .before .before .before .args .file .now) (c .before .before .before .before .before .before .before .before .args .node) (c .before .before .before .before .before .before .before .before .args .schema .now) (c .before .before .before .before .before .before .before .before .args .out .now) _ (sliced-stops _ _ 513 (sym (c .before .before .before .before .ask .ensures) ∙ c .before .before .m .given .1) (c .if1 .taken))
 
-cast-type-schema : tie.Need-cast-type-schema
-cast-type-schema c = let found = asked-passed (c .before .before .before .before .before .before .before .before .args .file .now) (c .before .before .before .before .before .before .before .before .args .node) (sym (c .before .before .before .before .ask .ensures) ∙ c .before .before .m .given .1) in let most = accepted-file (c .before .before .before .before .before .before .before .before .args .file .now) _ _ (found .0) .counts .nodes .1 in let node = found .1 in omega arith
+cast-type-sized : tie.Need-cast-type-sized
+cast-type-sized c = let found = asked-passed (c .before .before .before .before .before .before .before .before .args .file .now) (c .before .before .before .before .before .before .before .before .args .node) (sym (c .before .before .before .before .ask .ensures) ∙ c .before .before .m .given .1) in let most = accepted-file (c .before .before .before .before .before .before .before .before .args .file .now) _ _ (found .0) .counts .nodes .1 in let node = found .1 in omega arith
 
-type-schema-requires : tie.Need-type-schema-requires
-type-schema-requires c κs = let found = asked-passed (c .before .before .before .before .before .before .before .before .before .args .file .now) (c .before .before .before .before .before .before .before .before .before .args .node) (sym (c .before .before .before .before .before .ask .ensures) ∙ c .before .before .before .m .given .1) in (found .0, (found .1, c .before .if1 .left))
+type-sized-requires : tie.Need-type-sized-requires
+type-sized-requires c κs = let found = asked-passed (c .before .before .before .before .before .before .before .before .before .args .file .now) (c .before .before .before .before .before .before .before .before .before .args .node) (sym (c .before .before .before .before .before .ask .ensures) ∙ c .before .before .before .m .given .1) in (found .0, (found .1, c .before .if1 .left))
 
 returns-2 : tie.Need-returns-2
 returns-2 c = typing-stops (c .before .before .before .before .before .before .before .args .file .now) (c .before .before .before .before .before .before .before .args .node) (c .before .before .before .before .before .before .before .args .schema .now) (c .before .before .before .before .before .before .before .args .out .now) _ (sliced-refused _ _ 513 (sym (c .before .before .before .ask .ensures) ∙ c .before .r .given .1))
@@ -32,7 +32,7 @@ same-length : tie.Need-same-length
 same-length c = search needs
 
 returns-3 : tie.Need-returns-3
-returns-3 c = typing-goes (c .before .before .before .before .before .before .before .before .before .before .before .before .args .file .now) (c .before .before .before .before .before .before .before .before .before .before .before .before .args .node) (c .before .before .before .before .before .before .before .before .before .before .before .before .args .schema .now) (c .before .before .before .before .before .before .before .before .before .before .before .before .args .out .now) _ _ _ _ (sliced-passes _ _ 513 (sym (c .before .before .before .before .before .before .before .before .ask .ensures) ∙ c .before .before .before .before .before .before .m .given .1) (c .before .before .before .before .if1 .left)) (c .before .before .type-schema .ensures .0) (c .before .before .type-schema .ensures .1)
+returns-3 c = typing-goes (c .before .before .before .before .before .before .before .before .before .before .before .before .args .file .now) (c .before .before .before .before .before .before .before .before .before .before .before .before .args .node) (c .before .before .before .before .before .before .before .before .before .before .before .before .args .schema .now) (c .before .before .before .before .before .before .before .before .before .before .before .before .args .out .now) _ _ _ _ (sliced-passes _ _ 513 (sym (c .before .before .before .before .before .before .before .before .ask .ensures) ∙ c .before .before .before .before .before .before .m .given .1) (c .before .before .before .before .if1 .left)) (c .before .before .type-sized .ensures .0) (c .before .before .type-sized .ensures .1)
 
 pub typing-spec : {M : Type 1} → statement M
 typing-spec =
@@ -42,8 +42,8 @@ typing-spec =
     enum-known-r
     enum-known-m
     returns
-    cast-type-schema
-    type-schema-requires
+    cast-type-sized
+    type-sized-requires
     returns-2
     same-length
     returns-3)

@@ -4,8 +4,8 @@ use Rattle.attribute_set.specs.Laws.{special-range}
 use Rattle.node.specs.Legal.{LegalNode}
 use Rattle.typing.specs.SetLaws.{node-below}
 use borrow.Author.Needs.{needs}
-use Rattle.typing.proofs.filled.lay_node.Statement.{statement}
-use Rattle.typing.proofs.filled.lay_node.Tie as tie
+use Rattle.typing.proofs.filling.lay_node.Statement.{statement}
+use Rattle.typing.proofs.filling.lay_node.Tie as tie
 
 mul-at : tie.Need-mul-at
 mul-at c = search needs

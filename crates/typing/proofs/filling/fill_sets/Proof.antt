@@ -6,10 +6,10 @@ use Rattle.expression.specs.Accepted.{accepted-file}
 use Rattle.expression.specs.Walk.{Walk, walk-first, walk-next}
 use Rattle.formula.specs.Filling.{walk-here}
 use Rattle.typing.specs.SetLaws.{node-below}
-use Rattle.typing.specs.Filled.{Filled, filled-none}
+use Rattle.typing.specs.Filling.{Filled, filled-none}
 use borrow.Author.Needs.{needs}
-use Rattle.typing.proofs.filled.fill_sets.Statement.{statement}
-use Rattle.typing.proofs.filled.fill_sets.Tie as tie
+use Rattle.typing.proofs.filling.fill_sets.Statement.{statement}
+use Rattle.typing.proofs.filling.fill_sets.Tie as tie
 
 abbrev Inv-loop : tie.InvT-loop
 Inv-loop file m n node special items count width sets₀ at₀ k₀ sets at k = (k ≤ node + 1) × (length sets ≡ length sets₀) × Walk file m n k at × Filled file special (take count items) width k sets
@@ -22,8 +22,8 @@ loop-holds c =
     let args = c .before .before .before .before .args in
     (omega arith, refl, walk-first (args .file .now) (args .m) (args .n) (c .before .before .before .before .pre .0), filled-none (args .file .now) (args .special .now) (take (args .count) (args .items .now)) (args .width) (args .sets .now))
 
-fill-type-requires : tie.Need-fill-type-requires Inv-loop μ-loop
-fill-type-requires c κs =
+fill-node-requires : tie.Need-fill-node-requires Inv-loop μ-loop
+fill-node-requires c κs =
     let args = c .before .before .before .before .before .before .before .args in
     let pre = c .before .before .before .before .before .before .before .pre in
     let below = pre .1 .0 .0 in
@@ -51,13 +51,13 @@ loop-again c =
     let below = pre .1 .0 .0 in
     let loop = c .before .before .before .before .before .loop in
     let step = walk-next (args .file .now) (args .m) (args .n) (loop .k) (loop .at) (loop .inv .2) (omega arith) in
-    (omega arith, c .before .before .fill-type .kept .1 .1 .1 .1 .1 .1 .1 .1 .0 ∙ loop .inv .1, rw (c .before .before .fill-type .ensures .0) (step .next), c .before .before .fill-type .ensures .1)
+    (omega arith, c .before .before .fill-node .kept .1 .1 .1 .1 .1 .1 .1 .1 .0 ∙ loop .inv .1, rw (c .before .before .fill-node .ensures .0) (step .next), c .before .before .fill-node .ensures .1)
 
 same-length : tie.Need-same-length Inv-loop μ-loop
 same-length c = c .before .loop .inv .1
 
 returns : tie.Need-returns Inv-loop μ-loop
-returns c = c .before .loop .inv .3 .node (c .before .before .before .before .before .before .args .node) (omega arith)
+returns c = let loop = c .before .loop in let most = loop .inv .0 in let all : loop .k ≡ c .before .before .before .before .before .before .args .node + 1 = omega arith in rw all at (loop .inv .3)
 
 pub fill-sets-spec : {M : Type 1} → statement M
 fill-sets-spec =
@@ -66,7 +66,7 @@ fill-sets-spec =
     Inv-loop
     μ-loop
     loop-holds
-    fill-type-requires
+    fill-node-requires
     add-k
     loop-less
     loop-again
