@@ -3,6 +3,7 @@ pub mod EnterLaws
 pub mod EntriesOnce
 pub mod TableLaws
 pub mod Merging
+pub mod Entering
 pub mod Holders
 pub mod HolderLaws
 pub mod Keeping

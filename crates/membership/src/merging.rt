@@ -1,4 +1,4 @@
-// Entering a list of attributes: a merge of two rising sequences.
+// Merging a list of attributes with earlier entries: two rising sequences.
 ghost use mathlib.Core.Path.{_≡_};
 ghost use mathlib.Core.Logic.{_⊎_};
 ghost use Prim.Native.Nat.{_+_, _*_, _≤_};
@@ -112,7 +112,7 @@ fn copy_earlier(
 }
 
 // Writes the entries once the relations in the subset hold the attributes of the list as well, and gives their number.
-pub fn enter(
+pub fn merge_into(
     list: &[u8],
     count: usize,
     subset: u8,

@@ -8,6 +8,7 @@ use native.Mathlib.Omega.{arith}
 use borrow.Author.Tests.{lt-ltb, le-ltb}
 use lib.ListN.{length, set, take, drop, replicate, length-append, length-drop, drop-of-length-le}
 use lib.Seq.{drop-drop, drop-cons, getD-drop}
+use Rattle.bits.specs.Bit.{shifted-one}
 use Rattle.bits.specs.Part.{part-from}
 use Rattle.bits.specs.Tab.{tab, length-tab}
 use Rattle.bits.specs.Word.{word, Bytes}
@@ -21,16 +22,16 @@ use Rattle.type_record.specs.RecordBytes.{size-some, size-most}
 use Rattle.type_record.specs.RecordReading.{ReadRecord, record-map, record-ordinary, record-read}
 use Rattle.membership.specs.Entries.{enter, ListFits, TableIn, RoomFor}
 use Rattle.membership.specs.EnterLaws.{enter-few}
+use Rattle.membership.specs.Merging.{Enters}
 use Rattle.membership.specs.TableLaws.{table-none, table-few, table-least, table-reaches, table-count, table-full, table-all, enter-table}
 use Rattle.schema.specs.declared.reading.Judgement.the-variants.{Read, Refused}
 use Rattle.schema.specs.declared.reading.SchemaReading.{SchemaReading}
 use Rattle.schema.specs.Schema.{Records, recordsRead, follow, atEnd, readRecords, entriesOf, mapsOf, tabled, refusedSchema, schemaReading, readingOf, EntriesStand}
-use Rattle.schema.specs.Sides.{source, EntersRecord}
 use Rattle.schema.specs.RecordsLaws.{AllRecords}
 use Rattle.schema.specs.EntriesLaws.{maps-none}
 use Rattle.schema.proofs.More.{precedeAll, precede-more, precede-refused, precede-none, all-more, entries-more, maps-more}
 
-pub record Resumed (m : ℕ) (bytes special items spare : List ℕ) (found at r : ℕ) : Type 0 where
+pub record Resumed (m : ℕ) (bytes special items : List ℕ) (found at r : ℕ) : Type 0 where
   -- the records of the relations before r
   pub done : List TypeRecord
   pub count : length done ≡ r
@@ -38,7 +39,7 @@ pub record Resumed (m : ℕ) (bytes special items spare : List ℕ) (found at r 
   pub most : r ≤ m
   pub inside : at ≤ length bytes
   pub maps : special ≡ mapsOf done
-  pub table : TableIn (entriesOf done) (source m r items spare) found
+  pub table : TableIn (entriesOf done) items found
   -- two bytes were read for each entry
   pub short : length (entriesOf done) * 2 ≤ at
   pub rest : readRecords m bytes ≡ precedeAll done (readRecords (m - r) (drop at bytes))
@@ -55,9 +56,9 @@ refused-free x entries items spare is = (λ read. absurd (never (sym (ap (λ (t 
 pub room-same : (size : ℕ) (slice others : List ℕ) → length others ≡ length slice → RoomFor size slice → RoomFor size others
 room-same size slice others same room k few fits = let enough = room k few fits in omega arith
 
-pub resumed-start : (m : ℕ) (bytes items spare : List ℕ) → Resumed m bytes (replicate 8 0) items spare 0 0 0
+pub resumed-start : (m : ℕ) (bytes items : List ℕ) → Resumed m bytes (replicate 8 0) items 0 0 0
 unfolding entriesOf
-resumed-start m bytes items spare =
+resumed-start m bytes items =
     record {
       done = [];
       count = refl;
@@ -65,12 +66,12 @@ resumed-start m bytes items spare =
       most = omega arith;
       inside = omega arith;
       maps = sym maps-none;
-      table = table-none (source m 0 items spare);
+      table = table-none items;
       short = omega arith;
       rest = ap (λ (n : ℕ). readRecords n bytes) (sym (sub-zero m));
     }
 
-module _ {m : ℕ} {bytes special items spare : List ℕ} {found at r : ℕ} (h : Resumed m bytes special items spare found at r) (below : Bytes bytes) (few : m ≤ 8) where
+module _ {m : ℕ} {bytes special items : List ℕ} {found at r : ℕ} (h : Resumed m bytes special items found at r) (below : Bytes bytes) (few : m ≤ 8) where
   -- the record at `at` as the code reads it
   abbrev Reads : RecordReading → Type 0
   Reads x = readRecord (take (length bytes - at) (drop at bytes)) ≡ x
@@ -113,9 +114,9 @@ module _ {m : ℕ} {bytes special items spare : List ℕ} {found at r : ℕ} (h 
         let left = length-drop (at + 2) bytes in
         rw part-from (omega arith)
 
-    -- its list can be entered
-    pub enters : RoomFor (length bytes) items → RoomFor (length bytes) spare → EntersRecord (take (length bytes - (at + 2)) (drop (at + 2) bytes)) n m r items spare found
-    enters wide second =
+    -- its list can be entered in a slice with room for the bytes
+    pub enters : (slice : List ℕ) → RoomFor (length bytes) slice → Enters (take (length bytes - (at + 2)) (drop (at + 2) bytes)) n items found slice
+    enters slice wide =
         record {
           few = record-fits .0;
           fits = list-fits;
@@ -124,32 +125,30 @@ module _ {m : ℕ} {bytes special items spare : List ℕ} {found at r : ℕ} (h 
           room = λ k less under. room-in k less under (decLt 0 n);
         }
       where
-        room-in : (k : ℕ) → k < 256 → k < n + found → Dec (0 < n) → (k < length items) × (k < length spare)
+        room-in : (k : ℕ) → k < 256 → k < n + found → Dec (0 < n) → k < length slice
         room-in k less under (yes some) =
             let least = table-least (h .table) in
             let short = h .short in
             let size = size-some n some in
             let end = record-fits .2 in
             let one = wide (k + 1) (omega arith) (omega arith) in
-            let two = second (k + 1) (omega arith) (omega arith) in
-            (omega arith, omega arith)
+            omega arith
         room-in k less under (no none) =
             let least = table-least (h .table) in
             let short = h .short in
             let inside = record-fits .1 in
             let one = wide (k + 1) (omega arith) (omega arith) in
-            let two = second (k + 1) (omega arith) (omega arith) in
-            (omega arith, omega arith)
+            omega arith
 
     listed-is : tab n (λ x. word (take (length bytes - (at + 2)) (drop (at + 2) bytes)) (x * 2 + 1)) ≡ recordAt (drop at bytes) map n .ordinary
     listed-is =
         rw (part-from bytes (at + 2), record-ordinary (drop at bytes) map n, drop-drop 2 at bytes) (sym (listed-tab (drop (at + 2) bytes) n))
 
     -- the entries with its attributes
-    entered-is : {next : List ℕ} {size : ℕ} → TableIn (enter (2 ^ r) (tab n (λ x. word (take (length bytes - (at + 2)) (drop (at + 2) bytes)) (x * 2 + 1))) (take found (source m r items spare))) next size → TableIn (entriesOf (h .done ++ (recordAt (drop at bytes) map n ∷ []))) next size
-    entered-is t =
+    entered-is : {next : List ℕ} {size : ℕ} → r < m → TableIn (enter (1 * 2 ^ r % 256) (tab n (λ x. word (take (length bytes - (at + 2)) (drop (at + 2) bytes)) (x * 2 + 1))) (take found items)) next size → TableIn (entriesOf (h .done ++ (recordAt (drop at bytes) map n ∷ []))) next size
+    entered-is more t =
         rw (entries-more (recordAt (drop at bytes) map n) (h .done), h .count)
-        (enter-table (h .table) (2 ^ r) (recordAt (drop at bytes) map n .ordinary) (rw listed-is at t))
+        (enter-table (h .table) (2 ^ r) (recordAt (drop at bytes) map n .ordinary) (rw (shifted-one 8 r (omega arith), listed-is) at t))
 
     entered-short : length (entriesOf (h .done ++ (recordAt (drop at bytes) map n ∷ []))) * 2 ≤ at + recordSize n
     entered-short = go (decLt 0 n)
@@ -170,7 +169,7 @@ module _ {m : ℕ} {bytes special items spare : List ℕ} {found at r : ℕ} (h 
         ap (set special r) (sym (record-map (drop at bytes) map n))
         ∙ rw (h .maps, ← c) (maps-more (recordAt (drop at bytes) map n) (h .done) (omega arith))
 
-    pub resumed-next : {next others : List ℕ} {number size : ℕ} → r < m → TableIn (enter (2 ^ r) (tab n (λ x. word (take (length bytes - (at + 2)) (drop (at + 2) bytes)) (x * 2 + 1))) (take found (source m r items spare))) (source m (r + 1) next others) number → size ≡ recordSize n → Resumed m bytes (set special r map) next others number (at + size) (r + 1)
+    pub resumed-next : {next : List ℕ} {number size : ℕ} → r < m → TableIn (enter (1 * 2 ^ r % 256) (tab n (λ x. word (take (length bytes - (at + 2)) (drop (at + 2) bytes)) (x * 2 + 1))) (take found items)) next number → size ≡ recordSize n → Resumed m bytes (set special r map) next number (at + size) (r + 1)
     resumed-next more made size-is =
         let fits = record-fits .2 in
         let c = h .count in
@@ -182,7 +181,7 @@ module _ {m : ℕ} {bytes special items spare : List ℕ} {found at r : ℕ} (h 
           most = omega arith;
           inside = omega arith;
           maps = maps-is more;
-          table = entered-is made;
+          table = entered-is more made;
           short = rw size-is entered-short;
           rest =
               h .rest
@@ -231,9 +230,7 @@ module _ {m : ℕ} {bytes special items spare : List ℕ} {found at r : ℕ} (h 
       let small = fitting under in
       let is : tabled (readRecords m bytes) ≡ record { judgement = Read; special = mapsOf (h .done); entries = entriesOf (h .done) } = ap tabled (read-all last none) ∙ rw (le-ltb 255 (length (entriesOf (h .done))) small) in
       let number = table-count (h .table) small in
-      let upTo = h .most in
-      let at-last : m - r ≡ 0 = omega arith in
-      let stands : take found items ≡ entriesOf (h .done) = rw at-last at (table-all (h .table) small) in
+      let stands = table-all (h .table) small in
       rw is (ap₂ (λ (s : List ℕ) (n : ℕ). record { judgement = Read; special = s; count = n }) (h .maps) number, rw (← number) stands)
 
   -- a slice with room for the bytes has room for the entries

@@ -4,4 +4,3 @@ pub mod EntriesLaws
 pub mod TableLaws
 pub mod Bounds
 pub mod Image
-pub mod Sides

@@ -1,13 +1,9 @@
 // Reading a schema: "A schema is m such records, and each record begins where the one before it ends."
 ghost use mathlib.Core.Path.{_≡_};
-ghost use Prim.Native.Nat.{_≤_, _<_};
-ghost use lib.ListN.{length, take};
-ghost use Rattle.bits.specs.Tab.{tab};
-ghost use Rattle.bits.specs.Word.{word};
-ghost use Prim.Native.Nat.{_+_, _*_, _^_};
-ghost use Rattle.membership.specs.Entries.{RoomFor, TableIn, enter as entered};
+ghost use Prim.Native.Nat.{_≤_};
+ghost use lib.ListN.{length};
+ghost use Rattle.membership.specs.Entries.{RoomFor};
 ghost use Rattle.schema.specs.Schema.{schemaReading, refusedSchema, readingOf, EntriesStand};
-ghost use Rattle.schema.specs.Sides.{source, EntersRecord};
 use membership::enter;
 use refusal::Refusal;
 use type_record::RecordReading;
@@ -38,27 +34,6 @@ fn refused(r: Refusal) -> SchemaReading
     }
 }
 
-// Enters the attributes of relation r from one slice to the other, so that after the last of m relations the entries
-// stand in `items`.
-fn enter_record(
-    list: &[u8],
-    count: usize,
-    m: u8,
-    r: u8,
-    items: &mut [u32],
-    spare: &mut [u32],
-    old: usize,
-) -> usize
-    requires { ⌜ (r < m) × (m ≤ 8) ⌝ }
-    requires { ⌜ EntersRecord (now list) count m r (now items) (now spare) old ⌝ }
-    ensures { λ k. ⌜ TableIn (entered (2 ^ r) (tab count (λ x. word (now (list .entry)) (x * 2 + 1))) (take old (source m r (now (items .entry)) (now (spare .entry))))) (source m (r + 1) (now (items .exit)) (now (spare .exit))) k ⌝ }
-{
-    if (m - r) % 2 == 1 {
-        return enter(list, count, 1 << r, spare, old, items);
-    }
-    enter(list, count, 1 << r, items, old, spare)
-}
-
 // The schema of m relations in these bytes. Its entries stand at the front of `items`; what stands after them, and in
 // the second slice, is free.
 pub fn read_schema(bytes: &[u8], m: u8, items: &mut [u32], spare: &mut [u32]) -> SchemaReading
@@ -79,7 +54,7 @@ pub fn read_schema(bytes: &[u8], m: u8, items: &mut [u32], spare: &mut [u32]) ->
             }
             RecordReading::Read(map, listed) => {
                 special[r as usize] = map;
-                count = enter_record(&bytes[at + 2..], listed, m, r, items, spare, count);
+                count = enter(&bytes[at + 2..], listed, 1 << r, items, count, spare);
                 at += record_size(listed);
                 r += 1;
             }

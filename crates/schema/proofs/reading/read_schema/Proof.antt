@@ -8,19 +8,19 @@ use Rattle.schema.proofs.reading.read_schema.Statement.{statement}
 use Rattle.schema.proofs.reading.read_schema.Tie as tie
 use Rattle.schema.proofs.reading.read_schema.Reads as reads
 use Rattle.schema.proofs.reading.read_schema.Lts as lts
-use Rattle.schema.proofs.reading.enter_record.Reads as enter-record-reads
+use Rattle.membership.proofs.enter.Reads as enter-reads
 use Rattle.schema.proofs.reading.refused.Reads as refused-reads
 use Rattle.type_record.proofs.read_record.Reads as read-record-reads
 use Rattle.type_record.proofs.record_size.Reads as record-size-reads
 
 abbrev Inv-loop : tie.InvT-loop
-Inv-loop bytes m items₀ spare₀ special₀ count₀ at₀ r₀ items spare special count at r = Resumed m bytes special items spare count at r × (length items ≡ length items₀) × (length spare ≡ length spare₀)
+Inv-loop bytes m items₀ spare₀ special₀ count₀ at₀ r₀ items spare special count at r = Resumed m bytes special items count at r × (length items ≡ length items₀) × (length spare ≡ length spare₀)
 
 abbrev μ-loop : tie.MeasureT-loop
 μ-loop bytes m items₀ spare₀ special₀ count₀ at₀ r₀ items spare special count at r = m - r
 
 loop-holds : tie.Need-loop-holds Inv-loop μ-loop
-loop-holds c = (resumed-start _ _ _ _, refl, refl)
+loop-holds c = (resumed-start _ _ _, refl, refl)
 
 sub-read-record : tie.Need-sub-read-record Inv-loop μ-loop
 sub-read-record c =
@@ -65,32 +65,35 @@ mul-special c = search needs
 array-write-special : tie.Need-array-write-special Inv-loop μ-loop
 array-write-special c = search needs
 
-add-enter-record : tie.Need-add-enter-record Inv-loop μ-loop
-add-enter-record c =
+add-enter : tie.Need-add-enter Inv-loop μ-loop
+add-enter c =
     let fits = record-fits (c .before .before .before .before .before .before .loop .inv .0) (λ x. omega (arith, c .before .before .before .before .before .before .before .before .before .shared-slice-known .given x)) (c .before .before .before .before .before .before .before .before .before .before .pre .0) (sym (c .before .before .before .read-record .ensures) ∙ c .before .map .given .1) in
     let inside = fits .1 in
     let end = fits .2 in
     omega arith
 
-sub-enter-record : tie.Need-sub-enter-record Inv-loop μ-loop
-sub-enter-record c =
+sub-enter : tie.Need-sub-enter Inv-loop μ-loop
+sub-enter c =
     let fits = record-fits (c .before .before .before .before .before .before .loop .inv .0) (λ x. omega (arith, c .before .before .before .before .before .before .before .before .before .shared-slice-known .given x)) (c .before .before .before .before .before .before .before .before .before .before .pre .0) (sym (c .before .before .before .read-record .ensures) ∙ c .before .map .given .1) in
     let inside = fits .1 in
     let end = fits .2 in
     omega arith
 
-part-enter-record-start : tie.Need-part-enter-record-start Inv-loop μ-loop
-part-enter-record-start c =
+part-enter-start : tie.Need-part-enter-start Inv-loop μ-loop
+part-enter-start c =
     let fits = record-fits (c .before .before .before .before .before .before .loop .inv .0) (λ x. omega (arith, c .before .before .before .before .before .before .before .before .before .shared-slice-known .given x)) (c .before .before .before .before .before .before .before .before .before .before .pre .0) (sym (c .before .before .before .read-record .ensures) ∙ c .before .map .given .1) in
     let inside = fits .1 in
     let end = fits .2 in
     omega arith
 
-part-enter-record-end : tie.Need-part-enter-record-end Inv-loop μ-loop
-part-enter-record-end c = search needs
+part-enter-end : tie.Need-part-enter-end Inv-loop μ-loop
+part-enter-end c = search needs
 
-enter-record-requires : tie.Need-enter-record-requires Inv-loop μ-loop
-enter-record-requires c κs = ((c .before .before .before .before .before .before .before .before .loop-test .taken, c .before .before .before .before .before .before .before .before .before .before .before .before .before .pre .0), enters (c .before .before .before .before .before .before .before .before .before .loop .inv .0) (λ x. omega (arith, c .before .before .before .before .before .before .before .before .before .before .before .before .shared-slice-known .given x)) (c .before .before .before .before .before .before .before .before .before .before .before .before .before .pre .0) (sym (c .before .before .before .before .before .before .read-record .ensures) ∙ c .before .before .before .before .map .given .1) (room-same (length (c .before .before .before .before .before .before .before .before .before .before .before .before .before .args .bytes .now)) (c .before .before .before .before .before .before .before .before .before .before .before .before .before .args .items .now) (c .before .before .before .before .before .before .before .before .before .loop .items) (c .before .before .before .before .before .before .before .before .before .loop .inv .1) (c .before .before .before .before .before .before .before .before .before .before .before .before .before .pre .1 .0)) (room-same (length (c .before .before .before .before .before .before .before .before .before .before .before .before .before .args .bytes .now)) (c .before .before .before .before .before .before .before .before .before .before .before .before .before .args .spare .now) (c .before .before .before .before .before .before .before .before .before .loop .spare) (c .before .before .before .before .before .before .before .before .before .loop .inv .2) (c .before .before .before .before .before .before .before .before .before .before .before .before .before .pre .1 .1)))
+shl-enter : tie.Need-shl-enter Inv-loop μ-loop
+shl-enter c = search needs
+
+enter-requires : tie.Need-enter-requires Inv-loop μ-loop
+enter-requires c κs = (enters (c .before .before .before .before .before .before .before .before .before .loop .inv .0) (λ x. omega (arith, c .before .before .before .before .before .before .before .before .before .before .before .before .shared-slice-known .given x)) (c .before .before .before .before .before .before .before .before .before .before .before .before .before .pre .0) (sym (c .before .before .before .before .before .before .read-record .ensures) ∙ c .before .before .before .before .map .given .1) (c .before .before .before .before .before .before .before .before .before .loop .items) (room-same (length (c .before .before .before .before .before .before .before .before .before .before .before .before .before .args .bytes .now)) (c .before .before .before .before .before .before .before .before .before .before .before .before .before .args .items .now) (c .before .before .before .before .before .before .before .before .before .loop .items) (c .before .before .before .before .before .before .before .before .before .loop .inv .1) (c .before .before .before .before .before .before .before .before .before .before .before .before .before .pre .1 .0)), enters (c .before .before .before .before .before .before .before .before .before .loop .inv .0) (λ x. omega (arith, c .before .before .before .before .before .before .before .before .before .before .before .before .shared-slice-known .given x)) (c .before .before .before .before .before .before .before .before .before .before .before .before .before .pre .0) (sym (c .before .before .before .before .before .before .read-record .ensures) ∙ c .before .before .before .before .map .given .1) (c .before .before .before .before .before .before .before .before .before .loop .spare) (room-same (length (c .before .before .before .before .before .before .before .before .before .before .before .before .before .args .bytes .now)) (c .before .before .before .before .before .before .before .before .before .before .before .before .before .args .spare .now) (c .before .before .before .before .before .before .before .before .before .loop .spare) (c .before .before .before .before .before .before .before .before .before .loop .inv .2) (c .before .before .before .before .before .before .before .before .before .before .before .before .before .pre .1 .1)))
 
 record-size-requires : tie.Need-record-size-requires Inv-loop μ-loop
 record-size-requires c κs = record-fits (c .before .before .before .before .before .before .before .before .before .before .before .before .before .before .loop .inv .0) (λ x. omega (arith, c .before .before .before .before .before .before .before .before .before .before .before .before .before .before .before .before .before .shared-slice-known .given x)) (c .before .before .before .before .before .before .before .before .before .before .before .before .before .before .before .before .before .before .pre .0) (sym (c .before .before .before .before .before .before .before .before .before .before .before .read-record .ensures) ∙ c .before .before .before .before .before .before .before .before .before .map .given .1) .0
@@ -110,7 +113,7 @@ loop-less : tie.Need-loop-less Inv-loop μ-loop
 loop-less c = search needs
 
 loop-again : tie.Need-loop-again Inv-loop μ-loop
-loop-again c = (resumed-next (c .before .before .before .before .before .before .before .before .before .before .before .before .before .before .before .loop .inv .0) (λ x. omega (arith, c .before .before .before .before .before .before .before .before .before .before .before .before .before .before .before .before .before .before .shared-slice-known .given x)) (c .before .before .before .before .before .before .before .before .before .before .before .before .before .before .before .before .before .before .before .pre .0) (sym (c .before .before .before .before .before .before .before .before .before .before .before .before .read-record .ensures) ∙ c .before .before .before .before .before .before .before .before .before .before .map .given .1) (c .before .before .before .before .before .before .before .before .before .before .before .before .before .before .loop-test .taken) (c .before .before .before .before .before .enter-record .ensures) (c .record-size .ensures), c .before .before .before .before .before .enter-record .kept .1 .1 .1 .1 .0 ∙ c .before .before .before .before .before .before .before .before .before .before .before .before .before .before .before .loop .inv .1, c .before .before .before .before .before .enter-record .kept .1 .1 .1 .1 .1 .0 ∙ c .before .before .before .before .before .before .before .before .before .before .before .before .before .before .before .loop .inv .2)
+loop-again c = (resumed-next (c .before .before .before .before .before .before .before .before .before .before .before .before .before .before .before .loop .inv .0) (λ x. omega (arith, c .before .before .before .before .before .before .before .before .before .before .before .before .before .before .before .before .before .before .shared-slice-known .given x)) (c .before .before .before .before .before .before .before .before .before .before .before .before .before .before .before .before .before .before .before .pre .0) (sym (c .before .before .before .before .before .before .before .before .before .before .before .before .read-record .ensures) ∙ c .before .before .before .before .before .before .before .before .before .before .map .given .1) (c .before .before .before .before .before .before .before .before .before .before .before .before .before .before .loop-test .taken) (c .before .before .before .before .before .enter .ensures) (c .record-size .ensures), c .before .before .before .before .before .enter .kept .1 .1 .1 .0 ∙ c .before .before .before .before .before .before .before .before .before .before .before .before .before .before .before .loop .inv .1, c .before .before .before .before .before .enter .kept .1 .1 .1 .1 .1 .0 ∙ c .before .before .before .before .before .before .before .before .before .before .before .before .before .before .before .loop .inv .2)
 
 refused-requires-2 : tie.Need-refused-requires-2 Inv-loop μ-loop
 refused-requires-2 c κs = search needs
@@ -167,11 +170,12 @@ read-schema-spec =
     cast-special
     mul-special
     array-write-special
-    add-enter-record
-    sub-enter-record
-    part-enter-record-start
-    part-enter-record-end
-    enter-record-requires
+    add-enter
+    sub-enter
+    part-enter-start
+    part-enter-end
+    shl-enter
+    enter-requires
     record-size-requires
     add-at
     add-r

@@ -2,10 +2,10 @@ use Rattle.membership.specs.Merging.{enters-in, merge-self}
 use native.Mathlib.Omega.{arith}
 use mathlib.Core.Logic.{inl, inr, ⊎-elim}
 use borrow.Author.Needs.{needs}
-use Rattle.membership.proofs.merging.enter.Statement.{statement}
-use Rattle.membership.proofs.merging.enter.Tie as tie
-use Rattle.membership.proofs.merging.enter.Reads as reads
-use Rattle.membership.proofs.merging.enter.Lts as lts
+use Rattle.membership.proofs.merging.merge_into.Statement.{statement}
+use Rattle.membership.proofs.merging.merge_into.Tie as tie
+use Rattle.membership.proofs.merging.merge_into.Reads as reads
+use Rattle.membership.proofs.merging.merge_into.Lts as lts
 use Rattle.membership.proofs.merging.append_listed.Reads as append-listed-reads
 use Rattle.membership.proofs.merging.copy_earlier.Reads as copy-earlier-reads
 use Rattle.membership.proofs.merging.merge.Reads as merge-reads
@@ -37,8 +37,8 @@ same-length-2 c = search needs
 returns-2 : tie.Need-returns-2
 returns-2 c = c .before .before .append-listed .ensures
 
-pub enter-spec : {M : Type 1} → statement M
-enter-spec =
+pub merge-into-spec : {M : Type 1} → statement M
+merge-into-spec =
     tie.close
     (tie.spec
     merge-requires

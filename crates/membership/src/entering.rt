@@ -1,0 +1,93 @@
+// Entering a list of attributes into a table in place.
+ghost use mathlib.Core.Path.{_≡_};
+ghost use Prim.Native.Nat.{_+_, _*_, _≤_};
+ghost use lib.ListN.{length, take};
+ghost use Rattle.bits.specs.Tab.{tab};
+ghost use Rattle.bits.specs.Word.{word};
+ghost use Rattle.membership.specs.Entries.{enter as entries, TableIn};
+ghost use Rattle.membership.specs.Merging.{Enters, Merge};
+ghost use Rattle.membership.specs.Entering.{CopyFits, Copied};
+use crate::merging::merge_into;
+
+// How far marking has come: listed attributes that have an entry, and entries that are looked at.
+pub struct Marked {
+    pub listed: usize,
+    pub passed: usize,
+}
+
+// Adds the subset to the entries of the listed attributes, up to the first attribute that has none.
+fn mark(list: &[u8], count: usize, subset: u8, items: &mut [u32], old: usize) -> Marked
+    requires { ⌜ Enters (now list) count (now items) old (now items) ⌝ }
+    ensures { λ r. ⌜ Merge subset (tab count (λ x. word (now (list .entry)) (x * 2 + 1))) (take old (now (items .entry))) (now (items .entry)) (now (items .exit)) (r .listed) (r .passed) (r .passed) ⌝ }
+{
+    let mut i = 0;
+    let mut j = 0;
+    while i < count && j < old {
+        let a = bits::word_at(list, i * 2 + 1) as u32;
+        let e = items[j];
+        let b = e / 256;
+        if a < b {
+            return Marked {
+                listed: i,
+                passed: j,
+            };
+        }
+        if b < a {
+            j += 1;
+        } else {
+            items[j] = e | subset as u32;
+            i += 1;
+            j += 1;
+        }
+    }
+    Marked {
+        listed: i,
+        passed: j,
+    }
+}
+
+// Copies entries to the places from `at` on, up to place 256, and gives the place after them.
+fn copy_entries(source: &[u32], count: usize, items: &mut [u32], at: usize) -> usize
+    requires { ⌜ (count ≤ length (now source)) × (at ≤ 256) ⌝ }
+    requires { ⌜ CopyFits count at (now items) × (at ≤ length (now items)) ⌝ }
+    ensures { λ k. ⌜ Copied (now (source .entry)) count at (now (items .entry)) (now (items .exit)) k ⌝ }
+{
+    let mut k = at;
+    let mut i = 0;
+    while i < count && k < 256 {
+        items[k] = source[i];
+        i += 1;
+        k += 1;
+    }
+    k
+}
+
+// Enters the attributes of the list for the relations in the subset, and gives the number of the entries. From the
+// first attribute that has no entry on, they are merged in the second slice, which is free afterwards.
+pub fn enter(
+    list: &[u8],
+    count: usize,
+    subset: u8,
+    items: &mut [u32],
+    old: usize,
+    spare: &mut [u32],
+) -> usize
+    requires { ⌜ Enters (now list) count (now items) old (now items) × Enters (now list) count (now items) old (now spare) ⌝ }
+    ensures { λ r. ⌜ TableIn (entries subset (tab count (λ x. word (now (list .entry)) (x * 2 + 1))) (take old (now (items .entry)))) (now (items .exit)) r ⌝ }
+{
+    let marked = mark(list, count, subset, items, old);
+    let i = marked.listed;
+    let j = marked.passed;
+    if count <= i {
+        return old;
+    }
+    let merged = merge_into(
+        &list[i * 2..],
+        count - i,
+        subset,
+        &items[j..],
+        old - j,
+        spare,
+    );
+    copy_entries(spare, merged, items, j)
+}
