@@ -75,8 +75,24 @@ pub fn type_table(
     ensures { λ r. ⌜ r ≡ tableAnswer (expressionAt (now (file .entry)) node) (now (special .entry)) (take count (now (items .entry))) ⌝ }
     ensures { λ _. ⌜ now (out .exit) ≡ tableOut (expressionAt (now (file .entry)) node) (now (special .entry)) (take count (now (items .entry))) (now (out .entry)) ⌝ }
 {
-    if (node as usize + 1) * (2 + (count + 63) / 64) <= 24 {
+    let words = (node as usize + 1) * (2 + (count + 63) / 64);
+    if words <= 24 {
         let mut sets = [0u64; 24];
+        return type_within(
+            file,
+            m,
+            n,
+            node,
+            special,
+            items,
+            count,
+            list,
+            &mut sets,
+            out,
+        );
+    }
+    if words <= 192 {
+        let mut sets = [0u64; 192];
         return type_within(
             file,
             m,
