@@ -2,7 +2,7 @@
 use Prim.Native.Nat.{ℕ}
 use mathlib.Core.Bool.{not}
 use mathlib.Core.List.{List}
-use lib.ListN.{length, take}
+use lib.ListN.{length}
 use Rattle.bits.specs.Tab.{over}
 use Rattle.refusal.specs.Chain.{refuse}
 use Rattle.refusal.specs.declared.Refusal.{Refusal}
@@ -14,8 +14,7 @@ use Rattle.formula.specs.Stored.{formulasOf, admitted}
 use Rattle.type_record.specs.Record.{recordSize, recordBytes}
 use Rattle.schema.specs.Schema.{schemaBytes, recordsOf}
 use Rattle.schema.specs.declared.reading.Judgement.{Judgement}
-use Rattle.instantiation.specs.Instantiation.{instantiationReading}
-use Rattle.instantiation.specs.declared.reading.Instantiation.{Instantiation}
+use Rattle.instantiation.specs.Instantiation.{Instantiation, instantiationReading}
 use Rattle.typing.specs.Output.{outputMap, outputList}
 use Rattle.typing.specs.Typing.{afterSchema}
 use Rattle.special_maps.specs.Special.{mapsFrom}
@@ -46,17 +45,14 @@ tableOutput m e subsets entries out = afterFit m e subsets entries (λ r. out) (
 
 -- ---- an instantiation as it was read: the refusal, or what its table gives
 
-abbrev pub entriesOf : Instantiation → List ℕ
-entriesOf i = take (i .entries .count) (i .entries .items)
-
 unfoldable pub readApplied : ℕ → Expression → Instantiation → Application
-readApplied m e i = afterSchema (i .judgement) Refused (tableApplied m e (i .subsets) (entriesOf i))
+readApplied m e i = afterSchema (i .judgement) Refused (tableApplied m e (i .subsets) (i .entries))
 
 unfoldable pub readImage : ℕ → Expression → Instantiation → List ℕ → List ℕ
-readImage m e i schema = afterSchema (i .judgement) (λ r. schema) (tableImage m e (i .subsets) (entriesOf i) schema)
+readImage m e i schema = afterSchema (i .judgement) (λ r. schema) (tableImage m e (i .subsets) (i .entries) schema)
 
 unfoldable pub readOutput : ℕ → Expression → Instantiation → List ℕ → List ℕ
-readOutput m e i out = afterSchema (i .judgement) (λ r. out) (tableOutput m e (i .subsets) (entriesOf i) out)
+readOutput m e i out = afterSchema (i .judgement) (λ r. out) (tableOutput m e (i .subsets) (i .entries) out)
 
 -- "A refusal changes no slice, but with 20 and 21 the work space holds the formulas"
 unfoldable pub readSpace : List ℕ → ℕ → ℕ → Judgement → List ℕ → List ℕ

@@ -1,5 +1,5 @@
 -- Laws of Apply: what the code finds is what the definitions say, the results after each refusal, and after none.
-use Prim.Native.Nat.{ℕ, _+_, _*_, _≤_, _<_}
+use Prim.Native.Nat.{ℕ, _+_, _*_, _%_, _≤_, _<_}
 use mathlib.Core.Path.{_≡_, refl, sym, ap, ap₂, _∙_}
 use mathlib.Core.Bool.{Bool, true, false, not}
 use mathlib.Core.List.{List}
@@ -25,25 +25,24 @@ use Rattle.formula.specs.Stored.{cellColumn, formulasOf, admitted}
 use Rattle.formula.specs.StoredLaws.{stored-column, Admits, admitted-passed}
 use Rattle.type_record.specs.Record.{recordSize, recordBytes}
 use Rattle.membership.specs.Entries.{subsetOf}
-use Rattle.membership.specs.TableLaws.{table-count, is-table}
-use Rattle.schema.specs.Schema.{schemaBytes, recordsOf}
+use Rattle.membership.specs.Holders.{ItemsFit}
+use Rattle.membership.specs.TableLaws.{items-stand}
+use Rattle.schema.specs.Schema.{schemaBytes, recordsOf, EntriesStand, WritesFrom}
 use Rattle.schema.specs.declared.reading.Judgement.{Judgement}
 use Rattle.schema.specs.declared.reading.Judgement.the-variants.{Read, Refused as ReadRefused}
-use Rattle.instantiation.specs.Instantiation.{entriesIn, instantiationReading}
+use Rattle.instantiation.specs.Instantiation.{Instantiation, entriesIn, instantiationReading, readingOf}
 use Rattle.instantiation.specs.ReadLaws.{lists-read}
 use Rattle.instantiation.specs.EntriesLaws.{entries-below}
-use Rattle.instantiation.specs.TableLaws.{ReadInstantiation, instantiation-read, read-zeros, subsets-size, subsets-none, subsets-small}
-use Rattle.instantiation.specs.declared.reading.Instantiation.{Instantiation}
-use Rattle.typing.specs.Output.{typedIn, outputMap, outputList}
-use Rattle.typing.specs.Typing.{tableAnswer, tableOut, afterSchema}
-use Rattle.typing.specs.TypingLaws.{ReadTable, answer-typed, out-typed}
-use Rattle.typing.specs.declared.operation.Answer.{Answer}
-use Rattle.typing.specs.declared.operation.Answer.the-variants.{Typed, Untyped, Refused as TypingRefused}
+use Rattle.instantiation.specs.TableLaws.{ReadInstantiation, instantiation-read, subsets-size, subsets-none, subsets-small}
+use Rattle.instantiation.specs.declared.reading.InstantiationReading.{InstantiationReading}
+use Rattle.typing.specs.Output.{outputMap, outputList}
+use Rattle.typing.specs.Typing.{afterSchema}
+use Rattle.typing.specs.OutputLaws.{map-even}
 use Rattle.special_maps.specs.Special.{mapsFrom}
 use Rattle.special_maps.specs.SpecialLaws.{maps-length, maps-even}
-use Rattle.application.specs.Fitting.{entriesAllowed, specialsAllowed}
-use Rattle.application.specs.Fits.{entriesFit, specialsFit, entries-stored, specials-stored, fits-typed}
-use Rattle.application.specs.Apply.{afterFit, imageBytes, outputBytes, tableApplied, tableImage, tableOutput, entriesOf, readApplied, readImage, readOutput, readSpace, applyAnswer, applySpace, applySchema, applyOut}
+use Rattle.application.specs.Fitting.{entriesAllowed, specialsAllowed, storedMap, storedList}
+use Rattle.application.specs.Fits.{entriesFit, specialsFit, entries-stored, specials-stored, map-stored, list-stored}
+use Rattle.application.specs.Apply.{afterFit, imageBytes, outputBytes, tableApplied, tableImage, tableOutput, readApplied, readImage, readOutput, readSpace, applyAnswer, applySpace, applySchema, applyOut}
 use Rattle.application.specs.declared.applying.Application.{Application}
 use Rattle.application.specs.declared.applying.Application.the-variants.{Applied, Refused}
 
@@ -52,15 +51,13 @@ pub record Filled (file : List ℕ) (m k : ℕ) (work : List ℕ) : Type 0 where
   pub fits : k * 1024 + 1024 ≤ length work
   pub columns : (c : ℕ) → c < 16 → columnAt work k c ≡ cellColumn m (expressionAt file k) c
 
--- the table of an instantiation that was read: a subset of a byte for each special attribute, none for 0, and entries with zeros after the last
+-- the table of an instantiation that was read: a subset of a byte for each special attribute, none for 0, and at most 255 entries
 pub record ReadSubsets (subsets items : List ℕ) (count : ℕ) : Type 0 where
   pub special : length subsets ≡ 16
   pub small : (i : ℕ) → getD subsets i 0 < 256
   pub none : getD subsets 0 0 ≡ 0
-  pub size : length items ≡ 256
   pub few : count ≤ 255
-  pub below : (i : ℕ) → getD items i 0 < 16777216
-  pub zeros : (i : ℕ) → count ≤ i → getD items i 0 ≡ 0
+  pub fit : ItemsFit items count
 
 -- the test of the entries in memory is that of the entries
 pub entries-tested : (file : List ℕ) (m k : ℕ) (work items : List ℕ) (count : ℕ) → Filled file m k work → count ≤ length items → (t : Bool) → t ≡ allBelow count (λ i. typeVariable (allowedIn (columnAt work k 0)) (subsetOf (getD items i 0))) → t ≡ entriesFit m (expressionAt file k) (take count items)
@@ -126,7 +123,7 @@ module _ (m : ℕ) (e : Expression) (subsets entries : List ℕ) where
 module _ (file : List ℕ) (m k : ℕ) (few : m ≤ 8) (legal : Legal m (expressionAt file k)) (work subsets items : List ℕ) (count : ℕ) (filled : Filled file m k work) (table : ReadSubsets subsets items count) where
   -- the tests of the code
   entries-found : (t : Bool) → t ≡ allBelow count (λ i. typeVariable (allowedIn (columnAt work k 0)) (subsetOf (getD items i 0))) → t ≡ entriesFit m (expressionAt file k) (take count items)
-  entries-found = entries-tested file m k work items count filled (let size = table .size in let most = table .few in omega arith)
+  entries-found = entries-tested file m k work items count filled (table .fit .enough)
 
   specials-found : (t : Bool) → t ≡ specialsAllowed work k subsets → t ≡ specialsFit m (expressionAt file k) subsets
   specials-found t is = is ∙ specials-stored work k m (expressionAt file k) (filled .columns) subsets (table .small)
@@ -150,65 +147,68 @@ module _ (file : List ℕ) (m k : ℕ) (few : m ≤ 8) (legal : Legal m (express
       special-fit : specialsFit m (expressionAt file k) subsets ≡ true
       special-fit = sym (specials-found u is′) ∙ holds′
 
-      typed : typedIn (expressionAt file k) maps (take count items) ≡ true
-      typed = rw maps-are (fits-typed m few (expressionAt file k) legal subsets (take count items) (table .none) fit special-fit)
+      map-is : storedMap work k subsets ≡ outputMap (expressionAt file k) (mapsFrom subsets)
+      map-is = map-stored m few (expressionAt file k) legal work k (filled .columns) subsets (table .small) (table .none) special-fit
 
-      always-typed : (a : Answer) → a ≡ tableAnswer (expressionAt file k) maps (take count items) → a ≡ Typed (recordSize (length (outputList (expressionAt file k) (take count items))))
-      always-typed a said = said ∙ answer-typed (expressionAt file k) maps (take count items) typed
+      -- the map of the output has bit 0 clear
+      pub output-even : (map : ℕ) → map ≡ storedMap work k subsets → map % 2 ≡ 0
+      output-even map map-found = ap (λ (x : ℕ). x % 2) (map-found ∙ map-is) ∙ map-even m (expressionAt file k) legal (mapsFrom subsets) (maps-even subsets (table .none))
 
-      -- and no other answer comes
-      pub never-untyped : (a : Answer) → a ≡ tableAnswer (expressionAt file k) maps (take count items) → a ≡ Untyped → ⊥
-      never-untyped a said is = let both = sym is ∙ always-typed a said in let z : _≡_ {A = ℕ} 0 1 = cc in omega arith
-
-      pub never-refused : (a : Answer) (r : Refusal) → a ≡ tableAnswer (expressionAt file k) maps (take count items) → a ≡ TypingRefused r → ⊥
-      never-refused a r said is = let both = sym is ∙ always-typed a said in let z : _≡_ {A = ℕ} 0 1 = cc in omega arith
-
-      pub table-applied : (size outSize : ℕ) (image written : List ℕ) → size ≡ length (schemaBytes (recordsOf m maps (take count items))) → image ≡ over (schemaBytes (recordsOf m maps (take count items))) schema → Typed outSize ≡ tableAnswer (expressionAt file k) maps (take count items) → written ≡ tableOut (expressionAt file k) maps (take count items) out → (Applied size outSize ≡ tableApplied m (expressionAt file k) subsets (take count items)) × ((image ≡ tableImage m (expressionAt file k) subsets (take count items) schema) × (written ≡ tableOutput m (expressionAt file k) subsets (take count items) out))
-      table-applied size outSize image written size-is image-is said wrote =
-          let out-size : outSize ≡ recordSize (length (outputList (expressionAt file k) (take count items))) = sized (always-typed (Typed outSize) said) in
+      pub table-applied : (size outSize map : ℕ) (listed image written : List ℕ) → size ≡ length (schemaBytes (recordsOf m maps (take count items))) → image ≡ over (schemaBytes (recordsOf m maps (take count items))) schema → map ≡ storedMap work k subsets → listed ≡ storedList work k (take count items) → outSize ≡ recordSize (length listed) → written ≡ over (recordBytes map listed) out → (Applied size outSize ≡ tableApplied m (expressionAt file k) subsets (take count items)) × ((image ≡ tableImage m (expressionAt file k) subsets (take count items) schema) × (written ≡ tableOutput m (expressionAt file k) subsets (take count items) out))
+      table-applied size outSize map listed image written size-is image-is map-found list-found out-size wrote =
+          let list-is = list-found ∙ list-stored m few (expressionAt file k) legal work k (filled .columns) (take count items) fit in
           let gives = table-fits m (expressionAt file k) subsets (take count items) schema out fit special-fit in (
-            ap₂ Applied (size-is ∙ ap (λ (x : List ℕ). length (schemaBytes (recordsOf m x (take count items)))) maps-are) out-size ∙ sym (gives .0),
+            ap₂ Applied (size-is ∙ ap (λ (x : List ℕ). length (schemaBytes (recordsOf m x (take count items)))) maps-are) (out-size ∙ ap (λ (l : List ℕ). recordSize (length l)) list-is) ∙ sym (gives .0),
             (
               image-is ∙ ap (λ (x : List ℕ). over (schemaBytes (recordsOf m x (take count items))) schema) maps-are ∙ sym (gives .1 .0),
-              wrote
-                  ∙ out-typed (expressionAt file k) maps (take count items) out typed
-                  ∙ ap (λ (x : List ℕ). over (recordBytes (outputMap (expressionAt file k) x) (outputList (expressionAt file k) (take count items))) out) maps-are
-                  ∙ sym (gives .1 .1),
+              wrote ∙ ap₂ (λ (x : ℕ) (l : List ℕ). over (recordBytes x l) out) (map-found ∙ map-is) list-is ∙ sym (gives .1 .1),
             ),
           )
-        where
-          sized : {a b : ℕ} → Typed a ≡ Typed b → a ≡ b
-          sized q = cc
 
 -- an instantiation that was read has such a table
-pub read-subsets : (bytes : List ℕ) (i : Instantiation) → Bytes bytes → i ≡ instantiationReading bytes → i .judgement ≡ Read → ReadSubsets (i .subsets) (i .entries .items) (i .entries .count)
-read-subsets bytes i below is read = rw is (made (instantiation-read bytes (rw is at read)))
+pub record SubsetsRead (bytes items : List ℕ) (x : InstantiationReading) : Type 0 where
+  pub table : ReadSubsets (x .subsets) items (x .count)
+  pub subsets : x .subsets ≡ instantiationReading bytes .subsets
+  pub entries : take (x .count) items ≡ instantiationReading bytes .entries
+  pub judged : instantiationReading bytes .judgement ≡ Read
+
+pub read-subsets : (bytes items : List ℕ) (x : InstantiationReading) → Bytes bytes → x ≡ readingOf (instantiationReading bytes) → EntriesStand (x .judgement) (instantiationReading bytes .entries) items → x .judgement ≡ Read → SubsetsRead bytes items x
+unfolding readingOf
+read-subsets bytes items x below is stands read = made (instantiation-read bytes judged)
   where
-    made : (ls : List (List ℕ)) × ReadInstantiation bytes (instantiationReading bytes) ls → ReadSubsets (instantiationReading bytes .subsets) (instantiationReading bytes .entries .items) (instantiationReading bytes .entries .count)
+    judged : instantiationReading bytes .judgement ≡ Read
+    judged = sym (ap (λ (y : InstantiationReading). y .judgement) is) ∙ read
+
+    subsets : x .subsets ≡ instantiationReading bytes .subsets
+    subsets = ap (λ (y : InstantiationReading). y .subsets) is
+
+    number : x .count ≡ length (instantiationReading bytes .entries)
+    number = ap (λ (y : InstantiationReading). y .count) is
+
+    made : (ls : List (List ℕ)) × ReadInstantiation bytes (instantiationReading bytes) ls → SubsetsRead bytes items x
     made (ls, r) =
         let lists = lists-read bytes ls below (r .long) (r .read) in
-        let table = is-table (entriesIn ls) (entries-below ls lists) in
-        let n = table-count (entriesIn ls) (r .few) in
+        let is-entries = ap (λ (i : Instantiation). i .entries) (r .is) in
+        let is-subsets = subsets ∙ ap (λ (i : Instantiation). i .subsets) (r .is) in
         let few = r .few in
-        let zeros = read-zeros bytes (instantiationReading bytes) ls r in
-        rw (r .is)
-        (record {
-          special = subsets-size bytes;
-          small = subsets-small bytes below;
-          none = subsets-none bytes;
-          size = table .size;
-          few = omega arith;
-          below = table .below;
-          zeros = rw (r .is) at zeros;
-        })
+        let size = number ∙ ap length is-entries in
+        record {
+          table =
+              record {
+                special = rw is-subsets (subsets-size bytes);
+                small = rw is-subsets (subsets-small bytes below);
+                none = rw is-subsets (subsets-none bytes);
+                few = omega arith;
+                fit = rw number (items-stand items (instantiationReading bytes .entries) (stands read) (rw is-entries (entries-below ls lists)));
+              };
+          subsets = subsets;
+          entries = rw number (stands read);
+          judged = judged;
+        }
 
--- and maps with bit 0 clear, so that a table of maps can be made of it
-pub maps-table : (subsets items : List ℕ) (count : ℕ) → ReadSubsets subsets items count → ReadTable (mapsFrom subsets) items count
-maps-table subsets items count t =
-    record {
-      writes = record { maps = maps-length subsets; even = maps-even subsets (t .none); size = t .size; few = t .few; below = t .below };
-      zeros = t .zeros;
-    }
+-- a table of maps with bit 0 clear can be written from it
+pub maps-table : (subsets items : List ℕ) (count : ℕ) → ReadSubsets subsets items count → WritesFrom (mapsFrom subsets) items count
+maps-table subsets items count t = record { maps = maps-length subsets; even = maps-even subsets (t .none); few = t .few; fit = t .fit }
 
 -- what Formula leaves is such a work space
 pub filled-space : (file work filled : List ℕ) (m n k : ℕ) → k < n → n * 1024 ≤ length work → filled ≡ over (formulasOf file m n) work → length filled ≡ length work → Filled file m k filled
@@ -225,16 +225,16 @@ module _ (file : List ℕ) (m n : ℕ) (e : Expression) (i : Instantiation) (wor
   unfolding readApplied readSpace readImage readOutput
   read-stops r is = rw is (refl, (refl, (refl, refl)))
 
-  pub read-goes : i .judgement ≡ Read → (a : Application) (filled image written : List ℕ) → filled ≡ over (formulasOf file m n) work → a ≡ tableApplied m e (i .subsets) (entriesOf i) → image ≡ tableImage m e (i .subsets) (entriesOf i) schema → written ≡ tableOutput m e (i .subsets) (entriesOf i) out → (a ≡ readApplied m e i) × ((filled ≡ readSpace file m n (i .judgement) work) × ((image ≡ readImage m e i schema) × (written ≡ readOutput m e i out)))
+  pub read-goes : i .judgement ≡ Read → (a : Application) (filled image written : List ℕ) → filled ≡ over (formulasOf file m n) work → a ≡ tableApplied m e (i .subsets) (i .entries) → image ≡ tableImage m e (i .subsets) (i .entries) schema → written ≡ tableOutput m e (i .subsets) (i .entries) out → (a ≡ readApplied m e i) × ((filled ≡ readSpace file m n (i .judgement) work) × ((image ≡ readImage m e i schema) × (written ≡ readOutput m e i out)))
   unfolding readApplied readSpace readImage readOutput
   read-goes is a filled image written space applied imaged wrote = rw is (applied, (space, (imaged, wrote)))
 
 -- where it was applied, the instantiation was read
-pub read-applied : (m : ℕ) (e : Expression) (i : Instantiation) (size width : ℕ) → readApplied m e i ≡ Applied size width → (i .judgement ≡ Read) × (tableApplied m e (i .subsets) (entriesOf i) ≡ Applied size width)
+pub read-applied : (m : ℕ) (e : Expression) (i : Instantiation) (size width : ℕ) → readApplied m e i ≡ Applied size width → (i .judgement ≡ Read) × (tableApplied m e (i .subsets) (i .entries) ≡ Applied size width)
 unfolding readApplied
 read-applied m e i size width said = go (i .judgement) refl said
   where
-    go : (j : Judgement) → i .judgement ≡ j → afterSchema j Refused (tableApplied m e (i .subsets) (entriesOf i)) ≡ Applied size width → (i .judgement ≡ Read) × (tableApplied m e (i .subsets) (entriesOf i) ≡ Applied size width)
+    go : (j : Judgement) → i .judgement ≡ j → afterSchema j Refused (tableApplied m e (i .subsets) (i .entries)) ≡ Applied size width → (i .judgement ≡ Read) × (tableApplied m e (i .subsets) (i .entries) ≡ Applied size width)
     go (ReadRefused r) is q = absurd (let z : _≡_ {A = ℕ} 0 1 = cc in omega arith)
     go Read is q = (is, q)
 

@@ -8,25 +8,28 @@ use native.Mathlib.Omega.{arith}
 use borrow.Author.Tests.{lt-ltb, ltb-true}
 use lib.Dec.{ltb, lit<}
 use lib.ListN.{length, getD}
+use lib.Pow.{pow-pos}
 use Rattle.bits.specs.Booleans.{and-left, and-right}
 use Rattle.bits.specs.AllBelow.{allBelow, in-all, all-in, all-same}
 use Rattle.bits.specs.Bit.{bit, bit-none}
+use Rattle.bits.specs.Pack.{pack-same}
 use Rattle.algebra.specs.Expression.{Expression, Legal}
-use Rattle.algebra.specs.Cell.{plain, ok}
+use Rattle.algebra.specs.Cell.{plain, out, ok}
 use Rattle.algebra.specs.CellLaws.{cell-depends, cell-none}
 use Rattle.formulas.specs.Formula.{typeVariable}
-use Rattle.column.specs.Column.{allowedIn}
+use Rattle.column.specs.Column.{allowedIn, outputIn}
 use Rattle.formula.specs.Storage.{columnAt}
-use Rattle.formula.specs.Stored.{allowedBit, cellColumn}
-use Rattle.formula.specs.StoredLaws.{allowed-cell}
-use Rattle.formula.specs.NodeColumn.{cell-allowed}
+use Rattle.formula.specs.Stored.{allowedBit, outputBit, cellColumn}
+use Rattle.formula.specs.StoredLaws.{allowed-is, allowed-cell}
+use Rattle.formula.specs.NodeColumn.{cell-allowed, cell-output}
 use Rattle.membership.specs.Entries.{subsetOf}
-use Rattle.typing.specs.Output.{specialHolders, typedIn}
+use Rattle.membership.specs.Keeping.{kept-same}
+use Rattle.typing.specs.Output.{specialHolders, typedIn, outputMap, outputList}
 use Rattle.typing.specs.OutputLaws.{all-typed}
 use Rattle.typing.specs.OutputRecord.{entry-cell}
 use Rattle.special_maps.specs.Special.{mapsFrom}
 use Rattle.special_maps.specs.SpecialLaws.{map-bit}
-use Rattle.application.specs.Fitting.{entriesAllowed, specialsAllowed}
+use Rattle.application.specs.Fitting.{entriesAllowed, specialsAllowed, storedMap, storedList}
 
 -- the subset of each entry is a type variable
 unfoldable pub entriesFit : ℕ → Expression → List ℕ → Bool
@@ -92,3 +95,35 @@ module _ (m : ℕ) (few : m ≤ 8) (e : Expression) (legal : Legal m e) where
 
       listed : (i : ℕ) → i < length entries → ok plain e 0 (bit (getD entries i 0)) ≡ true
       listed i h = sym (entry-cell m few e legal (getD entries i 0) .0) ∙ allowed-cell m e 0 (subsetOf (getD entries i 0)) (entry-fits m e entries fit i h .1)
+
+-- ---- the output of a table that fits is what the output bits say
+
+module _ (m : ℕ) (few : m ≤ 8) (e : Expression) (legal : Legal m e) (work : List ℕ) (k : ℕ) (columns : (c : ℕ) → c < 16 → columnAt work k c ≡ cellColumn m e c) where
+  -- the output bit of a subset that is allowed
+  output-stored : (c s : ℕ) → c < 16 → s < 256 → allowedBit m e c s ≡ true → outputIn (columnAt work k c) s ≡ out plain e c (bit s)
+  unfolding outputBit
+  output-stored c s hc hs allowed = ap (λ (l : List ℕ). outputIn l s) (columns c hc) ∙ cell-output m e c s hs ∙ ap (λ (b : Bool). b && out plain e c (bit s)) allowed
+
+  pub map-stored : (subsets : List ℕ) → ((i : ℕ) → getD subsets i 0 < 256) → getD subsets 0 0 ≡ 0 → specialsFit m e subsets ≡ true → storedMap work k subsets ≡ outputMap e (mapsFrom subsets)
+  unfolding storedMap outputMap
+  map-stored subsets small none special = pack-same 16 _ _ each
+    where
+      held : (i : ℕ) → i < 16 → out plain e i (specialHolders (mapsFrom subsets) i) ≡ out plain e i (bit (getD subsets i 0))
+      held i h = cell-depends plain m e legal i (specialHolders (mapsFrom subsets) i) (bit (getD subsets i 0)) (λ r below. map-bit subsets r i (lt-of-lt-of-le below few) h) .1
+
+      nobody : allowedBit m e 0 (getD subsets 0 0) ≡ true
+      nobody =
+          let nobody : bit 0 ≡ (λ r. false) = fun-ext bit-none in
+          rw none (allowed-is m e 0 0 (pow-pos m) ∙ rw nobody (cell-none plain refl refl m e legal .0))
+
+      allowed : (i : ℕ) → i < 16 → allowedBit m e i (getD subsets i 0) ≡ true
+      allowed zero h = nobody
+      allowed (suc i) h = special-fits m e subsets special (suc i) (omega arith) (omega arith)
+
+      each : (i : ℕ) → i < 16 → outputIn (columnAt work k i) (getD subsets i 0) ≡ out plain e i (specialHolders (mapsFrom subsets) i)
+      each i h = output-stored i (getD subsets i 0) h (small i) (allowed i h) ∙ sym (held i h)
+
+  pub list-stored : (entries : List ℕ) → entriesFit m e entries ≡ true → storedList work k entries ≡ outputList e entries
+  list-stored entries fit =
+      kept-same entries (λ x. outputIn (columnAt work k 0) (subsetOf x)) (λ x. out plain e 0 (bit x))
+      (λ i h. output-stored 0 (subsetOf (getD entries i 0)) (lit< tt) (mod-lt (getD entries i 0) (lit< tt)) (entry-fits m e entries fit i h .1) ∙ entry-cell m few e legal (getD entries i 0) .1)

@@ -1,16 +1,20 @@
 -- A membership table against a node's stored formula: "Each subset must be allowed in its column and each standing bit a type variable." (document 01)
-use Prim.Native.Nat.{ℕ, _+_, _*_, _/_, _%_, _<_}
-use mathlib.Core.Path.{_≡_, ap, _∙_}
-use mathlib.Core.Bool.{Bool}
+use Prim.Native.Nat.{ℕ, _+_, _-_, _*_, _/_, _%_, _≤_, _<_}
+use mathlib.Core.Path.{_≡_, sym, ap, _∙_}
+use mathlib.Core.Bool.{Bool, cond}
 use mathlib.Core.List.{List}
 use native.Mathlib.Omega.{arith}
 use lib.ListN.{length, getD}
+use lib.Pow.{pow-mono}
 use Rattle.bits.specs.AllBelow.{allBelow}
 use Rattle.bits.specs.Bit.{bit}
+use Rattle.bits.specs.Pack.{pack}
+use Rattle.bits.specs.PackFrom.{packFrom, from-none, from-lower, from-below, from-all}
 use Rattle.formulas.specs.Formula.{typeVariable}
 use Rattle.membership.specs.Entries.{subsetOf}
-use Rattle.column.specs.Column.{allowedIn}
-use Rattle.column.specs.ColumnLaws.{allowed-bit}
+use Rattle.membership.specs.Holders.{kept}
+use Rattle.column.specs.Column.{allowedIn, outputIn}
+use Rattle.column.specs.ColumnLaws.{allowed-bit, output-bit}
 use Rattle.formula.specs.Storage.{columnAt}
 use Rattle.formula.specs.StorageLaws.{column-byte}
 
@@ -22,7 +26,42 @@ entriesAllowed work k entries = allBelow (length entries) (λ i. typeVariable (a
 unfoldable pub specialsAllowed : List ℕ → ℕ → List ℕ → Bool
 specialsAllowed work k subsets = allBelow 15 (λ i. allowedIn (columnAt work k (i + 1)) (getD subsets (i + 1) 0))
 
--- ---- the bit in the work space
+-- the special attributes that the output has by the bits of their columns
+unfoldable pub storedMap : List ℕ → ℕ → List ℕ → ℕ
+storedMap work k subsets = pack 16 (λ i. outputIn (columnAt work k i) (getD subsets i 0))
+
+-- the ordinary ones, by the bits of column 0
+abbrev pub storedList : List ℕ → ℕ → List ℕ → List ℕ
+storedList work k entries = kept (λ e. outputIn (columnAt work k 0) (subsetOf e)) entries
+
+-- ---- the bits in the work space
 
 pub allowed-at : (work : List ℕ) (k c s : ℕ) → s < 256 → allowedIn (columnAt work k c) s ≡ bit (getD work (k * 1024 + c * 64 + s / 8) 0) (s % 8)
 allowed-at work k c s h = allowed-bit (columnAt work k c) s ∙ ap (λ (x : ℕ). bit x (s % 8)) (column-byte work k c (s / 8) (omega arith))
+
+pub output-at : (work : List ℕ) (k c s : ℕ) → s < 256 → outputIn (columnAt work k c) s ≡ bit (getD work (k * 1024 + c * 64 + 32 + s / 8) 0) (s % 8)
+output-at work k c s h =
+    let at : k * 1024 + c * 64 + (32 + s / 8) ≡ k * 1024 + c * 64 + 32 + s / 8 = omega arith in
+    output-bit (columnAt work k c) s ∙ ap (λ (x : ℕ). bit x (s % 8)) (column-byte work k c (32 + s / 8) (omega arith) ∙ ap (λ (p : ℕ). getD work p 0) at)
+
+-- ---- the map from bit i up
+
+abbrev pub mapFrom : List ℕ → ℕ → List ℕ → ℕ → ℕ
+mapFrom work k subsets = packFrom 16 (λ i. outputIn (columnAt work k i) (getD subsets i 0))
+
+module _ (work : List ℕ) (k : ℕ) (subsets : List ℕ) where
+  pub map-first : 0 ≡ mapFrom work k subsets 16
+  map-first = sym (from-none 16 (λ i. outputIn (columnAt work k i) (getD subsets i 0)))
+
+  pub map-lower : (i : ℕ) → 1 ≤ i → i ≤ 16 → mapFrom work k subsets (i - 1) ≡ mapFrom work k subsets i * 2 + cond (outputIn (columnAt work k (i - 1)) (getD subsets (i - 1) 0)) 1 0
+  map-lower = from-lower 16 (λ i. outputIn (columnAt work k i) (getD subsets i 0))
+
+  pub map-below : (i : ℕ) → 1 ≤ i → mapFrom work k subsets i < 32768
+  map-below i some =
+      let below = from-below 16 (λ i. outputIn (columnAt work k i) (getD subsets i 0)) i in
+      let most = pow-mono {i = 16 - i} {j = 15} (omega arith) in
+      omega arith
+
+  pub map-all : mapFrom work k subsets 0 ≡ storedMap work k subsets
+  unfolding storedMap
+  map-all = from-all 16 (λ i. outputIn (columnAt work k i) (getD subsets i 0))

@@ -2,14 +2,13 @@
 use Prim.Native.Nat.{ℕ}
 use mathlib.Core.Bool.{Bool, true, false, _&&_}
 use mathlib.Core.List.{List}
-use lib.ListN.{length, take}
+use lib.ListN.{length}
 use Rattle.bits.specs.Tab.{over}
 use Rattle.expression.specs.Admission.{after, sliced}
 use Rattle.algebra.specs.Expression.{Expression}
 use Rattle.formula.specs.Expressions.{expressionAt}
 use Rattle.formula.specs.Stored.{admitted}
-use Rattle.schema.specs.Schema.{schemaReading}
-use Rattle.schema.specs.declared.reading.Schema.{Schema}
+use Rattle.schema.specs.Schema.{Schema, schemaReading}
 use Rattle.instantiation.specs.Instantiation.{listsOf, instantiationBytes}
 use Rattle.typing.specs.Typing.{afterSchema}
 use Rattle.application.specs.Apply.{readSpace}
@@ -43,14 +42,11 @@ tableInstantiation m e special entries out = recoveredOver (fits m e special ent
 
 -- ---- a schema as it was read: the refusal, or what its table gives
 
-abbrev pub entriesOf : Schema → List ℕ
-entriesOf s = take (s .entries .count) (s .entries .items)
-
 unfoldable pub readRecovered : ℕ → Expression → Schema → Recovery
-readRecovered m e s = afterSchema (s .judgement) Refused (tableRecovered m e (s .special) (entriesOf s))
+readRecovered m e s = afterSchema (s .judgement) Refused (tableRecovered m e (s .special) (s .entries))
 
 unfoldable pub readInstantiation : ℕ → Expression → Schema → List ℕ → List ℕ
-readInstantiation m e s out = afterSchema (s .judgement) (λ r. out) (tableInstantiation m e (s .special) (entriesOf s) out)
+readInstantiation m e s out = afterSchema (s .judgement) (λ r. out) (tableInstantiation m e (s .special) (s .entries) out)
 
 -- ---- the operation: "10, 11, 12, 13", of the instantiation slice; and then the schema
 

@@ -4,7 +4,6 @@ use mathlib.Core.Path.{_≡_, refl, sym, ap, ap₂, _∙_}
 use mathlib.Core.Bool.{Bool, true, false, _&&_, and-false}
 use mathlib.Core.List.{List}
 use lib.ListN.{length, getD, take}
-use native.Mathlib.Omega.{arith}
 use Rattle.bits.specs.AllBelow.{allBelow}
 use Rattle.bits.specs.Tab.{over}
 use Rattle.refusal.specs.declared.Refusal.{Refusal}
@@ -17,10 +16,8 @@ use Rattle.formula.specs.Expressions.{expressionAt}
 use Rattle.formula.specs.Storage.{columnAt}
 use Rattle.formula.specs.Stored.{formulasOf, admitted}
 use Rattle.membership.specs.Entries.{subsetOf}
-use Rattle.schema.specs.Schema.{schemaReading}
+use Rattle.schema.specs.Schema.{Schema, schemaReading, WritesFrom as SchemaTable}
 use Rattle.schema.specs.declared.reading.Judgement.the-variants.{Read, Refused as ReadRefused}
-use Rattle.schema.specs.declared.reading.Schema.{Schema}
-use Rattle.typing.specs.TypingLaws.{ReadTable}
 use Rattle.special_maps.specs.Special.{subsetsFrom}
 use Rattle.instantiation.specs.Instantiation.{listsOf, instantiationBytes, WritesFrom}
 use Rattle.special_maps.specs.SpecialLaws.{subsets-small, subsets-size}
@@ -28,7 +25,7 @@ use Rattle.application.specs.Fitting.{specialsAllowed}
 use Rattle.application.specs.Fits.{entriesFit, specialsFit, specials-stored}
 use Rattle.application.specs.Apply.{readSpace}
 use Rattle.application.specs.ApplyLaws.{Filled, entries-tested}
-use Rattle.application.specs.Recover.{fits, recoveredBytes, tableRecovered, tableInstantiation, entriesOf, readRecovered, readInstantiation, recoverAnswer, recoverSpace, recoverOut}
+use Rattle.application.specs.Recover.{fits, recoveredBytes, tableRecovered, tableInstantiation, readRecovered, readInstantiation, recoverAnswer, recoverSpace, recoverOut}
 use Rattle.application.specs.declared.recovering.Recovery.{Recovery}
 use Rattle.application.specs.declared.recovering.Recovery.the-variants.{Recovered, Untyped, Refused}
 
@@ -45,9 +42,9 @@ module _ (m : ℕ) (e : Expression) (special entries : List ℕ) where
 
 -- ---- over a table
 
-module _ (file : List ℕ) (m k : ℕ) (work special items : List ℕ) (count : ℕ) (filled : Filled file m k work) (table : ReadTable special items count) (out : List ℕ) where
+module _ (file : List ℕ) (m k : ℕ) (work special items : List ℕ) (count : ℕ) (filled : Filled file m k work) (table : SchemaTable special items count) (out : List ℕ) where
   entries-found : (t : Bool) → t ≡ allBelow count (λ i. typeVariable (allowedIn (columnAt work k 0)) (subsetOf (getD items i 0))) → t ≡ entriesFit m (expressionAt file k) (take count items)
-  entries-found = entries-tested file m k work items count filled (let size = table .writes .size in let few = table .writes .few in omega arith)
+  entries-found = entries-tested file m k work items count filled (table .fit .enough)
 
   specials-found : (subsets : List ℕ) (t : Bool) → subsets ≡ subsetsFrom special → t ≡ specialsAllowed work k subsets → t ≡ specialsFit m (expressionAt file k) (subsetsFrom special)
   specials-found subsets t are is = is ∙ ap (specialsAllowed work k) are ∙ specials-stored work k m (expressionAt file k) (filled .columns) (subsetsFrom special) (subsets-small special)
@@ -72,8 +69,8 @@ module _ (file : List ℕ) (m k : ℕ) (work special items : List ℕ) (count : 
       )
 
 -- the table can be written
-pub recovered-from : (special items : List ℕ) (count : ℕ) → ReadTable special items count → WritesFrom (subsetsFrom special) items count
-recovered-from special items count t = record { special = subsets-size special; size = t .writes .size; few = t .writes .few; below = t .writes .below }
+pub recovered-from : (special items : List ℕ) (count : ℕ) → SchemaTable special items count → WritesFrom (subsetsFrom special) items count
+recovered-from special items count t = record { special = subsets-size special; few = t .few; fit = t .fit }
 
 -- ---- as it was read
 
@@ -82,7 +79,7 @@ module _ (file : List ℕ) (m n : ℕ) (e : Expression) (s : Schema) (work out :
   unfolding readRecovered readSpace readInstantiation
   read-stops r is = rw is (refl, (refl, refl))
 
-  pub read-goes : s .judgement ≡ Read → (a : Recovery) (filled written : List ℕ) → filled ≡ over (formulasOf file m n) work → a ≡ tableRecovered m e (s .special) (entriesOf s) → written ≡ tableInstantiation m e (s .special) (entriesOf s) out → (a ≡ readRecovered m e s) × ((filled ≡ readSpace file m n (s .judgement) work) × (written ≡ readInstantiation m e s out))
+  pub read-goes : s .judgement ≡ Read → (a : Recovery) (filled written : List ℕ) → filled ≡ over (formulasOf file m n) work → a ≡ tableRecovered m e (s .special) (s .entries) → written ≡ tableInstantiation m e (s .special) (s .entries) out → (a ≡ readRecovered m e s) × ((filled ≡ readSpace file m n (s .judgement) work) × (written ≡ readInstantiation m e s out))
   unfolding readRecovered readSpace readInstantiation
   read-goes is a filled written space answered wrote = rw is (answered, (space, wrote))
 

@@ -26,8 +26,8 @@ use Rattle.schema.specs.declared.reading.Judgement.the-variants.{Read, Refused 
 use Rattle.instantiation.specs.Instantiation.{instantiationReading}
 use Rattle.instantiation.specs.TableLaws.{reading-number}
 use Rattle.typing.specs.Typing.{afterSchema}
-use Rattle.application.specs.Apply.{tableApplied, entriesOf, readApplied, readSpace, applyAnswer, applySpace}
-use Rattle.application.specs.Recover.{fits, recovered, tableRecovered, entriesOf as schemaEntries, readRecovered, recoverAnswer, recoverSpace}
+use Rattle.application.specs.Apply.{tableApplied, readApplied, readSpace, applyAnswer, applySpace}
+use Rattle.application.specs.Recover.{fits, recovered, tableRecovered, readRecovered, recoverAnswer, recoverSpace}
 use Rattle.application.specs.declared.applying.Application.{Application}
 use Rattle.application.specs.declared.applying.Application.the-variants.{Applied, Refused}
 use Rattle.application.specs.declared.recovering.Recovery.{Recovery}
@@ -71,13 +71,13 @@ module _ (file : List ℕ) (k : ℕ) (bytes work : List ℕ) (size outSize : ℕ
           sliced-number (sliced (admitted file k (length work)) size 4104) outSize 513 19 (omega arith)
           (sliced-number (admitted file k (length work)) size 4104 19 (omega arith) (λ r e. let most = admitted-number file k (length work) r e in omega arith))
 
-      read : (m n : ℕ) → admitted file k (length work) ≡ Accepted m n → (j : Judgement) → instantiationReading bytes .judgement ≡ j → afterSchema j (λ r. work) (over (formulasOf file m n) work) ≡ cond (applyFills (afterSchema j Refused (tableApplied m (expressionAt file k) (instantiationReading bytes .subsets) (entriesOf (instantiationReading bytes))))) (formulaSpace file work) work
+      read : (m n : ℕ) → admitted file k (length work) ≡ Accepted m n → (j : Judgement) → instantiationReading bytes .judgement ≡ j → afterSchema j (λ r. work) (over (formulasOf file m n) work) ≡ cond (applyFills (afterSchema j Refused (tableApplied m (expressionAt file k) (instantiationReading bytes .subsets) (instantiationReading bytes .entries)))) (formulaSpace file work) work
       read m n admits (ReadRefused r) is = sym (ap (λ (t : Bool). cond t (formulaSpace file work) work) (early-leaves r (reading-number bytes r is)))
       read m n admits Read is =
           admitted-space file k work m n admits
-          ∙ sym (ap (λ (t : Bool). cond t (formulaSpace file work) work) (table-fills m (expressionAt file k) (instantiationReading bytes .subsets) (entriesOf (instantiationReading bytes))))
+          ∙ sym (ap (λ (t : Bool). cond t (formulaSpace file work) work) (table-fills m (expressionAt file k) (instantiationReading bytes .subsets) (instantiationReading bytes .entries)))
 
-      admission : (a : Acceptance) → sliced (sliced (admitted file k (length work)) size 4104) outSize 513 ≡ a → after a (λ r. work) (λ m n. afterSchema (instantiationReading bytes .judgement) (λ r. work) (over (formulasOf file m n) work)) ≡ cond (applyFills (after a Refused (λ m n. afterSchema (instantiationReading bytes .judgement) Refused (tableApplied m (expressionAt file k) (instantiationReading bytes .subsets) (entriesOf (instantiationReading bytes)))))) (formulaSpace file work) work
+      admission : (a : Acceptance) → sliced (sliced (admitted file k (length work)) size 4104) outSize 513 ≡ a → after a (λ r. work) (λ m n. afterSchema (instantiationReading bytes .judgement) (λ r. work) (over (formulasOf file m n) work)) ≡ cond (applyFills (after a Refused (λ m n. afterSchema (instantiationReading bytes .judgement) Refused (tableApplied m (expressionAt file k) (instantiationReading bytes .subsets) (instantiationReading bytes .entries))))) (formulaSpace file work) work
       admission (FileRefused r) is = sym (ap (λ (t : Bool). cond t (formulaSpace file work) work) (early-leaves r (number r is)))
       admission (Accepted m n) is = read m n (sliced-passed (admitted file k (length work)) size 4104 (sliced-passed (sliced (admitted file k (length work)) size 4104) outSize 513 is .0) .0) (instantiationReading bytes .judgement) refl
 
@@ -96,12 +96,12 @@ module _ (file : List ℕ) (k : ℕ) (bytes work : List ℕ) (size : ℕ) where
   unfolding recoverSpace recoverAnswer readSpace readRecovered
   recover-space = admission (sliced (admitted file k (length work)) size 812) refl
     where
-      read : (m n : ℕ) → admitted file k (length work) ≡ Accepted m n → (j : Judgement) → afterSchema j (λ r. work) (over (formulasOf file m n) work) ≡ cond (recoverFills (afterSchema j RecoverRefused (tableRecovered m (expressionAt file k) (schemaReading m bytes .special) (schemaEntries (schemaReading m bytes))))) (formulaSpace file work) work
+      read : (m n : ℕ) → admitted file k (length work) ≡ Accepted m n → (j : Judgement) → afterSchema j (λ r. work) (over (formulasOf file m n) work) ≡ cond (recoverFills (afterSchema j RecoverRefused (tableRecovered m (expressionAt file k) (schemaReading m bytes .special) (schemaReading m bytes .entries)))) (formulaSpace file work) work
       read m n admits (ReadRefused r) = refl
       read m n admits Read =
           admitted-space file k work m n admits
-          ∙ sym (ap (λ (t : Bool). cond t (formulaSpace file work) work) (table-recovers m (expressionAt file k) (schemaReading m bytes .special) (schemaEntries (schemaReading m bytes))))
+          ∙ sym (ap (λ (t : Bool). cond t (formulaSpace file work) work) (table-recovers m (expressionAt file k) (schemaReading m bytes .special) (schemaReading m bytes .entries)))
 
-      admission : (a : Acceptance) → sliced (admitted file k (length work)) size 812 ≡ a → after a (λ r. work) (λ m n. afterSchema (schemaReading m bytes .judgement) (λ r. work) (over (formulasOf file m n) work)) ≡ cond (recoverFills (after a RecoverRefused (λ m n. afterSchema (schemaReading m bytes .judgement) RecoverRefused (tableRecovered m (expressionAt file k) (schemaReading m bytes .special) (schemaEntries (schemaReading m bytes)))))) (formulaSpace file work) work
+      admission : (a : Acceptance) → sliced (admitted file k (length work)) size 812 ≡ a → after a (λ r. work) (λ m n. afterSchema (schemaReading m bytes .judgement) (λ r. work) (over (formulasOf file m n) work)) ≡ cond (recoverFills (after a RecoverRefused (λ m n. afterSchema (schemaReading m bytes .judgement) RecoverRefused (tableRecovered m (expressionAt file k) (schemaReading m bytes .special) (schemaReading m bytes .entries))))) (formulaSpace file work) work
       admission (FileRefused r) is = refl
       admission (Accepted m n) is = read m n (sliced-passed (admitted file k (length work)) size 812 is .0) (schemaReading m bytes .judgement)

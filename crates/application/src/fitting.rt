@@ -1,13 +1,14 @@
 // A membership table against a node's stored formula.
 ghost use mathlib.Core.Path.{_≡_};
 ghost use Prim.Native.Nat.{_+_, _*_, _≤_, _<_};
-ghost use lib.ListN.{length, getD};
+ghost use lib.ListN.{length, getD, take};
 ghost use Rattle.bits.specs.AllBelow.{allBelow};
 ghost use Rattle.formulas.specs.Formula.{typeVariable};
-ghost use Rattle.column.specs.Column.{allowedIn};
+ghost use mathlib.Core.Bool.{cond};
+ghost use Rattle.column.specs.Column.{allowedIn, outputIn};
 ghost use Rattle.formula.specs.Storage.{columnAt};
 ghost use Rattle.membership.specs.Entries.{subsetOf};
-ghost use Rattle.application.specs.Fitting.{specialsAllowed};
+ghost use Rattle.application.specs.Fitting.{specialsAllowed, storedMap, storedList};
 
 // Whether s is allowed in column c of the node's formula.
 fn is_allowed(work: &[u8], node: u8, c: u8, s: u8) -> bool
@@ -58,4 +59,46 @@ pub fn specials_allowed(work: &[u8], node: u8, subsets: &[u8]) -> bool
         i += 1;
     }
     true
+}
+
+// 1 where the output bit of s stands in column c of the node's formula, else 0.
+fn output_digit(work: &[u8], node: u8, c: u8, s: u8) -> u8
+    requires { ⌜ (c < 16) × (node * 1024 + 1024 ≤ length (now work)) ⌝ }
+    ensures { λ r. ⌜ r ≡ cond (outputIn (columnAt (now (work .entry)) node c) s) 1 0 ⌝ }
+{
+    let at = node as usize * 1024 + c as usize * 64 + 32 + s as usize / 8;
+    (work[at] >> (s % 8)) % 2
+}
+
+// The map of the special attributes whose output bit stands at their subset.
+pub fn output_map(work: &[u8], node: u8, subsets: &[u8]) -> u16
+    requires { ⌜ (length (now subsets) ≡ 16) × (node * 1024 + 1024 ≤ length (now work)) ⌝ }
+    ensures { λ r. ⌜ r ≡ storedMap (now (work .entry)) node (now (subsets .entry)) ⌝ }
+{
+    let mut x = 0u16;
+    let mut i = 16u8;
+    while 0 < i {
+        i -= 1;
+        x = x * 2 + output_digit(work, node, i, subsets[i as usize]) as u16;
+    }
+    x
+}
+
+// Lists the attributes of the entries whose output bit stands at their subset, and gives their number. What stands in
+// the list after them is free.
+pub fn list_output(work: &[u8], node: u8, items: &[u32], count: usize, list: &mut [u32]) -> usize
+    requires { ⌜ node * 1024 + 1024 ≤ length (now work) ⌝ }
+    requires { ⌜ (count ≤ length (now items)) × (count ≤ length (now list)) ⌝ }
+    ensures { λ n. ⌜ n ≡ length (storedList (now (work .entry)) node (take count (now (items .entry)))) ⌝ }
+    ensures { λ n. ⌜ take n (now (list .exit)) ≡ storedList (now (work .entry)) node (take count (now (items .entry))) ⌝ }
+{
+    let mut k = 0;
+    let mut i = 0;
+    while i < count {
+        let e = items[i];
+        list[k] = e / 256;
+        k += output_digit(work, node, 0, (e % 256) as u8) as usize;
+        i += 1;
+    }
+    k
 }

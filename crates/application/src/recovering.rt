@@ -5,8 +5,8 @@ ghost use lib.ListN.{length, take};
 ghost use Rattle.expression.specs.declared.files.Acceptance.the-variants.{Accepted};
 ghost use Rattle.expression.specs.ReadFile.{acceptance};
 ghost use Rattle.formula.specs.Expressions.{expressionAt};
-ghost use Rattle.schema.specs.Schema.{schemaReading};
-ghost use Rattle.typing.specs.TypingLaws.{ReadTable};
+ghost use Rattle.membership.specs.Entries.{RoomFor};
+ghost use Rattle.schema.specs.Schema.{schemaReading, WritesFrom};
 ghost use Rattle.application.specs.Apply.{readSpace};
 ghost use Rattle.application.specs.ApplyLaws.{Filled};
 ghost use Rattle.application.specs.Recover.{tableRecovered, tableInstantiation, readRecovered, readInstantiation, recoverAnswer, recoverSpace, recoverOut};
@@ -35,13 +35,14 @@ fn recover_table(
     special: &[u16],
     items: &[u32],
     count: usize,
+    spare: &mut [u32],
     out: &mut [u8],
     file: &[u8],
     m: u8,
 ) -> Recovery
     requires { ⌜ Filled (now file) m node (now work) ⌝ }
-    requires { ⌜ ReadTable (now special) (now items) count ⌝ }
-    requires { ⌜ 812 ≤ length (now out) ⌝ }
+    requires { ⌜ WritesFrom (now special) (now items) count ⌝ }
+    requires { ⌜ (812 ≤ length (now out)) × (count ≤ length (now spare)) ⌝ }
     ensures { λ r. ⌜ r ≡ tableRecovered m (expressionAt (now (file .entry)) node) (now (special .entry)) (take count (now (items .entry))) ⌝ }
     ensures { λ _. ⌜ now (out .exit) ≡ tableInstantiation m (expressionAt (now (file .entry)) node) (now (special .entry)) (take count (now (items .entry))) (now (out .entry)) ⌝ }
 {
@@ -52,11 +53,44 @@ fn recover_table(
     if !specials_allowed(work, node, &subsets) {
         return Recovery::Untyped;
     }
-    Recovery::Recovered(write_instantiation(out, &subsets, items, count))
+    Recovery::Recovered(write_instantiation(out, &subsets, items, count, spare))
 }
 
-// The schema in these bytes at a node of an accepted file.
+// The schema in these bytes at a node of an accepted file, with two slices for its entries.
 fn recover_bytes(
+    file: &[u8],
+    m: u8,
+    n: u8,
+    node: u8,
+    bytes: &[u8],
+    items: &mut [u32],
+    spare: &mut [u32],
+    work: &mut [u8],
+    out: &mut [u8],
+) -> Recovery
+    requires { ⌜ acceptance (now file) ≡ Accepted m n ⌝ }
+    requires { ⌜ (node < n) × (n * 1024 ≤ length (now work)) ⌝ }
+    requires { ⌜ RoomFor (length (now bytes)) (now items) × RoomFor (length (now bytes)) (now spare) ⌝ }
+    requires { ⌜ 812 ≤ length (now out) ⌝ }
+    ensures { λ r. ⌜ r ≡ readRecovered m (expressionAt (now (file .entry)) node) (schemaReading m (now (bytes .entry))) ⌝ }
+    ensures { λ _. ⌜ now (work .exit) ≡ readSpace (now (file .entry)) m n (schemaReading m (now (bytes .entry)) .judgement) (now (work .entry)) ⌝ }
+    ensures { λ _. ⌜ now (out .exit) ≡ readInstantiation m (expressionAt (now (file .entry)) node) (schemaReading m (now (bytes .entry))) (now (out .entry)) ⌝ }
+{
+    let read = read_schema(bytes, m, items, spare);
+    let judgement = read.judgement;
+    match judgement {
+        Judgement::Refused(r) => Recovery::Refused(r),
+        Judgement::Read => {
+            let special = read.special;
+            let count = read.count;
+            fill(file, m, n, work);
+            recover_table(work, node, &special, items, count, spare, out, file, m)
+        }
+    }
+}
+
+// The same with room for as many entries as the bytes can list.
+fn recover_sized(
     file: &[u8],
     m: u8,
     n: u8,
@@ -72,18 +106,14 @@ fn recover_bytes(
     ensures { λ _. ⌜ now (work .exit) ≡ readSpace (now (file .entry)) m n (schemaReading m (now (bytes .entry)) .judgement) (now (work .entry)) ⌝ }
     ensures { λ _. ⌜ now (out .exit) ≡ readInstantiation m (expressionAt (now (file .entry)) node) (schemaReading m (now (bytes .entry))) (now (out .entry)) ⌝ }
 {
-    let read = read_schema(bytes, m);
-    let judgement = read.judgement;
-    match judgement {
-        Judgement::Refused(r) => Recovery::Refused(r),
-        Judgement::Read => {
-            let special = read.special;
-            let entries = read.entries;
-            let items = entries.items;
-            fill(file, m, n, work);
-            recover_table(work, node, &special, &items, entries.count, out, file, m)
-        }
+    if bytes.len() <= 64 {
+        let mut items = [0u32; 32];
+        let mut spare = [0u32; 32];
+        return recover_bytes(file, m, n, node, bytes, &mut items, &mut spare, work, out);
     }
+    let mut items = [0u32; 256];
+    let mut spare = [0u32; 256];
+    recover_bytes(file, m, n, node, bytes, &mut items, &mut spare, work, out)
 }
 
 // Recover: refusals 1 to 13, 14 to 18.
@@ -98,7 +128,7 @@ pub fn recover(file: &[u8], node: usize, schema: &[u8], work: &mut [u8], out: &m
             if out.len() < 812 {
                 return Recovery::Refused(Refusal::ResultSlice);
             }
-            recover_bytes(file, m, n, node as u8, schema, work, out)
+            recover_sized(file, m, n, node as u8, schema, work, out)
         }
     }
 }

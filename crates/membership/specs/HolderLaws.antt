@@ -6,14 +6,15 @@ use mathlib.Core.List.{List, [], _∷_}
 use native.Mathlib.Omega.{arith}
 use borrow.Author.Tests.{eqb-true}
 use lib.Dec.{eqb, lit<}
-use lib.ListN.{length, getD, take}
-use lib.Seq.{length-take-le}
+use lib.ListN.{length, getD, take, List·getD-eq-default}
+use lib.Seq.{length-take-le, getD-take}
+use native.Mathlib.Decide.{decLt}
 use Rattle.bits.specs.Bit.{bit, bit-none}
 use Rattle.bits.specs.Rising.{member, Rising, rising-lower}
 use Rattle.membership.specs.Entries.{attributeOf, subsetOf, holdersIn}
 use Rattle.membership.specs.EnterLaws.{RisingEntries, subset-bit, holders-below}
 use Rattle.membership.specs.Holders.{heldBy, ItemsFit}
-use Rattle.membership.specs.TableLaws.{Below}
+use Rattle.membership.specs.TableLaws.{Below, all-below}
 
 -- a is listed for relation r exactly if r is one of its holders
 pub held-member : (p r : ℕ) (es : List ℕ) → r < 8 → RisingEntries p es → (a : ℕ) → member a (heldBy r es) ≡ bit (holdersIn es a) r
@@ -66,3 +67,10 @@ holders-small (e ∷ es) a = go (eqb a (attributeOf e)) (holders-small es a)
 
 pub items-taken : {items : List ℕ} {count : ℕ} → ItemsFit items count → length (take count items) ≡ count
 items-taken {items} {count} fit = length-take-le count items (fit .enough)
+
+pub taken-below : {items : List ℕ} {count : ℕ} → ItemsFit items count → Below 16777216 (take count items)
+taken-below {items} {count} fit = all-below 16777216 (take count items) (λ i. go i (decLt i count))
+  where
+    go : (i : ℕ) → Dec (i < count) → getD (take count items) i 0 < 16777216
+    go i (yes h) = rw (getD-take count items i 0 h) (fit .below i h)
+    go i (no h) = let size = items-taken fit in rw (List·getD-eq-default (take count items) 0 {n = i} (omega arith)) (lit< tt)

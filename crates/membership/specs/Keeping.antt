@@ -1,6 +1,6 @@
 -- How the attributes of the entries that pass a test are listed, entry by entry.
 use Prim.Native.Nat.{ℕ, suc, _+_, _/_, _≤_, _<_}
-use mathlib.Core.Path.{_≡_, refl, sym, ap, _∙_}
+use mathlib.Core.Path.{_≡_, refl, sym, ap, ap₂, _∙_}
 use mathlib.Core.Bool.{Bool, true, false, cond}
 use mathlib.Core.List.{List, [], _∷_}
 use mathlib.Core.Logic.{⊎-elim}
@@ -12,6 +12,11 @@ use lib.Seq.{drop-cons, getD-set-same, getD-set-other, getD-take, length-take-le
 use Rattle.bits.specs.Part.{at-head}
 use Rattle.membership.specs.Entries.{attributeOf}
 use Rattle.membership.specs.Holders.{kept}
+
+-- two tests that agree on the entries keep the same
+pub kept-same : (es : List ℕ) (f g : ℕ → Bool) → ((i : ℕ) → i < length es → f (getD es i 0) ≡ g (getD es i 0)) → kept f es ≡ kept g es
+kept-same [] f g same = refl
+kept-same (e ∷ es) f g same = ap₂ (λ (b : Bool) (l : List ℕ). cond b (attributeOf e ∷ l) l) (same 0 (omega arith)) (kept-same es f g (λ i h. same (suc i) (omega arith)))
 
 -- i entries are judged, k attributes are listed, and what is left comes from entry i on
 pub record Keeping (test : ℕ → Bool) (es before list : List ℕ) (k i : ℕ) : Type 0 where

@@ -10,6 +10,7 @@ use lib.ListN.{length, getD, take, length-take}
 use lib.Seq.{take-nil, take-take, take-all, getD-take, ext-getD, length-take-le}
 use Rattle.bits.specs.Written.{Written}
 use Rattle.membership.specs.Entries.{entry, attributeOf, enter, TableIn}
+use Rattle.membership.specs.Holders.{ItemsFit}
 use Rattle.membership.specs.EnterLaws.{enter-lower, enter-higher, enter-equal, Order, lower, higher, equal, order}
 
 -- ---- the first entries
@@ -52,6 +53,9 @@ table-none items = record { count-is = refl; entries = refl }
 module _ {es items : List ℕ} {count : ℕ} (t : TableIn es items count) where
   pub table-few : count ≤ 256
   table-few = let most = min-le-left 256 (length es) in let size = length-take 256 es in let is = t .count-is in omega arith
+
+  pub table-least : count ≤ length es
+  table-least = let least = min-le-right 256 (length es) in let size = length-take 256 es in let is = t .count-is in omega arith
 
   pub table-reaches : count ≤ length items
   table-reaches =
@@ -111,3 +115,14 @@ table-below {es} {items} {count} t h i inside =
     let few = table-few t in
     let here = sym (getD-take count items i 0 inside) ∙ ap (λ (l : List ℕ). getD l i 0) (t .entries) ∙ getD-take 256 es i 0 (omega arith) in
     rw here (below-at 16777216 es (lit< tt) h i)
+
+-- entries that stand at the front of a slice
+pub items-stand : (items es : List ℕ) → take (length es) items ≡ es → Below 16777216 es → ItemsFit items (length es)
+items-stand items es stands below =
+    let same = ap length stands in
+    let size = length-take (length es) items in
+    let least = min-le-right (length es) (length items) in
+    record {
+      enough = omega arith;
+      below = λ i inside. rw (sym (getD-take (length es) items i 0 inside) ∙ ap (λ (l : List ℕ). getD l i 0) stands) (below-at 16777216 es (lit< tt) below i);
+    }

@@ -129,10 +129,26 @@ pub fn enter(
     let entered = reached.entered;
     if copied < old {
         return copy_earlier(
-            list, count, subset, earlier, old, items, listed, copied, entered,
+            list,
+            count,
+            subset,
+            earlier,
+            old,
+            items,
+            listed,
+            copied,
+            entered,
         );
     }
     append_listed(
-        list, count, subset, earlier, old, items, listed, copied, entered,
+        list,
+        count,
+        subset,
+        earlier,
+        old,
+        items,
+        listed,
+        copied,
+        entered,
     )
 }

@@ -2,18 +2,18 @@
 use Prim.Native.Nat.{ℕ, _+_, _-_, _*_, _≤_, _<_}
 use mathlib.Core.Path.{_≡_, sym, ap, _∙_}
 use mathlib.Core.List.{List, [], _∷_, _++_, append-assoc, append-nil}
+use native.Mathlib.Nat.{min-le-right}
 use native.Mathlib.Numerals.{add-one}
 use native.Mathlib.Omega.{arith}
 use borrow.Rule.Slice.PartMut.{putMid, midOf}
-use lib.ListN.{length, getD, take, length-append}
-use lib.Seq.{length-take-le}
+use lib.ListN.{length, getD, take, length-take, length-append}
 use Rattle.bits.specs.Part.{over-more}
 use Rattle.bits.specs.Tab.{tab-none, tab-more, over, over-none, over-length}
 use Rattle.type_record.specs.Record.{TypeRecord, recordSize, recordBytes}
 use Rattle.type_record.specs.RecordBytes.{size-most, record-length}
-use Rattle.membership.specs.declared.holders.Held.{Held}
-use Rattle.membership.specs.Holders.{heldBy, heldList, ItemsFit}
-use Rattle.membership.specs.HolderLaws.{held-few, held-attributes, held-fits}
+use Rattle.type_record.specs.WritingLaws.{Ordinaries}
+use Rattle.membership.specs.Holders.{heldBy}
+use Rattle.membership.specs.HolderLaws.{held-few, held-below, items-taken, taken-below}
 use Rattle.schema.specs.Schema.{schemaBytes, recordsOf, WritesFrom}
 
 -- ---- one more
@@ -51,9 +51,6 @@ prefix-first m special es old =
       written = sym (ap (λ (b : List ℕ). over b old) (bytes-none special es) ∙ over-none old);
     }
 
-pub items-fit : {special items : List ℕ} {count : ℕ} → WritesFrom special items count → ItemsFit items count
-items-fit w = let size = w .size in let few = w .few in record { enough = omega arith; below = w .below }
-
 module _ {m : ℕ} {special items : List ℕ} {count : ℕ} {old out : List ℕ} {at r : ℕ} (eight : m ≤ 8) (w : WritesFrom special items count) (fits : 4104 ≤ length old) (h : Prefix m special (take count items) old out at r) where
   pub same-size : length out ≡ length old
   same-size =
@@ -69,23 +66,23 @@ module _ {m : ℕ} {special items : List ℕ} {count : ℕ} {old out : List ℕ}
   held-most : length (heldBy r (take count items)) ≤ 255
   held-most =
       let least = held-few r (take count items) in
-      let size = w .size in
       let few = w .few in
-      let taken = length-take-le count items (omega arith) in
+      let taken = items-taken (w .fit) in
       omega arith
 
-  module _ {held : Held} (held-is : held ≡ heldList (heldBy r (take count items))) where
-    pub list-reaches : held .count ≤ length (held .list)
-    list-reaches = rw held-is (held-fits (heldBy r (take count items)) (let most = held-most in omega arith))
+  -- the attributes that the relation holds, as they are listed
+  module _ {n : ℕ} (list : List ℕ) (number : n ≡ length (heldBy r (take count items))) (listed-is : take n list ≡ heldBy r (take count items)) where
+    pub list-reaches : n ≤ length list
+    list-reaches =
+        let same = ap length listed-is in
+        let size = length-take n list in
+        let least = min-le-right n (length list) in
+        omega arith
 
-    -- the attributes that the relation holds, as the code hands them on
-    listed-is : take (held .count) (held .list) ≡ heldBy r (take count items)
-    listed-is = rw held-is (held-attributes (heldBy r (take count items)) (let most = held-most in omega arith))
+    pub listed-most : (length (take n list) ≤ 255) × Ordinaries (take n list)
+    listed-most = rw listed-is (held-most, held-below r (take count items) (taken-below (w .fit)))
 
-    pub listed-most : length (take (held .count) (held .list)) ≤ 255
-    listed-most = rw listed-is held-most
-
-    pub prefix-next : {size : ℕ} {part : List ℕ} → r < m → size ≡ recordSize (length (take (held .count) (held .list))) → part ≡ over (recordBytes (getD special r 0) (take (held .count) (held .list))) (midOf at (length out - at) out) → Prefix m special (take count items) old (putMid at (length out - at) out part) (at + size) (r + 1)
+    pub prefix-next : {size : ℕ} {part : List ℕ} → r < m → size ≡ recordSize (length (take n list)) → part ≡ over (recordBytes (getD special r 0) (take n list)) (midOf at (length out - at) out) → Prefix m special (take count items) old (putMid at (length out - at) out part) (at + size) (r + 1)
     prefix-next more size-is part-is =
         let most = h .most in
         let before = h .size in

@@ -8,9 +8,8 @@ use native.Mathlib.Omega.{arith}
 use borrow.Author.Tests.{lt-ltb, le-ltb}
 use lib.ListN.{length, set, take, drop, replicate, length-append, length-drop, drop-of-length-le}
 use lib.Seq.{drop-drop, drop-cons, getD-drop}
-use Rattle.bits.specs.Bit.{shifted-one}
 use Rattle.bits.specs.Part.{part-from}
-use Rattle.bits.specs.Tab.{tab}
+use Rattle.bits.specs.Tab.{tab, length-tab}
 use Rattle.bits.specs.Word.{word, Bytes}
 use Rattle.refusal.specs.declared.Refusal.{Refusal}
 use Rattle.refusal.specs.declared.Refusal.the-variants.{InputFollowed, TooManyAttributes}
@@ -20,16 +19,18 @@ use Rattle.type_record.specs.ListLaws.{listed-tab}
 use Rattle.type_record.specs.Record.{TypeRecord, readRecord, recordSize, recordAt}
 use Rattle.type_record.specs.RecordBytes.{size-some, size-most}
 use Rattle.type_record.specs.RecordReading.{ReadRecord, record-map, record-ordinary, record-read}
-use Rattle.membership.specs.declared.merging.Entries.{Entries}
-use Rattle.membership.specs.Entries.{enter, tableOf, Table, ListFits}
-use Rattle.membership.specs.TableLaws.{is-table, enter-table, table-count, table-full}
-use Rattle.schema.specs.declared.reading.Judgement.the-variants.{Read}
-use Rattle.schema.specs.Schema.{recordsRead, follow, atEnd, readRecords, entriesOf, mapsOf, tabled, refusedSchema, schemaReading}
+use Rattle.membership.specs.Entries.{enter, ListFits, TableIn, RoomFor}
+use Rattle.membership.specs.EnterLaws.{enter-few}
+use Rattle.membership.specs.TableLaws.{table-none, table-few, table-least, table-reaches, table-count, table-full, table-all, enter-table}
+use Rattle.schema.specs.declared.reading.Judgement.the-variants.{Read, Refused}
+use Rattle.schema.specs.declared.reading.SchemaReading.{SchemaReading}
+use Rattle.schema.specs.Schema.{Records, recordsRead, follow, atEnd, readRecords, entriesOf, mapsOf, tabled, refusedSchema, schemaReading, readingOf, EntriesStand}
+use Rattle.schema.specs.Sides.{source, EntersRecord}
 use Rattle.schema.specs.RecordsLaws.{AllRecords}
-use Rattle.schema.specs.EntriesLaws.{entries-below, maps-none}
+use Rattle.schema.specs.EntriesLaws.{maps-none}
 use Rattle.schema.proofs.More.{precedeAll, precede-more, precede-refused, precede-none, all-more, entries-more, maps-more}
 
-pub record Resumed (m : ℕ) (bytes special : List ℕ) (entries : Entries) (at r : ℕ) : Type 0 where
+pub record Resumed (m : ℕ) (bytes special items spare : List ℕ) (found at r : ℕ) : Type 0 where
   -- the records of the relations before r
   pub done : List TypeRecord
   pub count : length done ≡ r
@@ -37,12 +38,23 @@ pub record Resumed (m : ℕ) (bytes special : List ℕ) (entries : Entries) (at 
   pub most : r ≤ m
   pub inside : at ≤ length bytes
   pub maps : special ≡ mapsOf done
-  pub table : entries ≡ tableOf (entriesOf done)
+  pub table : TableIn (entriesOf done) (source m r items spare) found
+  -- two bytes were read for each entry
+  pub short : length (entriesOf done) * 2 ≤ at
   pub rest : readRecords m bytes ≡ precedeAll done (readRecords (m - r) (drop at bytes))
 
-pub resumed-start : (m : ℕ) (bytes : List ℕ) (entries : Entries) → entries ≡ tableOf [] → Resumed m bytes (replicate 8 0) entries 0 0
+-- a refused schema has no entries to stand anywhere
+pub refused-free : {s : SchemaReading} (x : Refusal) (entries items : List ℕ) → s ≡ readingOf (refusedSchema x) → EntriesStand (s .judgement) entries items
+unfolding readingOf refusedSchema
+refused-free x entries items is read = absurd (let other : Refused x ≡ Read = sym (ap (λ (t : SchemaReading). t .judgement) is) ∙ read in let z : _≡_ {A = ℕ} 0 1 = cc in omega arith)
+
+-- room in a slice of the same length
+pub room-same : (size : ℕ) (slice others : List ℕ) → length others ≡ length slice → RoomFor size slice → RoomFor size others
+room-same size slice others same room k few fits = let enough = room k few fits in omega arith
+
+pub resumed-start : (m : ℕ) (bytes items spare : List ℕ) → Resumed m bytes (replicate 8 0) items spare 0 0 0
 unfolding entriesOf
-resumed-start m bytes entries e =
+resumed-start m bytes items spare =
     record {
       done = [];
       count = refl;
@@ -50,11 +62,12 @@ resumed-start m bytes entries e =
       most = omega arith;
       inside = omega arith;
       maps = sym maps-none;
-      table = e;
+      table = table-none (source m 0 items spare);
+      short = omega arith;
       rest = ap (λ (n : ℕ). readRecords n bytes) (sym (sub-zero m));
     }
 
-module _ {m : ℕ} {bytes special : List ℕ} {entries : Entries} {at r : ℕ} (h : Resumed m bytes special entries at r) (below : Bytes bytes) (few : m ≤ 8) where
+module _ {m : ℕ} {bytes special items spare : List ℕ} {found at r : ℕ} (h : Resumed m bytes special items spare found at r) (below : Bytes bytes) (few : m ≤ 8) where
   -- the record at `at` as the code reads it
   abbrev Reads : RecordReading → Type 0
   Reads x = readRecord (take (length bytes - at) (drop at bytes)) ≡ x
@@ -63,9 +76,6 @@ module _ {m : ℕ} {bytes special : List ℕ} {entries : Entries} {at r : ℕ} (
   done-most : length (h .done) ≤ 8
   done-most = let c = h .count in let most = h .most in omega arith
 
-  pub is-entries : Table entries
-  is-entries = rw (h .table) (is-table (entriesOf (h .done)) (entries-below (h .done) done-most (h .all)))
-
   one-more : (x : RecordReading) → r < m → Reads x → readRecords (m - r) (drop at bytes) ≡ follow x (drop at bytes) (readRecords (m - (r + 1)))
   unfolding readRecords
   one-more x more e =
@@ -73,9 +83,9 @@ module _ {m : ℕ} {bytes special : List ℕ} {entries : Entries} {at r : ℕ} (
       let reading : readRecord (drop at bytes) ≡ x = rw part-from at e in
       rw (left, reading)
 
-  pub resumed-refused : {x : Refusal} → r < m → Reads (RecordRefused x) → refusedSchema x ≡ schemaReading m bytes
+  pub resumed-refused : {x : Refusal} → r < m → Reads (RecordRefused x) → readingOf (refusedSchema x) ≡ readingOf (schemaReading m bytes)
   unfolding schemaReading
-  resumed-refused {x} more e = sym (ap tabled (h .rest ∙ ap (precedeAll (h .done)) (one-more (RecordRefused x) more e) ∙ precede-refused (h .done) x))
+  resumed-refused {x} more e = sym (ap (λ (x : Records). readingOf (tabled x)) (h .rest ∙ ap (precedeAll (h .done)) (one-more (RecordRefused x) more e) ∙ precede-refused (h .done) x))
 
   -- ---- one record more
 
@@ -100,17 +110,56 @@ module _ {m : ℕ} {bytes special : List ℕ} {entries : Entries} {at r : ℕ} (
         let left = length-drop (at + 2) bytes in
         rw part-from (omega arith)
 
-    abbrev entered : Entries
-    entered = tableOf (enter (1 * 2 ^ r % 256) (tab n (λ x. word (take (length bytes - (at + 2)) (drop (at + 2) bytes)) (x * 2 + 1))) (take (entries .count) (entries .items)))
+    -- its list can be entered
+    pub enters : RoomFor (length bytes) items → RoomFor (length bytes) spare → EntersRecord (take (length bytes - (at + 2)) (drop (at + 2) bytes)) n m r items spare found
+    enters wide second =
+        record {
+          few = record-fits .0;
+          fits = list-fits;
+          most = table-few (h .table);
+          enough = table-reaches (h .table);
+          room = λ k less under. room-in k less under (decLt 0 n);
+        }
+      where
+        room-in : (k : ℕ) → k < 256 → k < n + found → Dec (0 < n) → (k < length items) × (k < length spare)
+        room-in k less under (yes some) =
+            let least = table-least (h .table) in
+            let short = h .short in
+            let size = size-some n some in
+            let end = record-fits .2 in
+            let one = wide (k + 1) (omega arith) (omega arith) in
+            let two = second (k + 1) (omega arith) (omega arith) in
+            (omega arith, omega arith)
+        room-in k less under (no none) =
+            let least = table-least (h .table) in
+            let short = h .short in
+            let inside = record-fits .1 in
+            let one = wide (k + 1) (omega arith) (omega arith) in
+            let two = second (k + 1) (omega arith) (omega arith) in
+            (omega arith, omega arith)
 
     listed-is : tab n (λ x. word (take (length bytes - (at + 2)) (drop (at + 2) bytes)) (x * 2 + 1)) ≡ recordAt (drop at bytes) map n .ordinary
     listed-is =
         rw (part-from bytes (at + 2), record-ordinary (drop at bytes) map n, drop-drop 2 at bytes) (sym (listed-tab (drop (at + 2) bytes) n))
 
-    entered-is : r < m → entered ≡ tableOf (entriesOf (h .done ++ (recordAt (drop at bytes) map n ∷ [])))
-    entered-is more =
-        rw (shifted-one 8 r (omega arith), listed-is, h .table, entries-more (recordAt (drop at bytes) map n) (h .done), h .count)
-        (enter-table (2 ^ r) (recordAt (drop at bytes) map n .ordinary) (entriesOf (h .done)))
+    -- the entries with its attributes
+    entered-is : {next : List ℕ} {size : ℕ} → TableIn (enter (2 ^ r) (tab n (λ x. word (take (length bytes - (at + 2)) (drop (at + 2) bytes)) (x * 2 + 1))) (take found (source m r items spare))) next size → TableIn (entriesOf (h .done ++ (recordAt (drop at bytes) map n ∷ []))) next size
+    entered-is t =
+        rw (entries-more (recordAt (drop at bytes) map n) (h .done), h .count)
+        (enter-table (h .table) (2 ^ r) (recordAt (drop at bytes) map n .ordinary) (rw listed-is at t))
+
+    entered-short : length (entriesOf (h .done ++ (recordAt (drop at bytes) map n ∷ []))) * 2 ≤ at + recordSize n
+    entered-short = go (decLt 0 n)
+      where
+        least : length (entriesOf (h .done ++ (recordAt (drop at bytes) map n ∷ []))) ≤ n + length (entriesOf (h .done))
+        least =
+            let size = sym (ap length listed-is) ∙ length-tab n (λ x. word (take (length bytes - (at + 2)) (drop (at + 2) bytes)) (x * 2 + 1)) in
+            let few = enter-few (2 ^ length (h .done)) (recordAt (drop at bytes) map n .ordinary) (entriesOf (h .done)) in
+            rw (entries-more (recordAt (drop at bytes) map n) (h .done)) (omega arith)
+
+        go : Dec (0 < n) → length (entriesOf (h .done ++ (recordAt (drop at bytes) map n ∷ []))) * 2 ≤ at + recordSize n
+        go (yes some) = let l = least in let short = h .short in let end = size-some n some in omega arith
+        go (no none) = let l = least in let short = h .short in omega arith
 
     maps-is : r < m → set special r map ≡ mapsOf (h .done ++ (recordAt (drop at bytes) map n ∷ []))
     maps-is more =
@@ -118,8 +167,8 @@ module _ {m : ℕ} {bytes special : List ℕ} {entries : Entries} {at r : ℕ} (
         ap (set special r) (sym (record-map (drop at bytes) map n))
         ∙ rw (h .maps, ← c) (maps-more (recordAt (drop at bytes) map n) (h .done) (omega arith))
 
-    pub resumed-next : {next : Entries} {size : ℕ} → r < m → next ≡ entered → size ≡ recordSize n → Resumed m bytes (set special r map) next (at + size) (r + 1)
-    resumed-next more next-is size-is =
+    pub resumed-next : {next others : List ℕ} {number size : ℕ} → r < m → TableIn (enter (2 ^ r) (tab n (λ x. word (take (length bytes - (at + 2)) (drop (at + 2) bytes)) (x * 2 + 1))) (take found (source m r items spare))) (source m (r + 1) next others) number → size ≡ recordSize n → Resumed m bytes (set special r map) next others number (at + size) (r + 1)
+    resumed-next more made size-is =
         let fits = record-fits .2 in
         let c = h .count in
         let whole = length-append (h .done) (recordAt (drop at bytes) map n ∷ []) in
@@ -130,7 +179,8 @@ module _ {m : ℕ} {bytes special : List ℕ} {entries : Entries} {at r : ℕ} (
           most = omega arith;
           inside = omega arith;
           maps = maps-is more;
-          table = next-is ∙ entered-is more;
+          table = entered-is made;
+          short = rw size-is entered-short;
           rest =
               h .rest
               ∙ ap (precedeAll (h .done)) (one-more (RecordRead map n) more e)
@@ -146,34 +196,39 @@ module _ {m : ℕ} {bytes special : List ℕ} {entries : Entries} {at r : ℕ} (
       let none : m - r ≡ 0 = omega arith in
       h .rest ∙ rw none
 
-  pub resumed-followed : m ≤ r → at < length bytes → refusedSchema InputFollowed ≡ schemaReading m bytes
+  pub resumed-followed : m ≤ r → at < length bytes → readingOf (refusedSchema InputFollowed) ≡ readingOf (schemaReading m bytes)
   unfolding schemaReading
-  resumed-followed last more = sym (ap tabled (ended last ∙ ap (λ (l : List ℕ). precedeAll (h .done) (atEnd l)) (drop-cons bytes at 0 more) ∙ precede-refused (h .done) InputFollowed))
+  resumed-followed last more = sym (ap (λ (x : Records). readingOf (tabled x)) (ended last ∙ ap (λ (l : List ℕ). precedeAll (h .done) (atEnd l)) (drop-cons bytes at 0 more) ∙ precede-refused (h .done) InputFollowed))
 
   read-all : m ≤ r → length bytes ≤ at → readRecords m bytes ≡ recordsRead (h .done)
   read-all last none = ended last ∙ ap (λ (l : List ℕ). precedeAll (h .done) (atEnd l)) (drop-of-length-le bytes none) ∙ precede-none (h .done)
 
   -- over 255 entries, as the table counts them and as they are
-  full : 255 < entries .count → 255 < length (entriesOf (h .done))
+  full : 255 < found → 255 < length (entriesOf (h .done))
   full over = go (decLt 255 (length (entriesOf (h .done))))
     where
       go : Dec (255 < length (entriesOf (h .done))) → 255 < length (entriesOf (h .done))
       go (yes more) = more
-      go (no less) = let count = ap (λ (t : Entries). t .count) (h .table) ∙ table-count (entriesOf (h .done)) (omega arith) in absurd (omega arith)
+      go (no less) = let count = table-count (h .table) (omega arith) in absurd (omega arith)
 
-  fitting : entries .count ≤ 255 → length (entriesOf (h .done)) ≤ 255
+  fitting : found ≤ 255 → length (entriesOf (h .done)) ≤ 255
   fitting under = go (decLt 255 (length (entriesOf (h .done))))
     where
       go : Dec (255 < length (entriesOf (h .done))) → length (entriesOf (h .done)) ≤ 255
-      go (yes more) = let count = ap (λ (t : Entries). t .count) (h .table) in let over = table-full (entriesOf (h .done)) more in absurd (omega arith)
+      go (yes more) = let over = table-full (h .table) more in absurd (omega arith)
       go (no less) = omega arith
 
-  pub resumed-over : m ≤ r → length bytes ≤ at → 255 < entries .count → refusedSchema TooManyAttributes ≡ schemaReading m bytes
+  pub resumed-over : m ≤ r → length bytes ≤ at → 255 < found → readingOf (refusedSchema TooManyAttributes) ≡ readingOf (schemaReading m bytes)
   unfolding schemaReading
-  resumed-over last none over = sym (ap tabled (read-all last none) ∙ rw (lt-ltb 255 (length (entriesOf (h .done))) (full over)))
+  resumed-over last none over = sym (ap (λ (x : Records). readingOf (tabled x)) (read-all last none) ∙ rw (lt-ltb 255 (length (entriesOf (h .done))) (full over)))
 
-  pub resumed-end : m ≤ r → length bytes ≤ at → entries .count ≤ 255 → record { judgement = Read; special = special; entries = entries } ≡ schemaReading m bytes
-  unfolding schemaReading
+  pub resumed-end : m ≤ r → length bytes ≤ at → found ≤ 255 → (record { judgement = Read; special = special; count = found } ≡ readingOf (schemaReading m bytes)) × (take (length (schemaReading m bytes .entries)) items ≡ schemaReading m bytes .entries)
+  unfolding schemaReading readingOf
   resumed-end last none under =
-      ap₂ (λ (s : List ℕ) (t : Entries). record { judgement = Read; special = s; entries = t }) (h .maps) (h .table)
-      ∙ sym (ap tabled (read-all last none) ∙ rw (le-ltb 255 (length (entriesOf (h .done))) (fitting under)))
+      let small = fitting under in
+      let is : tabled (readRecords m bytes) ≡ record { judgement = Read; special = mapsOf (h .done); entries = entriesOf (h .done) } = ap tabled (read-all last none) ∙ rw (le-ltb 255 (length (entriesOf (h .done))) small) in
+      let number = table-count (h .table) small in
+      let upTo = h .most in
+      let at-last : m - r ≡ 0 = omega arith in
+      let stands : take found items ≡ entriesOf (h .done) = rw at-last at (table-all (h .table) small) in
+      rw is (ap₂ (λ (s : List ℕ) (n : ℕ). record { judgement = Read; special = s; count = n }) (h .maps) number, rw (← number) stands)

@@ -8,25 +8,22 @@ use native.Mathlib.Omega.{arith}
 use borrow.Author.Tests.{le-ltb, ltb-false}
 use lib.Dec.{ltb}
 use lib.ListN.{length, getD, take, List·getD-eq-default}
-use lib.Seq.{take-all}
 use Rattle.bits.specs.Tab.{tab, length-tab, getD-tab}
 use Rattle.bits.specs.Word.{Bytes}
 use Rattle.refusal.specs.declared.Refusal.{Refusal}
 use Rattle.refusal.specs.declared.Refusal.the-variants.{TooManyAttributes}
 use Rattle.type_record.specs.Record.{TypeRecord}
-use Rattle.membership.specs.Entries.{tableOf}
-use Rattle.membership.specs.TableLaws.{table-count, table-size, table-entries, table-item, is-table}
-use Rattle.schema.specs.Schema.{Records, recordsRefused, recordsRead, readRecords, noRecord, entriesOf, mapsOf, refusedSchema, tabled, schemaReading, WritesFrom}
+use Rattle.membership.specs.TableLaws.{items-stand}
+use Rattle.schema.specs.Schema.{Schema, Records, recordsRefused, recordsRead, readRecords, noRecord, entriesOf, mapsOf, refusedSchema, tabled, schemaReading, WritesFrom}
 use Rattle.schema.specs.RecordsLaws.{AllRecords, records-read}
 use Rattle.schema.specs.EntriesLaws.{entries-below}
 use Rattle.schema.specs.declared.reading.Judgement.the-variants.{Read}
-use Rattle.schema.specs.declared.reading.Schema.{Schema}
 
 -- a schema of m relations that was read from these bytes, with its records
 pub record ReadSchema (m : ℕ) (bytes : List ℕ) (s : Schema) (records : List TypeRecord) : Type 0 where
   pub read : readRecords m bytes ≡ recordsRead records
   pub few : length (entriesOf records) ≤ 255
-  pub is : s ≡ record { judgement = Read; special = mapsOf records; entries = tableOf (entriesOf records) }
+  pub is : s ≡ record { judgement = Read; special = mapsOf records; entries = entriesOf records }
 
 refused-not : (r : Refusal) → refusedSchema r .judgement ≡ Read → ⊥
 unfolding refusedSchema
@@ -36,7 +33,7 @@ pub schema-read : (m : ℕ) (bytes : List ℕ) → schemaReading m bytes .judgem
 unfolding schemaReading
 schema-read m bytes e = go (readRecords m bytes) refl e
   where
-    counted : (ts : List TypeRecord) → readRecords m bytes ≡ recordsRead ts → (t : Bool) → ltb 255 (length (entriesOf ts)) ≡ t → cond t (refusedSchema TooManyAttributes) (record { judgement = Read; special = mapsOf ts; entries = tableOf (entriesOf ts) }) .judgement ≡ Read → (us : List TypeRecord) × ReadSchema m bytes (cond t (refusedSchema TooManyAttributes) (record { judgement = Read; special = mapsOf ts; entries = tableOf (entriesOf ts) })) us
+    counted : (ts : List TypeRecord) → readRecords m bytes ≡ recordsRead ts → (t : Bool) → ltb 255 (length (entriesOf ts)) ≡ t → cond t (refusedSchema TooManyAttributes) (record { judgement = Read; special = mapsOf ts; entries = entriesOf ts }) .judgement ≡ Read → (us : List TypeRecord) × ReadSchema m bytes (cond t (refusedSchema TooManyAttributes) (record { judgement = Read; special = mapsOf ts; entries = entriesOf ts })) us
     counted ts read true many e = absurd (refused-not TooManyAttributes e)
     counted ts read false few e = (ts, record { read = read; few = ltb-false 255 (length (entriesOf ts)) few; is = refl })
 
@@ -52,24 +49,8 @@ read-schema m bytes ts read few = record { read = read; few = few; is = rw (read
 -- ---- what stands in its table
 
 -- the entries
-pub read-entries : (m : ℕ) (bytes : List ℕ) (s : Schema) (ts : List TypeRecord) → ReadSchema m bytes s ts → take (s .entries .count) (s .entries .items) ≡ entriesOf ts
-read-entries m bytes s ts r =
-    let few = r .few in
-    ap (λ (x : Schema). take (x .entries .count) (x .entries .items)) (r .is)
-    ∙ table-entries (entriesOf ts)
-    ∙ take-all 256 (entriesOf ts) (omega arith)
-
--- zeros after the last
-pub read-zeros : (m : ℕ) (bytes : List ℕ) (s : Schema) (ts : List TypeRecord) → ReadSchema m bytes s ts → (i : ℕ) → s .entries .count ≤ i → getD (s .entries .items) i 0 ≡ 0
-read-zeros m bytes s ts r i past = rw (r .is) (go (decLt i 256) (rw (r .is) at past))
-  where
-    go : Dec (i < 256) → tableOf (entriesOf ts) .count ≤ i → getD (tableOf (entriesOf ts) .items) i 0 ≡ 0
-    go (yes inside) h =
-        let n = table-count (entriesOf ts) (r .few) in
-        table-item (entriesOf ts) i inside ∙ List·getD-eq-default (entriesOf ts) 0 {n = i} (omega arith)
-    go (no outside) h =
-        let size = table-size (entriesOf ts) in
-        List·getD-eq-default (tableOf (entriesOf ts) .items) 0 {n = i} (omega arith)
+pub read-entries : (m : ℕ) (bytes : List ℕ) (s : Schema) (ts : List TypeRecord) → ReadSchema m bytes s ts → s .entries ≡ entriesOf ts
+read-entries m bytes s ts r = ap (λ (x : Schema). x .entries) (r .is)
 
 -- the maps have bit 0 clear
 record-even : (ts : List TypeRecord) → AllRecords ts → (r : ℕ) → getD ts r noRecord .map % 2 ≡ 0
@@ -94,19 +75,18 @@ pub maps-size : (ts : List TypeRecord) → length (mapsOf ts) ≡ 8
 unfolding mapsOf
 maps-size ts = length-tab 8 (λ r. getD ts r noRecord .map)
 
--- it is one that can be written
-pub read-table : (m : ℕ) (bytes : List ℕ) (s : Schema) (ts : List TypeRecord) → m ≤ 8 → Bytes bytes → ReadSchema m bytes s ts → WritesFrom (s .special) (s .entries .items) (s .entries .count)
-read-table m bytes s ts most below r =
+-- it is one that can be written, where its entries stand in a slice
+pub read-table : (m : ℕ) (bytes : List ℕ) (s : Schema) (ts : List TypeRecord) (items : List ℕ) → m ≤ 8 → Bytes bytes → ReadSchema m bytes s ts → take (length (s .entries)) items ≡ s .entries → WritesFrom (s .special) items (length (s .entries))
+read-table m bytes s ts items most below r stands =
     let read = records-read m bytes ts below (r .read) in
     let size = read .0 in
-    let n = table-count (entriesOf ts) (r .few) in
+    let is = read-entries m bytes s ts r in
+    let number = ap length is in
     let few = r .few in
-    let table = is-table (entriesOf ts) (entries-below ts (omega arith) (read .1)) in
-    rw (r .is)
-    (record {
-      maps = maps-size ts;
-      even = maps-at ts (read .1);
-      size = table .size;
+    let maps = ap (λ (x : Schema). x .special) (r .is) in
+    record {
+      maps = rw maps (maps-size ts);
+      even = rw maps (maps-at ts (read .1));
       few = omega arith;
-      below = table .below;
-    })
+      fit = items-stand items (s .entries) stands (rw is (entries-below ts (omega arith) (read .1)));
+    }

@@ -16,11 +16,8 @@ use Rattle.expression.specs.AdmissionLaws.{sliced-passed}
 use Rattle.formula.specs.Expressions.{expressionAt}
 use Rattle.formula.specs.Stored.{formulasOf, admitted}
 use Rattle.formula.specs.StoredLaws.{stored-column, admitted-passed}
-use Rattle.membership.specs.Entries.{tableOf}
-use Rattle.membership.specs.TableLaws.{is-table}
 use Rattle.special_maps.specs.Special.{mapsFrom}
 use Rattle.special_maps.specs.SpecialLaws.{maps-length, maps-even}
-use Rattle.membership.specs.declared.merging.Entries.{Entries}
 use Rattle.schema.specs.Schema.{schemaBytes, recordsOf, WritesFrom}
 use Rattle.verdict.specs.Lowest.{lowestOf, lowestAt, blockedBy, chosenBy, subsetsAt}
 use Rattle.verdict.specs.LowestLaws.{chosen-size, chosen-none, subsets-blocked, subsets-chosen, blocked-same, chosen-same, lowest-cells}
@@ -65,10 +62,9 @@ module _ (work : List ℕ) (m k : ℕ) (schema : List ℕ) (subsets : Subsets) (
   judge-writes = rw chosen-is (chosen-size (lowestAt work k), chosen-none (lowestAt work k))
 
 -- the table that the witness is written from: the maps of the subsets, and no entries
-pub witness-from : (subsets special : List ℕ) (none : Entries) → special ≡ mapsFrom subsets → getD subsets 0 0 ≡ 0 → none ≡ tableOf [] → WritesFrom special (none .items) 0
-witness-from subsets special none are clear is =
-    let table = is-table [] tt in
-    rw (are, is) (record { maps = maps-length subsets; even = maps-even subsets clear; size = table .size; few = omega arith; below = table .below })
+pub witness-from : (subsets special items : List ℕ) → special ≡ mapsFrom subsets → getD subsets 0 0 ≡ 0 → WritesFrom special items 0
+witness-from subsets special items are clear =
+    rw are (record { maps = maps-length subsets; even = maps-even subsets clear; few = omega arith; fit = record { enough = omega arith; below = λ i h. absurd (omega arith) } })
 
 -- ---- two that agree on the columns are judged alike
 

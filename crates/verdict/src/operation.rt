@@ -12,7 +12,6 @@ use crate::lowest::lowest_subsets;
 use expression::Acceptance;
 use formula::admit;
 use formula::fill;
-use membership::no_entries;
 use refusal::Refusal;
 use schema::write_schema;
 use special_maps::maps_from;
@@ -32,9 +31,9 @@ fn write_witness(schema: &mut [u8], m: u8, subsets: &[u8]) -> usize
     ensures { λ _. ⌜ now (schema .exit) ≡ over (schemaBytes (recordsOf m (mapsFrom (now (subsets .entry))) [])) (now (schema .entry)) ⌝ }
 {
     let special = maps_from(subsets);
-    let none = no_entries();
-    let items = none.items;
-    write_schema(schema, m, &special, &items, 0)
+    let items = [0u32; 1];
+    let mut list = [0u32; 1];
+    write_schema(schema, m, &special, &items, 0, &mut list)
 }
 
 // The verdict on a node whose formula stands in the work space.

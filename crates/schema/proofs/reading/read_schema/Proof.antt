@@ -1,30 +1,36 @@
-use Prim.Native.Nat.{_-_}
-use mathlib.Core.Path.{sym, _∙_}
+use Rattle.schema.proofs.Resume.{Resumed, resumed-start, refused-free, room-same, resumed-refused, record-fits, enters, resumed-next, resumed-followed, resumed-over, resumed-end}
+use lib.ListN.{length}
 use native.Mathlib.Omega.{arith}
-use Rattle.schema.proofs.Resume.{Resumed, resumed-start, is-entries, resumed-refused, record-fits, list-fits, resumed-next, resumed-followed, resumed-over, resumed-end}
+use mathlib.Core.Path.{_≡_, refl, sym, _∙_}
+use Prim.Native.Nat.{_-_}
 use borrow.Author.Needs.{needs}
 use Rattle.schema.proofs.reading.read_schema.Statement.{statement}
 use Rattle.schema.proofs.reading.read_schema.Tie as tie
+use Rattle.schema.proofs.reading.read_schema.Reads as reads
+use Rattle.schema.proofs.reading.read_schema.Lts as lts
+use Rattle.schema.proofs.reading.enter_record.Reads as enter-record-reads
+use Rattle.schema.proofs.reading.refused.Reads as refused-reads
+use Rattle.type_record.proofs.read_record.Reads as read-record-reads
+use Rattle.type_record.proofs.record_size.Reads as record-size-reads
 
 abbrev Inv-loop : tie.InvT-loop
-Inv-loop bytes m special₀ entries₀ at₀ r₀ special entries at r = Resumed m bytes special entries at r
+Inv-loop bytes m items₀ spare₀ special₀ count₀ at₀ r₀ items spare special count at r = Resumed m bytes special items spare count at r × (length items ≡ length items₀) × (length spare ≡ length spare₀)
 
 abbrev μ-loop : tie.MeasureT-loop
-μ-loop bytes m special₀ entries₀ at₀ r₀ special entries at r = m - r
-
-no-entries-requires : tie.Need-no-entries-requires Inv-loop μ-loop
-no-entries-requires c κs = search needs
+μ-loop bytes m items₀ spare₀ special₀ count₀ at₀ r₀ items spare special count at r = m - r
 
 loop-holds : tie.Need-loop-holds Inv-loop μ-loop
-loop-holds c =
-    let args = c .before .before .args in
-    resumed-start (args .m) (args .bytes .now) (c .no-entries .result) (c .no-entries .ensures)
+loop-holds c = (resumed-start _ _ _ _, refl, refl)
 
 sub-read-record : tie.Need-sub-read-record Inv-loop μ-loop
-sub-read-record c = let inside = c .before .loop .inv .inside in omega arith
+sub-read-record c =
+    let inside = c .before .loop .inv .0 .inside in
+    omega arith
 
 part-read-record-start : tie.Need-part-read-record-start Inv-loop μ-loop
-part-read-record-start c = let inside = c .before .loop .inv .inside in omega arith
+part-read-record-start c =
+    let inside = c .before .loop .inv .0 .inside in
+    omega arith
 
 part-read-record-end : tie.Need-part-read-record-end Inv-loop μ-loop
 part-read-record-end c = search needs
@@ -38,11 +44,14 @@ enum-known-refusal c = search needs
 refused-requires : tie.Need-refused-requires Inv-loop μ-loop
 refused-requires c κs = search needs
 
+same-length : tie.Need-same-length Inv-loop μ-loop
+same-length c = c .before .before .before .before .before .before .before .loop .inv .1
+
+same-length-2 : tie.Need-same-length-2 Inv-loop μ-loop
+same-length-2 c = c .before .before .before .before .before .before .before .loop .inv .2
+
 returns : tie.Need-returns Inv-loop μ-loop
-returns c =
-    let pre = c .before .before .before .before .before .before .before .before .before .before .pre in
-    let loop = c .before .before .before .before .before .before .before .loop in
-    c .refused .ensures ∙ resumed-refused (loop .inv) (λ x. omega (arith, c .before .before .before .before .before .before .before .before .before .shared-slice-known .given x)) pre (c .before .before .before .before .before .before .loop-test .taken) (sym (c .before .before .before .before .read-record .ensures) ∙ c .before .before .refusal .given .1)
+returns c = (c .refused .ensures ∙ resumed-refused (c .before .before .before .before .before .before .before .loop .inv .0) (λ x. omega (arith, c .before .before .before .before .before .before .before .before .before .before .shared-slice-known .given x)) (c .before .before .before .before .before .before .before .before .before .before .before .pre .0) (c .before .before .before .before .before .before .loop-test .taken) (sym (c .before .before .before .before .read-record .ensures) ∙ c .before .before .refusal .given .1), refused-free _ _ _ (c .refused .ensures))
 
 enum-known-map : tie.Need-enum-known-map Inv-loop μ-loop
 enum-known-map c = search needs
@@ -56,55 +65,40 @@ mul-special c = search needs
 array-write-special : tie.Need-array-write-special Inv-loop μ-loop
 array-write-special c = search needs
 
-add-enter : tie.Need-add-enter Inv-loop μ-loop
-add-enter c =
-    let pre = c .before .before .before .before .before .before .before .before .before .pre in
-    let loop = c .before .before .before .before .before .before .loop in
-    let fits = record-fits (loop .inv) (λ x. omega (arith, c .before .before .before .before .before .before .before .before .shared-slice-known .given x)) pre (sym (c .before .before .before .read-record .ensures) ∙ c .before .map .given .1) in
+add-enter-record : tie.Need-add-enter-record Inv-loop μ-loop
+add-enter-record c =
+    let fits = record-fits (c .before .before .before .before .before .before .loop .inv .0) (λ x. omega (arith, c .before .before .before .before .before .before .before .before .before .shared-slice-known .given x)) (c .before .before .before .before .before .before .before .before .before .before .pre .0) (sym (c .before .before .before .read-record .ensures) ∙ c .before .map .given .1) in
     let inside = fits .1 in
+    let end = fits .2 in
     omega arith
 
-sub-enter : tie.Need-sub-enter Inv-loop μ-loop
-sub-enter c =
-    let pre = c .before .before .before .before .before .before .before .before .before .pre in
-    let loop = c .before .before .before .before .before .before .loop in
-    let fits = record-fits (loop .inv) (λ x. omega (arith, c .before .before .before .before .before .before .before .before .shared-slice-known .given x)) pre (sym (c .before .before .before .read-record .ensures) ∙ c .before .map .given .1) in
+sub-enter-record : tie.Need-sub-enter-record Inv-loop μ-loop
+sub-enter-record c =
+    let fits = record-fits (c .before .before .before .before .before .before .loop .inv .0) (λ x. omega (arith, c .before .before .before .before .before .before .before .before .before .shared-slice-known .given x)) (c .before .before .before .before .before .before .before .before .before .before .pre .0) (sym (c .before .before .before .read-record .ensures) ∙ c .before .map .given .1) in
     let inside = fits .1 in
+    let end = fits .2 in
     omega arith
 
-part-enter-start : tie.Need-part-enter-start Inv-loop μ-loop
-part-enter-start c =
-    let pre = c .before .before .before .before .before .before .before .before .before .pre in
-    let loop = c .before .before .before .before .before .before .loop in
-    let fits = record-fits (loop .inv) (λ x. omega (arith, c .before .before .before .before .before .before .before .before .shared-slice-known .given x)) pre (sym (c .before .before .before .read-record .ensures) ∙ c .before .map .given .1) in
+part-enter-record-start : tie.Need-part-enter-record-start Inv-loop μ-loop
+part-enter-record-start c =
+    let fits = record-fits (c .before .before .before .before .before .before .loop .inv .0) (λ x. omega (arith, c .before .before .before .before .before .before .before .before .before .shared-slice-known .given x)) (c .before .before .before .before .before .before .before .before .before .before .pre .0) (sym (c .before .before .before .read-record .ensures) ∙ c .before .map .given .1) in
     let inside = fits .1 in
+    let end = fits .2 in
     omega arith
 
-part-enter-end : tie.Need-part-enter-end Inv-loop μ-loop
-part-enter-end c = search needs
+part-enter-record-end : tie.Need-part-enter-record-end Inv-loop μ-loop
+part-enter-record-end c = search needs
 
-shl-enter : tie.Need-shl-enter Inv-loop μ-loop
-shl-enter c = search needs
-
-enter-requires : tie.Need-enter-requires Inv-loop μ-loop
-enter-requires c κs =
-    let pre = c .before .before .before .before .before .before .before .before .before .before .pre in
-    let loop = c .before .before .before .before .before .before .before .loop in
-    let fits = record-fits (loop .inv) (λ x. omega (arith, c .before .before .before .before .before .before .before .before .before .shared-slice-known .given x)) pre (sym (c .before .before .before .before .read-record .ensures) ∙ c .before .before .map .given .1) in
-    (fits .0, (list-fits (loop .inv) (λ x. omega (arith, c .before .before .before .before .before .before .before .before .before .shared-slice-known .given x)) pre (sym (c .before .before .before .before .read-record .ensures) ∙ c .before .before .map .given .1), is-entries (loop .inv) (λ x. omega (arith, c .before .before .before .before .before .before .before .before .before .shared-slice-known .given x)) pre))
+enter-record-requires : tie.Need-enter-record-requires Inv-loop μ-loop
+enter-record-requires c κs = ((c .before .before .before .before .before .before .before .before .loop-test .taken, c .before .before .before .before .before .before .before .before .before .before .before .before .before .pre .0), enters (c .before .before .before .before .before .before .before .before .before .loop .inv .0) (λ x. omega (arith, c .before .before .before .before .before .before .before .before .before .before .before .before .shared-slice-known .given x)) (c .before .before .before .before .before .before .before .before .before .before .before .before .before .pre .0) (sym (c .before .before .before .before .before .before .read-record .ensures) ∙ c .before .before .before .before .map .given .1) (room-same (length (c .before .before .before .before .before .before .before .before .before .before .before .before .before .args .bytes .now)) (c .before .before .before .before .before .before .before .before .before .before .before .before .before .args .items .now) (c .before .before .before .before .before .before .before .before .before .loop .items) (c .before .before .before .before .before .before .before .before .before .loop .inv .1) (c .before .before .before .before .before .before .before .before .before .before .before .before .before .pre .1 .0)) (room-same (length (c .before .before .before .before .before .before .before .before .before .before .before .before .before .args .bytes .now)) (c .before .before .before .before .before .before .before .before .before .before .before .before .before .args .spare .now) (c .before .before .before .before .before .before .before .before .before .loop .spare) (c .before .before .before .before .before .before .before .before .before .loop .inv .2) (c .before .before .before .before .before .before .before .before .before .before .before .before .before .pre .1 .1)))
 
 record-size-requires : tie.Need-record-size-requires Inv-loop μ-loop
-record-size-requires c κs =
-    let pre = c .before .before .before .before .before .before .before .before .before .before .before .pre in
-    let loop = c .before .before .before .before .before .before .before .before .loop in
-    let fits = record-fits (loop .inv) (λ x. omega (arith, c .before .before .before .before .before .before .before .before .before .before .shared-slice-known .given x)) pre (sym (c .before .before .before .before .before .read-record .ensures) ∙ c .before .before .before .map .given .1) in
-    fits .0
+record-size-requires c κs = record-fits (c .before .before .before .before .before .before .before .before .before .before .before .before .before .before .loop .inv .0) (λ x. omega (arith, c .before .before .before .before .before .before .before .before .before .before .before .before .before .before .before .before .before .shared-slice-known .given x)) (c .before .before .before .before .before .before .before .before .before .before .before .before .before .before .before .before .before .before .pre .0) (sym (c .before .before .before .before .before .before .before .before .before .before .before .read-record .ensures) ∙ c .before .before .before .before .before .before .before .before .before .map .given .1) .0
 
 add-at : tie.Need-add-at Inv-loop μ-loop
 add-at c =
-    let pre = c .before .before .before .before .before .before .before .before .before .before .before .before .pre in
-    let loop = c .before .before .before .before .before .before .before .before .before .loop in
-    let fits = record-fits (loop .inv) (λ x. omega (arith, c .before .before .before .before .before .before .before .before .before .before .before .shared-slice-known .given x)) pre (sym (c .before .before .before .before .before .before .read-record .ensures) ∙ c .before .before .before .before .map .given .1) in
+    let fits = record-fits (c .before .before .before .before .before .before .before .before .before .before .before .before .before .before .before .loop .inv .0) (λ x. omega (arith, c .before .before .before .before .before .before .before .before .before .before .before .before .before .before .before .before .before .before .shared-slice-known .given x)) (c .before .before .before .before .before .before .before .before .before .before .before .before .before .before .before .before .before .before .before .pre .0) (sym (c .before .before .before .before .before .before .before .before .before .before .before .before .read-record .ensures) ∙ c .before .before .before .before .before .before .before .before .before .before .map .given .1) in
+    let inside = fits .1 in
     let end = fits .2 in
     let size = c .record-size .ensures in
     omega arith
@@ -116,34 +110,42 @@ loop-less : tie.Need-loop-less Inv-loop μ-loop
 loop-less c = search needs
 
 loop-again : tie.Need-loop-again Inv-loop μ-loop
-loop-again c =
-    let pre = c .before .before .before .before .before .before .before .before .before .before .before .before .pre in
-    let loop = c .before .before .before .before .before .before .before .before .before .loop in
-    resumed-next (loop .inv) (λ x. omega (arith, c .before .before .before .before .before .before .before .before .before .before .before .shared-slice-known .given x)) pre (sym (c .before .before .before .before .before .before .read-record .ensures) ∙ c .before .before .before .before .map .given .1) (c .before .before .before .before .before .before .before .before .loop-test .taken) (c .before .enter .ensures) (c .record-size .ensures)
+loop-again c = (resumed-next (c .before .before .before .before .before .before .before .before .before .before .before .before .before .before .before .loop .inv .0) (λ x. omega (arith, c .before .before .before .before .before .before .before .before .before .before .before .before .before .before .before .before .before .before .shared-slice-known .given x)) (c .before .before .before .before .before .before .before .before .before .before .before .before .before .before .before .before .before .before .before .pre .0) (sym (c .before .before .before .before .before .before .before .before .before .before .before .before .read-record .ensures) ∙ c .before .before .before .before .before .before .before .before .before .before .map .given .1) (c .before .before .before .before .before .before .before .before .before .before .before .before .before .before .loop-test .taken) (c .before .before .before .before .before .enter-record .ensures) (c .record-size .ensures), c .before .before .before .before .before .enter-record .kept .1 .1 .1 .1 .0 ∙ c .before .before .before .before .before .before .before .before .before .before .before .before .before .before .before .loop .inv .1, c .before .before .before .before .before .enter-record .kept .1 .1 .1 .1 .1 .0 ∙ c .before .before .before .before .before .before .before .before .before .before .before .before .before .before .before .loop .inv .2)
 
 refused-requires-2 : tie.Need-refused-requires-2 Inv-loop μ-loop
 refused-requires-2 c κs = search needs
 
+same-length-3 : tie.Need-same-length-3 Inv-loop μ-loop
+same-length-3 c = c .before .before .before .loop .inv .1
+
+same-length-4 : tie.Need-same-length-4 Inv-loop μ-loop
+same-length-4 c = c .before .before .before .loop .inv .2
+
 returns-2 : tie.Need-returns-2 Inv-loop μ-loop
-returns-2 c =
-    let pre = c .before .before .before .before .before .before .pre in
-    let loop = c .before .before .before .loop in
-    c .refused2 .ensures ∙ resumed-followed (loop .inv) (λ x. omega (arith, c .before .before .before .before .before .shared-slice-known .given x)) pre (c .before .before .loop-test .left) (c .before .if1 .taken)
+returns-2 c = (c .refused2 .ensures ∙ resumed-followed (c .before .before .before .loop .inv .0) (λ x. omega (arith, c .before .before .before .before .before .before .shared-slice-known .given x)) (c .before .before .before .before .before .before .before .pre .0) (c .before .before .loop-test .left) (c .before .if1 .taken), refused-free _ _ _ (c .refused2 .ensures))
 
 refused-requires-3 : tie.Need-refused-requires-3 Inv-loop μ-loop
 refused-requires-3 c κs = search needs
 
+same-length-5 : tie.Need-same-length-5 Inv-loop μ-loop
+same-length-5 c = c .before .before .before .before .loop .inv .1
+
+same-length-6 : tie.Need-same-length-6 Inv-loop μ-loop
+same-length-6 c = c .before .before .before .before .loop .inv .2
+
 returns-3 : tie.Need-returns-3 Inv-loop μ-loop
-returns-3 c =
-    let pre = c .before .before .before .before .before .before .before .before .pre in
-    let loop = c .before .before .before .before .before .loop in
-    c .refused3 .ensures ∙ resumed-over (loop .inv) (λ x. omega (arith, c .before .before .before .before .before .before .before .shared-slice-known .given x)) pre (c .before .before .before .before .loop-test .left) (c .before .before .before .if1 .left) (c .before .if2 .taken)
+returns-3 c = (c .refused3 .ensures ∙ resumed-over (c .before .before .before .before .loop .inv .0) (λ x. omega (arith, c .before .before .before .before .before .before .before .shared-slice-known .given x)) (c .before .before .before .before .before .before .before .before .pre .0) (c .before .before .before .loop-test .left) (c .before .before .if1 .left) (c .before .if2 .taken), refused-free _ _ _ (c .refused3 .ensures))
+
+same-length-7 : tie.Need-same-length-7 Inv-loop μ-loop
+same-length-7 c = c .before .before .before .loop .inv .1
+
+same-length-8 : tie.Need-same-length-8 Inv-loop μ-loop
+same-length-8 c = c .before .before .before .loop .inv .2
 
 returns-4 : tie.Need-returns-4 Inv-loop μ-loop
 returns-4 c =
-    let pre = c .before .before .before .before .before .before .before .pre in
-    let loop = c .before .before .before .before .loop in
-    resumed-end (loop .inv) (λ x. omega (arith, c .before .before .before .before .before .before .shared-slice-known .given x)) pre (c .before .before .before .loop-test .left) (c .before .before .if1 .left) (c .if2 .left)
+    let end = resumed-end (c .before .before .before .loop .inv .0) (λ x. omega (arith, c .before .before .before .before .before .before .shared-slice-known .given x)) (c .before .before .before .before .before .before .before .pre .0) (c .before .before .loop-test .left) (c .before .if1 .left) (c .if2 .left) in
+    (end .0, λ read. end .1)
 
 pub read-schema-spec : {M : Type 1} → statement M
 read-schema-spec =
@@ -151,7 +153,6 @@ read-schema-spec =
     (tie.spec
     Inv-loop
     μ-loop
-    no-entries-requires
     loop-holds
     sub-read-record
     part-read-record-start
@@ -159,24 +160,31 @@ read-schema-spec =
     read-record-requires
     enum-known-refusal
     refused-requires
+    same-length
+    same-length-2
     returns
     enum-known-map
     cast-special
     mul-special
     array-write-special
-    add-enter
-    sub-enter
-    part-enter-start
-    part-enter-end
-    shl-enter
-    enter-requires
+    add-enter-record
+    sub-enter-record
+    part-enter-record-start
+    part-enter-record-end
+    enter-record-requires
     record-size-requires
     add-at
     add-r
     loop-less
     loop-again
     refused-requires-2
+    same-length-3
+    same-length-4
     returns-2
     refused-requires-3
+    same-length-5
+    same-length-6
     returns-3
+    same-length-7
+    same-length-8
     returns-4)

@@ -1,44 +1,44 @@
-use Prim.Native.Nat.{_-_}
-use mathlib.Core.Path.{sym}
-use native.Mathlib.Nat.{le-refl}
-use native.Mathlib.Omega.{arith}
-use borrow.Rule.Slice.PartMut.{mid-len}
-use lib.ListN.{length, take}
+use Rattle.schema.proofs.Prefix.{Prefix, prefix-first, same-size, room, listed-most, list-reaches, prefix-next, prefix-end}
 use lib.Seq.{length-take-le}
-use Rattle.schema.proofs.Prefix.{Prefix, prefix-first, items-fit, same-size, room, listed-most, list-reaches, prefix-next, prefix-end}
+use lib.ListN.{length, take}
+use borrow.Rule.Slice.PartMut.{mid-len}
+use native.Mathlib.Omega.{arith}
+use native.Mathlib.Nat.{le-refl}
+use mathlib.Core.Path.{_≡_, refl, sym, _∙_}
+use Prim.Native.Nat.{_-_}
 use borrow.Author.Needs.{needs}
 use Rattle.schema.proofs.writing.write_schema.Statement.{statement}
 use Rattle.schema.proofs.writing.write_schema.Tie as tie
+use Rattle.schema.proofs.writing.write_schema.Reads as reads
+use Rattle.schema.proofs.writing.write_schema.Lts as lts
+use Rattle.membership.proofs.held_by.Reads as held-by-reads
+use Rattle.type_record.proofs.write_record.Reads as write-record-reads
 
 abbrev Inv-loop : tie.InvT-loop
-Inv-loop out₀ m special items count at₀ r₀ out at r = Prefix m special (take count items) out₀ out at r
+Inv-loop out₀ m special items count list₀ at₀ r₀ out list at r = Prefix m special (take count items) out₀ out at r × (length list ≡ length list₀)
 
 abbrev μ-loop : tie.MeasureT-loop
-μ-loop out₀ m special items count at₀ r₀ out at r = m - r
+μ-loop out₀ m special items count list₀ at₀ r₀ out list at r = m - r
 
 loop-holds : tie.Need-loop-holds Inv-loop μ-loop
-loop-holds c = prefix-first _ _ _ _
+loop-holds c = (prefix-first _ _ _ _, refl)
 
 held-by-requires : tie.Need-held-by-requires Inv-loop μ-loop
 held-by-requires c κs =
-    let pre = c .before .before .before .before .before .pre in
-    let more = c .loop-test .taken in
-    let eight = pre .0 in
-    let few = pre .1 .0 .few in
-    (omega arith, (omega arith, items-fit (pre .1 .0)))
+    let more = c .before .loop-test .taken in
+    let eight = c .before .before .before .before .before .before .before .pre .0 in
+    let room = c .before .before .before .before .before .before .before .pre .1 .1 .1 in
+    let same = c .before .before .loop .inv .1 in
+    (omega arith, (c .before .before .before .before .before .before .before .pre .1 .0 .fit, omega arith))
 
 sub-write-record : tie.Need-sub-write-record Inv-loop μ-loop
 sub-write-record c =
-    let pre = c .before .before .before .before .before .before .before .pre in
-    let inv = c .before .before .before .loop .inv in
-    let space = room (pre .0) (pre .1 .0) (pre .1 .1) inv (c .before .before .loop-test .taken) in
+    let space = room (c .before .before .before .before .before .before .before .before .before .before .pre .0) (c .before .before .before .before .before .before .before .before .before .before .pre .1 .0) (c .before .before .before .before .before .before .before .before .before .before .pre .1 .1 .0) (c .before .before .before .before .before .loop .inv .0) (c .before .before .before .before .loop-test .taken) in
     omega arith
 
 part-write-record-start : tie.Need-part-write-record-start Inv-loop μ-loop
 part-write-record-start c =
-    let pre = c .before .before .before .before .before .before .before .pre in
-    let inv = c .before .before .before .loop .inv in
-    let space = room (pre .0) (pre .1 .0) (pre .1 .1) inv (c .before .before .loop-test .taken) in
+    let space = room (c .before .before .before .before .before .before .before .before .before .before .pre .0) (c .before .before .before .before .before .before .before .before .before .before .pre .1 .0) (c .before .before .before .before .before .before .before .before .before .before .pre .1 .1 .0) (c .before .before .before .before .before .loop .inv .0) (c .before .before .before .before .loop-test .taken) in
     omega arith
 
 part-write-record-end : tie.Need-part-write-record-end Inv-loop μ-loop
@@ -52,40 +52,28 @@ mul-write-record c = search needs
 
 shared-slice-read-write-record : tie.Need-shared-slice-read-write-record Inv-loop μ-loop
 shared-slice-read-write-record c =
-    let pre = c .before .before .before .before .before .before .before .before .before .pre in
-    let more = c .before .before .before .before .loop-test .taken in
-    let eight = pre .0 in
-    let maps = pre .1 .0 .maps in
+    let more = c .before .before .before .before .before .before .loop-test .taken in
+    let eight = c .before .before .before .before .before .before .before .before .before .before .before .before .pre .0 in
+    let maps = c .before .before .before .before .before .before .before .before .before .before .before .before .pre .1 .0 .maps in
     omega arith
 
-array-share-prefix-list : tie.Need-array-share-prefix-list Inv-loop μ-loop
-array-share-prefix-list c =
-    let pre = c .before .before .before .before .before .before .before .before .before .pre in
-    let inv = c .before .before .before .before .before .loop .inv in
-    list-reaches (pre .0) (pre .1 .0) (pre .1 .1) inv (c .before .before .before .held-by .ensures)
+slice-reshare-prefix-write-record : tie.Need-slice-reshare-prefix-write-record Inv-loop μ-loop
+slice-reshare-prefix-write-record c = list-reaches (c .before .before .before .before .before .before .before .before .before .before .before .before .pre .0) (c .before .before .before .before .before .before .before .before .before .before .before .before .pre .1 .0) (c .before .before .before .before .before .before .before .before .before .before .before .before .pre .1 .1 .0) (c .before .before .before .before .before .before .before .loop .inv .0) _ (c .before .before .before .before .held-by .ensures .0) (c .before .before .before .before .held-by .ensures .1)
 
 slice-aggregate-write-record : tie.Need-slice-aggregate-write-record Inv-loop μ-loop
-slice-aggregate-write-record c =
-    let pre = c .before .before .before .before .before .before .before .before .before .before .pre in
-    let inv = c .before .before .before .before .before .before .loop .inv in
-    sym (length-take-le _ _ (list-reaches (pre .0) (pre .1 .0) (pre .1 .1) inv (c .before .before .before .before .held-by .ensures)))
+slice-aggregate-write-record c = sym (length-take-le _ _ (list-reaches (c .before .before .before .before .before .before .before .before .before .before .before .before .before .pre .0) (c .before .before .before .before .before .before .before .before .before .before .before .before .before .pre .1 .0) (c .before .before .before .before .before .before .before .before .before .before .before .before .before .pre .1 .1 .0) (c .before .before .before .before .before .before .before .before .loop .inv .0) _ (c .before .before .before .before .before .held-by .ensures .0) (c .before .before .before .before .before .held-by .ensures .1)))
 
 write-record-requires : tie.Need-write-record-requires Inv-loop μ-loop
 write-record-requires c κs =
-    let pre = c .before .before .before .before .before .before .before .before .before .before .pre in
-    let loop = c .before .before .before .before .before .before .loop in
-    let inv = loop .inv in
-    let space = room (pre .0) (pre .1 .0) (pre .1 .1) inv (c .before .before .before .before .before .loop-test .taken) in
-    let part = mid-len (loop .at) (length (loop .out)) (loop .out) (le-refl (length (loop .out))) in
-    (pre .1 .0 .even (loop .r), (listed-most (pre .0) (pre .1 .0) (pre .1 .1) inv (c .before .before .before .before .held-by .ensures), omega arith))
+    let space = room (c .before .before .before .before .before .before .before .before .before .before .before .before .before .pre .0) (c .before .before .before .before .before .before .before .before .before .before .before .before .before .pre .1 .0) (c .before .before .before .before .before .before .before .before .before .before .before .before .before .pre .1 .1 .0) (c .before .before .before .before .before .before .before .before .loop .inv .0) (c .before .before .before .before .before .before .before .loop-test .taken) in
+    let part = mid-len (c .before .before .before .before .before .before .before .before .loop .at) (length (c .before .before .before .before .before .before .before .before .loop .out)) (c .before .before .before .before .before .before .before .before .loop .out) (le-refl (length (c .before .before .before .before .before .before .before .before .loop .out))) in
+    (c .before .before .before .before .before .before .before .before .before .before .before .before .before .pre .1 .0 .even (c .before .before .before .before .before .before .before .before .loop .r), (listed-most (c .before .before .before .before .before .before .before .before .before .before .before .before .before .pre .0) (c .before .before .before .before .before .before .before .before .before .before .before .before .before .pre .1 .0) (c .before .before .before .before .before .before .before .before .before .before .before .before .before .pre .1 .1 .0) (c .before .before .before .before .before .before .before .before .loop .inv .0) _ (c .before .before .before .before .before .held-by .ensures .0) (c .before .before .before .before .before .held-by .ensures .1), omega arith))
 
 add-at : tie.Need-add-at Inv-loop μ-loop
 add-at c =
-    let pre = c .before .before .before .before .before .before .before .before .before .before .before .before .before .pre in
-    let inv = c .before .before .before .before .before .before .before .before .before .loop .inv in
-    let more = c .before .before .before .before .before .before .before .before .loop-test .taken in
-    let eight = pre .0 in
-    let most = prefix-next eight (pre .1 .0) (pre .1 .1) inv (c .before .before .before .before .before .before .before .held-by .ensures) more (c .before .before .write-record .ensures .0) (c .before .before .write-record .ensures .1) .most in
+    let more = c .before .before .before .before .before .before .before .before .before .before .loop-test .taken in
+    let eight = c .before .before .before .before .before .before .before .before .before .before .before .before .before .before .before .before .pre .0 in
+    let most = prefix-next (c .before .before .before .before .before .before .before .before .before .before .before .before .before .before .before .before .pre .0) (c .before .before .before .before .before .before .before .before .before .before .before .before .before .before .before .before .pre .1 .0) (c .before .before .before .before .before .before .before .before .before .before .before .before .before .before .before .before .pre .1 .1 .0) (c .before .before .before .before .before .before .before .before .before .before .before .loop .inv .0) _ (c .before .before .before .before .before .before .before .before .held-by .ensures .0) (c .before .before .before .before .before .before .before .before .held-by .ensures .1) more (c .before .before .write-record .ensures .0) (c .before .before .write-record .ensures .1) .most in
     omega arith
 
 add-r : tie.Need-add-r Inv-loop μ-loop
@@ -95,22 +83,16 @@ loop-less : tie.Need-loop-less Inv-loop μ-loop
 loop-less c = search needs
 
 loop-again : tie.Need-loop-again Inv-loop μ-loop
-loop-again c =
-    let pre = c .before .before .before .before .before .before .before .before .before .before .before .before .before .pre in
-    let inv = c .before .before .before .before .before .before .before .before .before .loop .inv in
-    prefix-next (pre .0) (pre .1 .0) (pre .1 .1) inv (c .before .before .before .before .before .before .before .held-by .ensures) (c .before .before .before .before .before .before .before .before .loop-test .taken) (c .before .before .write-record .ensures .0) (c .before .before .write-record .ensures .1)
+loop-again c = (prefix-next (c .before .before .before .before .before .before .before .before .before .before .before .before .before .before .before .before .pre .0) (c .before .before .before .before .before .before .before .before .before .before .before .before .before .before .before .before .pre .1 .0) (c .before .before .before .before .before .before .before .before .before .before .before .before .before .before .before .before .pre .1 .1 .0) (c .before .before .before .before .before .before .before .before .before .before .before .loop .inv .0) _ (c .before .before .before .before .before .before .before .before .held-by .ensures .0) (c .before .before .before .before .before .before .before .before .held-by .ensures .1) (c .before .before .before .before .before .before .before .before .before .before .loop-test .taken) (c .before .before .write-record .ensures .0) (c .before .before .write-record .ensures .1), c .before .before .before .before .before .before .before .before .held-by .kept .1 .1 .1 .0 ∙ c .before .before .before .before .before .before .before .before .before .before .before .loop .inv .1)
 
 same-length : tie.Need-same-length Inv-loop μ-loop
-same-length c =
-    let pre = c .before .before .before .before .before .pre in
-    let inv = c .before .loop .inv in
-    same-size (pre .0) (pre .1 .0) (pre .1 .1) inv
+same-length c = same-size (c .before .before .before .before .before .before .pre .0) (c .before .before .before .before .before .before .pre .1 .0) (c .before .before .before .before .before .before .pre .1 .1 .0) (c .before .loop .inv .0)
+
+same-length-2 : tie.Need-same-length-2 Inv-loop μ-loop
+same-length-2 c = c .before .loop .inv .1
 
 returns : tie.Need-returns Inv-loop μ-loop
-returns c =
-    let pre = c .before .before .before .before .before .pre in
-    let inv = c .before .loop .inv in
-    prefix-end (pre .0) (pre .1 .0) (pre .1 .1) inv (c .loop-test .left)
+returns c = prefix-end (c .before .before .before .before .before .before .pre .0) (c .before .before .before .before .before .before .pre .1 .0) (c .before .before .before .before .before .before .pre .1 .1 .0) (c .before .loop .inv .0) (c .loop-test .left)
 
 pub write-schema-spec : {M : Type 1} → statement M
 write-schema-spec =
@@ -126,7 +108,7 @@ write-schema-spec =
     cast-write-record
     mul-write-record
     shared-slice-read-write-record
-    array-share-prefix-list
+    slice-reshare-prefix-write-record
     slice-aggregate-write-record
     write-record-requires
     add-at
@@ -134,4 +116,5 @@ write-schema-spec =
     loop-less
     loop-again
     same-length
+    same-length-2
     returns)

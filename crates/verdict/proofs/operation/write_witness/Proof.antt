@@ -1,13 +1,15 @@
 use Rattle.verdict.specs.VerdictLaws.{witness-from}
+use native.Mathlib.Omega.{arith}
 use borrow.Author.Needs.{needs}
 use Rattle.verdict.proofs.operation.write_witness.Statement.{statement}
 use Rattle.verdict.proofs.operation.write_witness.Tie as tie
+use Rattle.verdict.proofs.operation.write_witness.Reads as reads
+use Rattle.verdict.proofs.operation.write_witness.Lts as lts
+use Rattle.schema.proofs.write_schema.Reads as write-schema-reads
+use Rattle.special_maps.proofs.maps_from.Reads as maps-from-reads
 
 maps-from-requires : tie.Need-maps-from-requires
 maps-from-requires c κs = search needs
-
-no-entries-requires : tie.Need-no-entries-requires
-no-entries-requires c κs = search needs
 
 slice-aggregate-write-schema : tie.Need-slice-aggregate-write-schema
 slice-aggregate-write-schema c = search needs
@@ -15,25 +17,26 @@ slice-aggregate-write-schema c = search needs
 slice-aggregate-write-schema-2 : tie.Need-slice-aggregate-write-schema-2
 slice-aggregate-write-schema-2 c = search needs
 
+slice-aggregate-write-schema-3 : tie.Need-slice-aggregate-write-schema-3
+slice-aggregate-write-schema-3 c = search needs
+
 write-schema-requires : tie.Need-write-schema-requires
-write-schema-requires c κs =
-    let pre = c .before .before .before .before .before .before .before .before .pre in
-    (pre .0 .0, (witness-from (c .before .before .before .before .before .before .before .before .args .subsets .now) _ _ (c .before .before .before .before .before .maps-from .ensures) (pre .1 .1) (c .before .before .before .before .no-entries .ensures), pre .0 .1))
+write-schema-requires c κs = (c .before .before .before .before .before .before .before .pre .0 .0, (witness-from (c .before .before .before .before .before .before .before .args .subsets .now) _ _ (c .before .before .before .before .maps-from .ensures) (c .before .before .before .before .before .before .before .pre .1 .1), (c .before .before .before .before .before .before .before .pre .0 .1, omega arith)))
 
 same-length : tie.Need-same-length
 same-length c = search needs
 
 returns : tie.Need-returns
-returns c = rw (← c .before .before .before .before .before .before .before .before .maps-from .ensures) (c .before .before .write-schema .ensures)
+returns c = rw (← c .before .before .before .before .before .before .before .before .maps-from .ensures) (c .before .before .before .write-schema .ensures)
 
 pub write-witness-spec : {M : Type 1} → statement M
 write-witness-spec =
     tie.close
     (tie.spec
     maps-from-requires
-    no-entries-requires
     slice-aggregate-write-schema
     slice-aggregate-write-schema-2
+    slice-aggregate-write-schema-3
     write-schema-requires
     same-length
     returns)
