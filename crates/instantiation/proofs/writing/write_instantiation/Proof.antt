@@ -1,13 +1,18 @@
-use Prim.Native.Nat.{ℕ, _+_}
-use mathlib.Core.Path.{ap, _∙_}
+use Rattle.instantiation.proofs.Whole.{by-subset, same-lists, lists-short, whole-length, whole-written}
 use native.Mathlib.Omega.{arith}
-use Rattle.instantiation.proofs.Whole.{lists-short, whole-length, whole-written}
+use mathlib.Core.Path.{sym}
 use borrow.Author.Needs.{needs}
 use Rattle.instantiation.proofs.writing.write_instantiation.Statement.{statement}
 use Rattle.instantiation.proofs.writing.write_instantiation.Tie as tie
+use Rattle.instantiation.proofs.writing.write_instantiation.Reads as reads
+use Rattle.instantiation.proofs.writing.write_instantiation.Lts as lts
+use Rattle.entry_sorting.proofs.sort_by_subset.Reads as sort-by-subset-reads
+use Rattle.instantiation.proofs.lists.write_lists.Reads as write-lists-reads
+use Rattle.instantiation.proofs.maps.write_map.Reads as write-map-reads
+use Rattle.instantiation.proofs.writing.write_special.Reads as write-special-reads
 
-chain-requires : tie.Need-chain-requires
-chain-requires c κs = search needs
+sort-by-subset-requires : tie.Need-sort-by-subset-requires
+sort-by-subset-requires c κs = search needs
 
 write-special-requires : tie.Need-write-special-requires
 write-special-requires c κs = search needs
@@ -21,9 +26,6 @@ part-write-map-start c = search needs
 part-write-map-end : tie.Need-part-write-map-end
 part-write-map-end c = search needs
 
-slice-aggregate-write-map : tie.Need-slice-aggregate-write-map
-slice-aggregate-write-map c = search needs
-
 write-map-requires : tie.Need-write-map-requires
 write-map-requires c κs = search needs
 
@@ -36,51 +38,44 @@ part-write-lists-start c = search needs
 part-write-lists-end : tie.Need-part-write-lists-end
 part-write-lists-end c = search needs
 
-slice-aggregate-write-lists : tie.Need-slice-aggregate-write-lists
-slice-aggregate-write-lists c = search needs
-
-slice-aggregate-write-lists-2 : tie.Need-slice-aggregate-write-lists-2
-slice-aggregate-write-lists-2 c = search needs
-
 write-lists-requires : tie.Need-write-lists-requires
-write-lists-requires c κs = search needs
+write-lists-requires c κs =
+    let same = c .before .before .before .before .before .before .before .before .before .before .before .before .sort-by-subset .kept .1 .1 .0 in
+    let room = c .before .before .before .before .before .before .before .before .before .before .before .before .before .before .before .before .before .before .pre .1 .1 in
+    (by-subset _ _ (c .before .before .before .before .before .before .before .before .before .before .before .before .before .before .before .before .before .before .pre .0) _ (c .before .before .before .before .before .before .before .before .before .before .before .before .sort-by-subset .ensures) (omega arith), search needs)
 
 add-result : tie.Need-add-result
 add-result c =
-    let pre = c .before .before .before .before .before .before .before .before .before .before .before .before .before .before .before .before .before .before .before .before .before .pre in
-    let short = lists-short (pre .0) in
+    let short = lists-short _ _ (c .before .before .before .before .before .before .before .before .before .before .before .before .before .before .before .before .before .before .before .before .before .pre .0) (same-lists _ _ (c .before .before .before .before .before .before .before .before .before .before .before .before .before .before .before .before .before .before .before .before .before .pre .0) _ (c .before .before .before .before .before .before .before .before .before .before .before .before .before .before .before .sort-by-subset .ensures)) in
     let size = c .before .before .write-lists .ensures .0 in
     omega arith
 
 same-length : tie.Need-same-length
 same-length c = search needs
 
+same-length-2 : tie.Need-same-length-2
+same-length-2 c = search needs
+
 returns : tie.Need-returns
 returns c =
-    let args = c .before .before .before .before .before .before .before .before .before .before .before .before .before .before .before .before .before .before .before .before .before .args in
-    let chain = c .before .before .before .before .before .before .before .before .before .before .before .before .before .before .before .before .before .chain in
-    let write-special = c .before .before .before .before .before .before .before .before .before .before .before .before .before .write-special in
-    let write-map = c .before .before .before .before .before .before .before .before .write-map in
-    let write-lists = c .before .before .write-lists in
-    (ap (λ (n : ℕ). 47 + n) (write-lists .ensures .0) ∙ whole-length (args .subsets .now) _, whole-written (args .out .now) (args .subsets .now) (chain .ensures) (write-special .ensures) (write-map .ensures) (write-lists .ensures .1))
+    let same = same-lists _ _ (c .before .before .before .before .before .before .before .before .before .before .before .before .before .before .before .before .before .before .before .before .before .pre .0) _ (c .before .before .before .before .before .before .before .before .before .before .before .before .before .before .before .sort-by-subset .ensures) in
+    (whole-length (c .before .before .before .before .before .before .before .before .before .before .before .before .before .before .before .before .before .before .before .before .before .args .subsets .now) _ same (c .before .before .write-lists .ensures .0), whole-written (c .before .before .before .before .before .before .before .before .before .before .before .before .before .before .before .before .before .before .before .before .before .args .out .now) (c .before .before .before .before .before .before .before .before .before .before .before .before .before .before .before .before .before .before .before .before .before .args .subsets .now) _ (c .before .before .before .before .before .before .before .before .before .before .before .write-special .ensures) (c .before .before .before .before .before .before .before .write-map .ensures) same (c .before .before .write-lists .ensures .1))
 
 pub write-instantiation-spec : {M : Type 1} → statement M
 write-instantiation-spec =
     tie.close
     (tie.spec
-    chain-requires
+    sort-by-subset-requires
     write-special-requires
     sub-write-map
     part-write-map-start
     part-write-map-end
-    slice-aggregate-write-map
     write-map-requires
     sub-write-lists
     part-write-lists-start
     part-write-lists-end
-    slice-aggregate-write-lists
-    slice-aggregate-write-lists-2
     write-lists-requires
     add-result
     same-length
+    same-length-2
     returns)
