@@ -7,18 +7,17 @@ use native.Mathlib.Decide.{decLt}
 use native.Mathlib.Omega.{arith}
 use borrow.Author.Tests.{lt-ltb, le-ltb}
 use lib.ListN.{length, take, drop}
-use lib.Seq.{take-all}
 use Rattle.bits.specs.Word.{Bytes}
 use Rattle.refusal.specs.declared.Refusal.{Refusal}
 use Rattle.refusal.specs.declared.Refusal.the-variants.{InputTruncated, TooManyAttributes, RepeatedAttribute}
 use Rattle.membership.specs.Entries.{TableIn, RoomFor}
 use Rattle.membership.specs.Holders.{ItemsFit}
-use Rattle.membership.specs.TableLaws.{table-few, table-count, table-full, table-all, table-reaches}
+use Rattle.membership.specs.TableLaws.{table-count, table-full, table-all, table-reaches}
 use Rattle.entry_sorting.specs.Order.{ascending}
 use Rattle.entry_sorting.specs.Passes.{front-fit}
 use Rattle.entry_sorting.specs.Sorting.{byAttribute}
 use Rattle.schema.specs.Schema.{EntriesStand}
-use Rattle.schema.specs.declared.reading.Judgement.the-variants.{Read, Refused}
+use Rattle.schema.specs.declared.reading.Judgement.the-variants.{Read}
 use Rattle.instantiation.specs.declared.reading.InstantiationReading.{InstantiationReading}
 use Rattle.instantiation.specs.declared.reading.ListsReading.{ListsReading}
 use Rattle.instantiation.specs.declared.reading.ListsReading.the-variants.{Listed as ListsListed, Refused as ListsRefused}

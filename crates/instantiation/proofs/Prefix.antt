@@ -31,9 +31,6 @@ module _ (sorted : List ℕ) (count : ℕ) (by : BySubset sorted count) {old out
   all : length (take count sorted) ≡ count
   all = length-take-le count sorted (by .fit .enough)
 
-  pub prefix-upTo : i ≤ count
-  prefix-upTo = let size = all in let upTo = h .upTo in omega arith
-
   -- where the lists end
   few : length (h .front) + length (listsBytes (listsOf (drop i (take count sorted)))) ≤ 765
   few =

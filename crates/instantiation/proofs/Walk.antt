@@ -1,14 +1,14 @@
 -- The reading of an instantiation's lists, resumed at subset s and byte `at`: after one more list, where bits are clear, at a refusal and at the end.
-use Prim.Native.Nat.{ℕ, zero, suc, _+_, _-_, _*_, _/_, _%_, _^_, _≤_, _<_}
-use mathlib.Core.Path.{_≡_, refl, sym, ap, subst, _∙_}
+use Prim.Native.Nat.{ℕ, suc, _+_, _-_, _*_, _/_, _%_, _^_, _≤_, _<_}
+use mathlib.Core.Path.{_≡_, refl, sym, ap, _∙_}
 use mathlib.Core.Bool.{true, false}
 use mathlib.Core.List.{List, [], _∷_, _++_}
-use native.Mathlib.Nat.{add-zero, lt-div-mul-add}
+use native.Mathlib.Nat.{lt-div-mul-add}
 use native.Mathlib.Omega.{arith}
 use lib.ListN.{length, getD, take, drop, length-append, length-drop, drop-of-length-le}
 use lib.Pow.{pow-pos, pow-mono}
 use lib.Seq.{drop-drop, drop-cons, getD-drop}
-use Rattle.bits.specs.Bit.{bit, bit-above}
+use Rattle.bits.specs.Bit.{bit-above}
 use Rattle.bits.specs.Part.{part-from}
 use Rattle.bits.specs.Tab.{tab}
 use Rattle.bits.specs.Word.{word, Bytes}
@@ -19,7 +19,7 @@ use Rattle.type_record.specs.declared.lists.ListReading.the-variants.{Listed, R
 use Rattle.type_record.specs.Lists.{readList, listed}
 use Rattle.type_record.specs.ListLaws.{HoldsList, list-holds, listed-tab}
 use Rattle.membership.specs.Entries.{ListFits}
-use Rattle.instantiation.specs.Instantiation.{Lists, listsRefused, listsRead, standing, follow, precede, atEnd, readLists}
+use Rattle.instantiation.specs.Instantiation.{listsRefused, listsRead, standing, follow, precede, atEnd, readLists}
 use Rattle.instantiation.specs.ReadStep.{read-clear, read-stands}
 use Rattle.instantiation.proofs.More.{precedeAll, precede-more, precede-refused, precede-none}
 

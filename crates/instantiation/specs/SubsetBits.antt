@@ -1,20 +1,20 @@
 -- The map by the subsets of the entries, one entry after the other.
-use Prim.Native.Nat.{ℕ, zero, suc, _+_, _*_, _/_, _%_, _^_, _≤_, _<_}
+use Prim.Native.Nat.{ℕ, zero, suc, _+_, _*_, _/_, _%_, _^_, _<_}
 use mathlib.Core.Path.{_≡_, refl, sym, ap, ap₂, _∙_}
-use mathlib.Core.Bool.{Bool, true, false, cond, not, _||_, or-assoc, or-false}
+use mathlib.Core.Bool.{Bool, false, not, _||_, or-assoc, or-false}
 use mathlib.Core.List.{List, [], _∷_, map}
 use native.Mathlib.Decide.{ℕ-discrete}
 use native.Mathlib.Omega.{arith}
-use borrow.Author.Tests.{eq-eqb, ne-eqb, eqb-true}
+use borrow.Author.Tests.{eq-eqb, ne-eqb}
 use lib.Bits.{bitOr, or-lt}
 use lib.Dec.{eqb, eqb·suc-zero}
 use lib.ListN.{length, getD, take}
 use lib.Pow.{pow-lt}
-use Rattle.bits.specs.Bit.{bit, bit-or, bit-power, bit-none, shifted-one}
+use Rattle.bits.specs.Bit.{bit-or, bit-power, bit-none, shifted-one}
 use Rattle.bits.specs.Pack.{pack, bit-pack, pack-below, pack-same, byte-is}
 use Rattle.bits.specs.Rising.{member}
 use Rattle.bits.specs.Tab.{tab, tab-is, length-tab, getD-tab}
-use Rattle.membership.specs.Entries.{attributeOf, subsetOf}
+use Rattle.membership.specs.Entries.{subsetOf}
 use Rattle.instantiation.specs.Instantiation.{withSubset, listsOf, mapByte}
 use Rattle.instantiation.specs.EntriesLaws.{list-at}
 

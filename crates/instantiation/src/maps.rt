@@ -1,7 +1,7 @@
 // Writing the map that says which lists of an instantiation are not empty.
 ghost use mathlib.Core.Path.{_≡_};
 ghost use Prim.Native.Nat.{ℕ, _≤_, _<_};
-ghost use lib.ListN.{length, take, getD, replicate};
+ghost use lib.ListN.{length, take, getD};
 ghost use Rattle.bits.specs.Tab.{tab, over};
 ghost use Rattle.instantiation.specs.Instantiation.{listsOf, mapByte};
 

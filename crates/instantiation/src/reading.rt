@@ -90,7 +90,11 @@ fn read_lists(bytes: &[u8], items: &mut [u32]) -> ListsReading
 
 // The instantiation in these bytes: refusals 14 to 17, 19, 18. Its entries stand at the front of `items`; what stands
 // after them, and in the second slice, is free.
-pub fn read_instantiation(bytes: &[u8], items: &mut [u32], spare: &mut [u32]) -> InstantiationReading
+pub fn read_instantiation(
+    bytes: &[u8],
+    items: &mut [u32],
+    spare: &mut [u32],
+) -> InstantiationReading
     requires { ⌜ RoomFor (length (now bytes)) (now items) × RoomFor (length (now bytes)) (now spare) ⌝ }
     ensures { λ x. ⌜ x ≡ readingOf (instantiationReading (now (bytes .entry))) ⌝ }
     ensures { λ x. ⌜ EntriesStand (x .judgement) (instantiationReading (now (bytes .entry)) .entries) (now (items .exit)) ⌝ }

@@ -10,9 +10,6 @@ use Prim.Native.Nat.{_+_, _-_, _*_}
 use borrow.Author.Needs.{needs}
 use Rattle.instantiation.proofs.appending.append.Statement.{statement}
 use Rattle.instantiation.proofs.appending.append.Tie as tie
-use Rattle.instantiation.proofs.appending.append.Reads as reads
-use Rattle.instantiation.proofs.appending.append.Lts as lts
-use Rattle.bits.proofs.word_at.Reads as word-at-reads
 
 abbrev Inv-loop : tie.InvT-loop
 Inv-loop items₀ k list count subset at₀ i₀ items at i = Adding (map (λ a. entry a subset) (tab count (λ x. word list (x * 2 + 1)))) k items₀ items at i
@@ -45,7 +42,12 @@ mul-items-2 : tie.Need-mul-items-2 Inv-loop μ-loop
 mul-items-2 c = search needs
 
 slice-write-items : tie.Need-slice-write-items Inv-loop μ-loop
-slice-write-items c = adding-room (c .before .before .before .before .before .before .pre) _ (c .before .before .before .loop .inv) (c .before .before .loop-test .taken) (ltb-true _ _ (c .before .if1 .taken))
+slice-write-items c =
+    let pre = c .before .before .before .before .before .before .pre in
+    let loop = c .before .before .before .loop in
+    let loop-test = c .before .before .loop-test in
+    let if1 = c .before .if1 in
+    adding-room (pre) _ (loop .inv) (loop-test .taken) (ltb-true _ _ (if1 .taken))
 
 add-at : tie.Need-add-at Inv-loop μ-loop
 add-at c = let few = ltb-true (c .before .before .before .loop .at) 256 (c .before .if1 .taken) in omega arith
@@ -57,7 +59,12 @@ loop-less : tie.Need-loop-less Inv-loop μ-loop
 loop-less c = search needs
 
 loop-again : tie.Need-loop-again Inv-loop μ-loop
-loop-again c = adding-more (c .before .before .before .before .before .before .pre) _ (c .before .before .before .loop .inv) (c .before .before .loop-test .taken) (ltb-true _ _ (c .before .if1 .taken)) (c .word-at .ensures)
+loop-again c =
+    let pre = c .before .before .before .before .before .before .pre in
+    let loop = c .before .before .before .loop in
+    let loop-test = c .before .before .loop-test in
+    let if1 = c .before .if1 in
+    adding-more (pre) _ (loop .inv) (loop-test .taken) (ltb-true _ _ (if1 .taken)) (c .word-at .ensures)
 
 same-length : tie.Need-same-length Inv-loop μ-loop
 same-length c = c .before .before .loop .inv .written .written .size

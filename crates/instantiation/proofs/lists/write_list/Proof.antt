@@ -7,8 +7,6 @@ use Prim.Native.Nat.{_-_}
 use borrow.Author.Needs.{needs}
 use Rattle.instantiation.proofs.lists.write_list.Statement.{statement}
 use Rattle.instantiation.proofs.lists.write_list.Tie as tie
-use Rattle.instantiation.proofs.lists.write_list.Reads as reads
-use Rattle.instantiation.proofs.lists.write_list.Lts as lts
 
 abbrev Inv-loop : tie.InvT-loop
 Inv-loop out₀ sorted i count s j₀ out j = Following (take count sorted) i out₀ out j
@@ -41,32 +39,63 @@ cast-out : tie.Need-cast-out Inv-loop μ-loop
 cast-out c = search needs
 
 sub-out : tie.Need-sub-out Inv-loop μ-loop
-sub-out c = let b = follow-bounds _ _ (c .before .before .before .before .before .before .pre .0 .0) _ (c .before .before .before .before .before .before .pre .0 .1) (c .before .before .before .before .before .before .pre .1) (c .before .before .before .before .loop .inv) in let from = b .0 in omega arith
+sub-out c =
+    let pre = c .before .before .before .before .before .before .pre in
+    let loop = c .before .before .before .before .loop in
+    let b = follow-bounds _ _ (pre .0 .0) _ (pre .0 .1) (pre .1) (loop .inv) in let from = b .0 in omega arith
 
 mul-out : tie.Need-mul-out Inv-loop μ-loop
-mul-out c = let b = follow-bounds _ _ (c .before .before .before .before .before .before .pre .0 .0) _ (c .before .before .before .before .before .before .pre .0 .1) (c .before .before .before .before .before .before .pre .1) (c .before .before .before .before .loop .inv) in let few = b .2 in omega arith
+mul-out c =
+    let pre = c .before .before .before .before .before .before .pre in
+    let loop = c .before .before .before .before .loop in
+    let b = follow-bounds _ _ (pre .0 .0) _ (pre .0 .1) (pre .1) (loop .inv) in let few = b .2 in omega arith
 
 add-out : tie.Need-add-out Inv-loop μ-loop
-add-out c = let b = follow-bounds _ _ (c .before .before .before .before .before .before .pre .0 .0) _ (c .before .before .before .before .before .before .pre .0 .1) (c .before .before .before .before .before .before .pre .1) (c .before .before .before .before .loop .inv) in let few = b .2 in omega arith
+add-out c =
+    let pre = c .before .before .before .before .before .before .pre in
+    let loop = c .before .before .before .before .loop in
+    let b = follow-bounds _ _ (pre .0 .0) _ (pre .0 .1) (pre .1) (loop .inv) in let few = b .2 in omega arith
 
 slice-write-out : tie.Need-slice-write-out Inv-loop μ-loop
-slice-write-out c = let room = follow-room _ _ (c .before .before .before .before .before .before .pre .0 .0) _ (c .before .before .before .before .before .before .pre .0 .1) (c .before .before .before .before .before .before .pre .1) (c .before .before .before .before .loop .inv) (c .before .before .before .loop-test .taken) (eqb-true _ _ (c .before .if1 .taken)) in omega arith
+slice-write-out c =
+    let pre = c .before .before .before .before .before .before .pre in
+    let loop = c .before .before .before .before .loop in
+    let loop-test = c .before .before .before .loop-test in
+    let if1 = c .before .if1 in
+    let room = follow-room _ _ (pre .0 .0) _ (pre .0 .1) (pre .1) (loop .inv) (loop-test .taken) (eqb-true _ _ (if1 .taken)) in omega arith
 
 cast-out-2 : tie.Need-cast-out-2 Inv-loop μ-loop
-cast-out-2 c = let below = c .before .before .before .before .before .before .pre .0 .0 .fit .below (c .before .before .before .before .loop .j) (c .before .before .before .loop-test .taken) in omega arith
+cast-out-2 c =
+    let pre = c .before .before .before .before .before .before .pre in
+    let loop = c .before .before .before .before .loop in
+    let loop-test = c .before .before .before .loop-test in
+    let below = pre .0 .0 .fit .below (loop .j) (loop-test .taken) in omega arith
 
 sub-out-2 : tie.Need-sub-out-2 Inv-loop μ-loop
-sub-out-2 c = let b = follow-bounds _ _ (c .before .before .before .before .before .before .pre .0 .0) _ (c .before .before .before .before .before .before .pre .0 .1) (c .before .before .before .before .before .before .pre .1) (c .before .before .before .before .loop .inv) in let from = b .0 in omega arith
+sub-out-2 c =
+    let pre = c .before .before .before .before .before .before .pre in
+    let loop = c .before .before .before .before .loop in
+    let b = follow-bounds _ _ (pre .0 .0) _ (pre .0 .1) (pre .1) (loop .inv) in let from = b .0 in omega arith
 
 mul-out-2 : tie.Need-mul-out-2 Inv-loop μ-loop
-mul-out-2 c = let b = follow-bounds _ _ (c .before .before .before .before .before .before .pre .0 .0) _ (c .before .before .before .before .before .before .pre .0 .1) (c .before .before .before .before .before .before .pre .1) (c .before .before .before .before .loop .inv) in let few = b .2 in omega arith
+mul-out-2 c =
+    let pre = c .before .before .before .before .before .before .pre in
+    let loop = c .before .before .before .before .loop in
+    let b = follow-bounds _ _ (pre .0 .0) _ (pre .0 .1) (pre .1) (loop .inv) in let few = b .2 in omega arith
 
 add-out-2 : tie.Need-add-out-2 Inv-loop μ-loop
-add-out-2 c = let b = follow-bounds _ _ (c .before .before .before .before .before .before .pre .0 .0) _ (c .before .before .before .before .before .before .pre .0 .1) (c .before .before .before .before .before .before .pre .1) (c .before .before .before .before .loop .inv) in let few = b .2 in omega arith
+add-out-2 c =
+    let pre = c .before .before .before .before .before .before .pre in
+    let loop = c .before .before .before .before .loop in
+    let b = follow-bounds _ _ (pre .0 .0) _ (pre .0 .1) (pre .1) (loop .inv) in let few = b .2 in omega arith
 
 slice-write-out-2 : tie.Need-slice-write-out-2 Inv-loop μ-loop
 slice-write-out-2 c =
-    let room = follow-room _ _ (c .before .before .before .before .before .before .pre .0 .0) _ (c .before .before .before .before .before .before .pre .0 .1) (c .before .before .before .before .before .before .pre .1) (c .before .before .before .before .loop .inv) (c .before .before .before .loop-test .taken) (eqb-true _ _ (c .before .if1 .taken)) in
+    let pre = c .before .before .before .before .before .before .pre in
+    let loop = c .before .before .before .before .loop in
+    let loop-test = c .before .before .before .loop-test in
+    let if1 = c .before .if1 in
+    let room = follow-room _ _ (pre .0 .0) _ (pre .0 .1) (pre .1) (loop .inv) (loop-test .taken) (eqb-true _ _ (if1 .taken)) in
     simp length-set (omega arith)
 
 add-j : tie.Need-add-j Inv-loop μ-loop
@@ -76,22 +105,39 @@ loop-less : tie.Need-loop-less Inv-loop μ-loop
 loop-less c = search needs
 
 loop-again : tie.Need-loop-again Inv-loop μ-loop
-loop-again c = follow-next _ _ (c .before .before .before .before .before .before .pre .0 .0) _ (c .before .before .before .before .before .before .pre .0 .1) (c .before .before .before .before .before .before .pre .1) (c .before .before .before .before .loop .inv) (c .before .before .before .loop-test .taken) (eqb-true _ _ (c .before .if1 .taken))
+loop-again c =
+    let pre = c .before .before .before .before .before .before .pre in
+    let loop = c .before .before .before .before .loop in
+    let loop-test = c .before .before .before .loop-test in
+    let if1 = c .before .if1 in
+    follow-next _ _ (pre .0 .0) _ (pre .0 .1) (pre .1) (loop .inv) (loop-test .taken) (eqb-true _ _ (if1 .taken))
 
 sub-out-3 : tie.Need-sub-out-3 Inv-loop μ-loop
-sub-out-3 c = let b = follow-bounds _ _ (c .before .before .before .pre .0 .0) _ (c .before .before .before .pre .0 .1) (c .before .before .before .pre .1) (c .before .loop .inv) in let from = b .0 in omega arith
+sub-out-3 c =
+    let pre = c .before .before .before .pre in
+    let loop = c .before .loop in
+    let b = follow-bounds _ _ (pre .0 .0) _ (pre .0 .1) (pre .1) (loop .inv) in let from = b .0 in omega arith
 
 cast-out-3 : tie.Need-cast-out-3 Inv-loop μ-loop
-cast-out-3 c = let b = follow-bounds _ _ (c .before .before .before .pre .0 .0) _ (c .before .before .before .pre .0 .1) (c .before .before .before .pre .1) (c .before .loop .inv) in let few = b .2 in omega arith
+cast-out-3 c =
+    let pre = c .before .before .before .pre in
+    let loop = c .before .loop in
+    let b = follow-bounds _ _ (pre .0 .0) _ (pre .0 .1) (pre .1) (loop .inv) in let few = b .2 in omega arith
 
 slice-write-out-3 : tie.Need-slice-write-out-3 Inv-loop μ-loop
-slice-write-out-3 c = follow-front _ _ (c .before .before .before .pre .0 .0) _ (c .before .before .before .pre .0 .1) (c .before .before .before .pre .1) (c .before .loop .inv)
+slice-write-out-3 c =
+    let pre = c .before .before .before .pre in
+    let loop = c .before .loop in
+    follow-front _ _ (pre .0 .0) _ (pre .0 .1) (pre .1) (loop .inv)
 
 same-length : tie.Need-same-length Inv-loop μ-loop
 same-length c = simp length-set (c .before .loop .inv .written .size)
 
 returns : tie.Need-returns Inv-loop μ-loop
-returns c = follow-whole _ _ (c .before .before .before .pre .0 .0) _ (c .before .before .before .pre .0 .1) (c .before .before .before .pre .1) (c .before .loop .inv) (⊎-elim (λ w. inr (w .0 .taken, eqb-false _ _ (w .2 .left))) (λ w. inl (w .left)) (c .loop-test .came))
+returns c =
+    let pre = c .before .before .before .pre in
+    let loop = c .before .loop in
+    follow-whole _ _ (pre .0 .0) _ (pre .0 .1) (pre .1) (loop .inv) (⊎-elim (λ w. inr (w .0 .taken, eqb-false _ _ (w .2 .left))) (λ w. inl (w .left)) (c .loop-test .came))
 
 pub write-list-spec : {M : Type 1} → statement M
 write-list-spec =

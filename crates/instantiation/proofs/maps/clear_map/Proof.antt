@@ -5,8 +5,6 @@ use Prim.Native.Nat.{_-_, _≤_}
 use borrow.Author.Needs.{needs}
 use Rattle.instantiation.proofs.maps.clear_map.Statement.{statement}
 use Rattle.instantiation.proofs.maps.clear_map.Tie as tie
-use Rattle.instantiation.proofs.maps.clear_map.Reads as reads
-use Rattle.instantiation.proofs.maps.clear_map.Lts as lts
 
 abbrev Inv-loop : tie.InvT-loop
 Inv-loop out₀ j₀ out j = (j ≤ 32) × Written (λ x. 0) j out₀ out

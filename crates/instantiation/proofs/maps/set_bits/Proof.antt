@@ -6,8 +6,6 @@ use Prim.Native.Nat.{_-_}
 use borrow.Author.Needs.{needs}
 use Rattle.instantiation.proofs.maps.set_bits.Statement.{statement}
 use Rattle.instantiation.proofs.maps.set_bits.Tie as tie
-use Rattle.instantiation.proofs.maps.set_bits.Reads as reads
-use Rattle.instantiation.proofs.maps.set_bits.Lts as lts
 
 abbrev Inv-loop : tie.InvT-loop
 Inv-loop out₀ items count i₀ out i = Mapping (take count items) out₀ out i
@@ -46,7 +44,11 @@ loop-less : tie.Need-loop-less Inv-loop μ-loop
 loop-less c = search needs
 
 loop-again : tie.Need-loop-again Inv-loop μ-loop
-loop-again c = mapping-next _ _ (c .before .before .before .before .pre .1) (c .before .before .before .before .pre .0 .0) (c .before .before .before .loop .inv) (c .before .before .loop-test .taken) refl
+loop-again c =
+    let pre = c .before .before .before .before .pre in
+    let loop = c .before .before .before .loop in
+    let loop-test = c .before .before .loop-test in
+    mapping-next _ _ (pre .1) (pre .0 .0) (loop .inv) (loop-test .taken) refl
 
 same-length : tie.Need-same-length Inv-loop μ-loop
 same-length c = c .before .loop .inv .written .size

@@ -1,12 +1,7 @@
 use Rattle.instantiation.proofs.Bits.{cleared, over-cleared}
-use native.Mathlib.Omega.{arith}
 use borrow.Author.Needs.{needs}
 use Rattle.instantiation.proofs.maps.write_map.Statement.{statement}
 use Rattle.instantiation.proofs.maps.write_map.Tie as tie
-use Rattle.instantiation.proofs.maps.write_map.Reads as reads
-use Rattle.instantiation.proofs.maps.write_map.Lts as lts
-use Rattle.instantiation.proofs.maps.clear_map.Reads as clear-map-reads
-use Rattle.instantiation.proofs.maps.set_bits.Reads as set-bits-reads
 
 clear-map-requires : tie.Need-clear-map-requires
 clear-map-requires c κs = search needs

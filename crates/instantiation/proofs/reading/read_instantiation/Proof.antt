@@ -3,14 +3,6 @@ use native.Mathlib.Omega.{arith}
 use borrow.Author.Needs.{needs}
 use Rattle.instantiation.proofs.reading.read_instantiation.Statement.{statement}
 use Rattle.instantiation.proofs.reading.read_instantiation.Tie as tie
-use Rattle.instantiation.proofs.reading.read_instantiation.Reads as reads
-use Rattle.instantiation.proofs.reading.read_instantiation.Lts as lts
-use Rattle.entry_sorting.proofs.rises.Reads as rises-reads
-use Rattle.entry_sorting.proofs.sort_by_attribute.Reads as sort-by-attribute-reads
-use Rattle.instantiation.proofs.reading.read_lists.Reads as read-lists-reads
-use Rattle.instantiation.proofs.reading.refused.Reads as refused-reads
-use Rattle.instantiation.proofs.reading.subsets_of.Reads as subsets-of-reads
-use Rattle.instantiation.proofs.seen.repeated_in.Reads as repeated-in-reads
 
 refused-requires : tie.Need-refused-requires
 refused-requires c κs = search needs
@@ -40,7 +32,15 @@ same-length : tie.Need-same-length
 same-length c = search needs
 
 returns-2 : tie.Need-returns-2
-returns-2 c = refused-reading _ _ _ (c .refused3 .ensures) (over-repeated _ _ (c .before .before .before .before .before .before .before .before .before .before .before .if1 .left) (λ x. omega (arith, c .before .before .before .before .before .before .before .before .before .before .before .before .before .before .shared-slice-known .given x)) (c .before .before .before .before .before .before .before .before .before .read-lists .ensures .0) (c .before .before .before .before .before .before .before .before .before .read-lists .ensures .1) (c .before .before .before .before .before .count .given .1) (c .before .before .before .if2 .taken) (c .before .before .repeated-in .ensures) (c .before .if3 .taken))
+returns-2 c =
+    let shared-slice-known = c .before .before .before .before .before .before .before .before .before .before .before .before .before .before .shared-slice-known in
+    let if1 = c .before .before .before .before .before .before .before .before .before .before .before .if1 in
+    let read-lists = c .before .before .before .before .before .before .before .before .before .read-lists in
+    let count = c .before .before .before .before .before .count in
+    let if2 = c .before .before .before .if2 in
+    let repeated-in = c .before .before .repeated-in in
+    let if3 = c .before .if3 in
+    refused-reading _ _ _ (c .refused3 .ensures) (over-repeated _ _ (if1 .left) (λ x. omega (arith, shared-slice-known .given x)) (read-lists .ensures .0) (read-lists .ensures .1) (count .given .1) (if2 .taken) (repeated-in .ensures) (if3 .taken))
 
 refused-requires-4 : tie.Need-refused-requires-4
 refused-requires-4 c κs = search needs
@@ -49,19 +49,40 @@ same-length-2 : tie.Need-same-length-2
 same-length-2 c = search needs
 
 returns-3 : tie.Need-returns-3
-returns-3 c = refused-reading _ _ _ (c .refused4 .ensures) (over-many _ _ (c .before .before .before .before .before .before .before .before .before .before .before .if1 .left) (λ x. omega (arith, c .before .before .before .before .before .before .before .before .before .before .before .before .before .before .shared-slice-known .given x)) (c .before .before .before .before .before .before .before .before .before .read-lists .ensures .0) (c .before .before .before .before .before .before .before .before .before .read-lists .ensures .1) (c .before .before .before .before .before .count .given .1) (c .before .before .before .if2 .taken) (c .before .before .repeated-in .ensures) (c .before .if3 .left))
+returns-3 c =
+    let shared-slice-known = c .before .before .before .before .before .before .before .before .before .before .before .before .before .before .shared-slice-known in
+    let if1 = c .before .before .before .before .before .before .before .before .before .before .before .if1 in
+    let read-lists = c .before .before .before .before .before .before .before .before .before .read-lists in
+    let count = c .before .before .before .before .before .count in
+    let if2 = c .before .before .before .if2 in
+    let repeated-in = c .before .before .repeated-in in
+    let if3 = c .before .if3 in
+    refused-reading _ _ _ (c .refused4 .ensures) (over-many _ _ (if1 .left) (λ x. omega (arith, shared-slice-known .given x)) (read-lists .ensures .0) (read-lists .ensures .1) (count .given .1) (if2 .taken) (repeated-in .ensures) (if3 .left))
 
 sort-by-attribute-requires : tie.Need-sort-by-attribute-requires
 sort-by-attribute-requires c κs =
-    let fit = lists-fit _ _ (c .before .before .before .before .before .before .before .before .before .before .if1 .left) (λ x. omega (arith, c .before .before .before .before .before .before .before .before .before .before .before .before .before .shared-slice-known .given x)) (c .before .before .before .before .before .before .before .before .read-lists .ensures .0) (c .before .before .before .before .before .before .before .before .read-lists .ensures .1) (c .before .before .before .before .count .given .1) (c .before .before .if2 .left) in
-    let room = lists-room _ _ (c .before .before .before .before .before .before .before .before .before .before .if1 .left) (λ x. omega (arith, c .before .before .before .before .before .before .before .before .before .before .before .before .before .shared-slice-known .given x)) (c .before .before .before .before .before .before .before .before .read-lists .ensures .0) (c .before .before .before .before .before .before .before .before .read-lists .ensures .1) (c .before .before .before .before .count .given .1) (c .before .before .if2 .left) (c .before .before .before .before .before .before .before .before .before .before .before .before .before .before .args .spare .now) (c .before .before .before .before .before .before .before .before .before .before .before .before .before .before .pre .1) in
-    ((c .before .before .if2 .left, fit), room)
+    let args = c .before .before .before .before .before .before .before .before .before .before .before .before .before .before .args in
+    let pre = c .before .before .before .before .before .before .before .before .before .before .before .before .before .before .pre in
+    let shared-slice-known = c .before .before .before .before .before .before .before .before .before .before .before .before .before .shared-slice-known in
+    let if1 = c .before .before .before .before .before .before .before .before .before .before .if1 in
+    let read-lists = c .before .before .before .before .before .before .before .before .read-lists in
+    let count = c .before .before .before .before .count in
+    let if2 = c .before .before .if2 in
+    let fit = lists-fit _ _ (if1 .left) (λ x. omega (arith, shared-slice-known .given x)) (read-lists .ensures .0) (read-lists .ensures .1) (count .given .1) (if2 .left) in
+    let room = lists-room _ _ (if1 .left) (λ x. omega (arith, shared-slice-known .given x)) (read-lists .ensures .0) (read-lists .ensures .1) (count .given .1) (if2 .left) (args .spare .now) (pre .1) in
+    ((if2 .left, fit), room)
 
 rises-requires : tie.Need-rises-requires
 rises-requires c κs =
-    let fit = lists-fit _ _ (c .before .before .before .before .before .before .before .before .before .before .before .before .before .before .before .before .if1 .left) (λ x. omega (arith, c .before .before .before .before .before .before .before .before .before .before .before .before .before .before .before .before .before .before .before .shared-slice-known .given x)) (c .before .before .before .before .before .before .before .before .before .before .before .before .before .before .read-lists .ensures .0) (c .before .before .before .before .before .before .before .before .before .before .before .before .before .before .read-lists .ensures .1) (c .before .before .before .before .before .before .before .before .before .before .count .given .1) (c .before .before .before .before .before .before .before .before .if2 .left) in
+    let shared-slice-known = c .before .before .before .before .before .before .before .before .before .before .before .before .before .before .before .before .before .before .before .shared-slice-known in
+    let if1 = c .before .before .before .before .before .before .before .before .before .before .before .before .before .before .before .before .if1 in
+    let read-lists = c .before .before .before .before .before .before .before .before .before .before .before .before .before .before .read-lists in
+    let count = c .before .before .before .before .before .before .before .before .before .before .count in
+    let if2 = c .before .before .before .before .before .before .before .before .if2 in
+    let sort-by-attribute = c .before .before .before .before .before .sort-by-attribute in
+    let fit = lists-fit _ _ (if1 .left) (λ x. omega (arith, shared-slice-known .given x)) (read-lists .ensures .0) (read-lists .ensures .1) (count .given .1) (if2 .left) in
     let enough = fit .enough in
-    let same = c .before .before .before .before .before .sort-by-attribute .kept .0 in
+    let same = sort-by-attribute .kept .0 in
     omega arith
 
 subsets-of-requires : tie.Need-subsets-of-requires
@@ -74,7 +95,16 @@ same-length-4 : tie.Need-same-length-4
 same-length-4 c = search needs
 
 returns-4 : tie.Need-returns-4
-returns-4 c = lists-read-all _ _ (c .before .before .before .before .before .before .before .before .before .before .before .before .before .before .before .before .before .before .before .if1 .left) (λ x. omega (arith, c .before .before .before .before .before .before .before .before .before .before .before .before .before .before .before .before .before .before .before .before .before .before .shared-slice-known .given x)) (c .before .before .before .before .before .before .before .before .before .before .before .before .before .before .before .before .before .read-lists .ensures .0) (c .before .before .before .before .before .before .before .before .before .before .before .before .before .before .before .before .before .read-lists .ensures .1) (c .before .before .before .before .before .before .before .before .before .before .before .before .before .count .given .1) (c .before .before .before .before .before .before .before .before .before .before .before .if2 .left) _ (c .before .before .before .before .before .before .before .before .sort-by-attribute .ensures) (c .before .before .rises .ensures) (c .before .if4 .taken) (c .subsets-of .ensures)
+returns-4 c =
+    let shared-slice-known = c .before .before .before .before .before .before .before .before .before .before .before .before .before .before .before .before .before .before .before .before .before .before .shared-slice-known in
+    let if1 = c .before .before .before .before .before .before .before .before .before .before .before .before .before .before .before .before .before .before .before .if1 in
+    let read-lists = c .before .before .before .before .before .before .before .before .before .before .before .before .before .before .before .before .before .read-lists in
+    let count = c .before .before .before .before .before .before .before .before .before .before .before .before .before .count in
+    let if2 = c .before .before .before .before .before .before .before .before .before .before .before .if2 in
+    let sort-by-attribute = c .before .before .before .before .before .before .before .before .sort-by-attribute in
+    let rises = c .before .before .rises in
+    let if4 = c .before .if4 in
+    lists-read-all _ _ (if1 .left) (λ x. omega (arith, shared-slice-known .given x)) (read-lists .ensures .0) (read-lists .ensures .1) (count .given .1) (if2 .left) _ (sort-by-attribute .ensures) (rises .ensures) (if4 .taken) (c .subsets-of .ensures)
 
 refused-requires-5 : tie.Need-refused-requires-5
 refused-requires-5 c κs = search needs
@@ -83,7 +113,11 @@ same-length-5 : tie.Need-same-length-5
 same-length-5 c = search needs
 
 returns-5 : tie.Need-returns-5
-returns-5 c = refused-reading _ _ _ (c .refused2 .ensures) (lists-refused _ (c .before .before .before .before .before .before .before .before .if1 .left) (c .before .before .before .before .before .before .read-lists .ensures .0) (c .before .before .r .given .1))
+returns-5 c =
+    let if1 = c .before .before .before .before .before .before .before .before .if1 in
+    let read-lists = c .before .before .before .before .before .before .read-lists in
+    let r = c .before .before .r in
+    refused-reading _ _ _ (c .refused2 .ensures) (lists-refused _ (if1 .left) (read-lists .ensures .0) (r .given .1))
 
 same-length-6 : tie.Need-same-length-6
 same-length-6 c = search needs
@@ -92,7 +126,16 @@ same-length-7 : tie.Need-same-length-7
 same-length-7 c = search needs
 
 returns-6 : tie.Need-returns-6
-returns-6 c = refused-reading _ _ _ (c .refused5 .ensures) (falls _ _ (c .before .before .before .before .before .before .before .before .before .before .before .before .before .before .before .before .before .before .before .if1 .left) (λ x. omega (arith, c .before .before .before .before .before .before .before .before .before .before .before .before .before .before .before .before .before .before .before .before .before .before .shared-slice-known .given x)) (c .before .before .before .before .before .before .before .before .before .before .before .before .before .before .before .before .before .read-lists .ensures .0) (c .before .before .before .before .before .before .before .before .before .before .before .before .before .before .before .before .before .read-lists .ensures .1) (c .before .before .before .before .before .before .before .before .before .before .before .before .before .count .given .1) (c .before .before .before .before .before .before .before .before .before .before .before .if2 .left) _ (c .before .before .before .before .before .before .before .before .sort-by-attribute .ensures) (c .before .before .rises .ensures) (c .before .if4 .left))
+returns-6 c =
+    let shared-slice-known = c .before .before .before .before .before .before .before .before .before .before .before .before .before .before .before .before .before .before .before .before .before .before .shared-slice-known in
+    let if1 = c .before .before .before .before .before .before .before .before .before .before .before .before .before .before .before .before .before .before .before .if1 in
+    let read-lists = c .before .before .before .before .before .before .before .before .before .before .before .before .before .before .before .before .before .read-lists in
+    let count = c .before .before .before .before .before .before .before .before .before .before .before .before .before .count in
+    let if2 = c .before .before .before .before .before .before .before .before .before .before .before .if2 in
+    let sort-by-attribute = c .before .before .before .before .before .before .before .before .sort-by-attribute in
+    let rises = c .before .before .rises in
+    let if4 = c .before .if4 in
+    refused-reading _ _ _ (c .refused5 .ensures) (falls _ _ (if1 .left) (λ x. omega (arith, shared-slice-known .given x)) (read-lists .ensures .0) (read-lists .ensures .1) (count .given .1) (if2 .left) _ (sort-by-attribute .ensures) (rises .ensures) (if4 .left))
 
 pub read-instantiation-spec : {M : Type 1} → statement M
 read-instantiation-spec =

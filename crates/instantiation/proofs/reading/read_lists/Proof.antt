@@ -8,10 +8,6 @@ use Prim.Native.Nat.{_-_}
 use borrow.Author.Needs.{needs}
 use Rattle.instantiation.proofs.reading.read_lists.Statement.{statement}
 use Rattle.instantiation.proofs.reading.read_lists.Tie as tie
-use Rattle.instantiation.proofs.reading.read_lists.Reads as reads
-use Rattle.instantiation.proofs.reading.read_lists.Lts as lts
-use Rattle.instantiation.proofs.appending.append.Reads as append-reads
-use Rattle.type_record.proofs.read_list.Reads as read-list-reads
 
 abbrev Inv-loop : tie.InvT-loop
 Inv-loop bytes items₀ k₀ at₀ s₀ items k at s = Resumed bytes items₀ items k at s
@@ -65,7 +61,13 @@ same-length : tie.Need-same-length Inv-loop μ-loop
 same-length c = c .before .before .before .before .before .before .before .before .before .loop .inv .size
 
 returns : tie.Need-returns Inv-loop μ-loop
-returns c = resumed-refused (c .before .before .before .before .before .before .before .before .before .loop .inv) (c .before .before .before .before .before .before .before .before .loop-test .taken) (sym (bit-test _ _) ∙ eq-eqb _ _ (c .before .before .before .before .before .if2 .taken)) (sym (c .before .before .before .read-list .ensures) ∙ c .before .r .given .1)
+returns c =
+    let loop = c .before .before .before .before .before .before .before .before .before .loop in
+    let loop-test = c .before .before .before .before .before .before .before .before .loop-test in
+    let if2 = c .before .before .before .before .before .if2 in
+    let read-list = c .before .before .before .read-list in
+    let r = c .before .r in
+    resumed-refused (loop .inv) (loop-test .taken) (sym (bit-test _ _) ∙ eq-eqb _ _ (if2 .taken)) (sym (read-list .ensures) ∙ r .given .1)
 
 enum-known-count : tie.Need-enum-known-count Inv-loop μ-loop
 enum-known-count c = search needs
@@ -83,21 +85,39 @@ cast-append : tie.Need-cast-append Inv-loop μ-loop
 cast-append c = search needs
 
 append-requires : tie.Need-append-requires Inv-loop μ-loop
-append-requires c κs = resumed-appends (c .before .before .before .before .before .before .before .before .before .before .before .loop .inv) (λ x. omega (arith, c .before .before .before .before .before .before .before .before .before .before .before .before .before .shared-slice-known .given x)) (sym (c .before .before .before .before .before .read-list .ensures) ∙ c .before .before .before .count .given .1) (c .before .before .before .before .before .before .before .before .before .before .before .before .before .before .pre .1)
+append-requires c κs =
+    let pre = c .before .before .before .before .before .before .before .before .before .before .before .before .before .before .pre in
+    let shared-slice-known = c .before .before .before .before .before .before .before .before .before .before .before .before .before .shared-slice-known in
+    let loop = c .before .before .before .before .before .before .before .before .before .before .before .loop in
+    let read-list = c .before .before .before .before .before .read-list in
+    let count = c .before .before .before .count in
+    resumed-appends (loop .inv) (λ x. omega (arith, shared-slice-known .given x)) (sym (read-list .ensures) ∙ count .given .1) (pre .1)
 
 mul-at : tie.Need-mul-at Inv-loop μ-loop
 mul-at c =
-    let few = list-inside (c .before .before .before .before .before .before .before .before .before .before .before .before .before .before .loop .inv .walk) (λ x. omega (arith, c .before .before .before .before .before .before .before .before .before .before .before .before .before .before .before .before .shared-slice-known .given x)) (sym (c .before .before .before .before .before .before .before .before .read-list .ensures) ∙ c .before .before .before .before .before .before .count .given .1) .0 in
+    let shared-slice-known = c .before .before .before .before .before .before .before .before .before .before .before .before .before .before .before .before .shared-slice-known in
+    let loop = c .before .before .before .before .before .before .before .before .before .before .before .before .before .before .loop in
+    let read-list = c .before .before .before .before .before .before .before .before .read-list in
+    let count = c .before .before .before .before .before .before .count in
+    let few = list-inside (loop .inv .walk) (λ x. omega (arith, shared-slice-known .given x)) (sym (read-list .ensures) ∙ count .given .1) .0 in
     omega arith
 
 add-at : tie.Need-add-at Inv-loop μ-loop
 add-at c =
-    let few = list-inside (c .before .before .before .before .before .before .before .before .before .before .before .before .before .before .loop .inv .walk) (λ x. omega (arith, c .before .before .before .before .before .before .before .before .before .before .before .before .before .before .before .before .shared-slice-known .given x)) (sym (c .before .before .before .before .before .before .before .before .read-list .ensures) ∙ c .before .before .before .before .before .before .count .given .1) .0 in
+    let shared-slice-known = c .before .before .before .before .before .before .before .before .before .before .before .before .before .before .before .before .shared-slice-known in
+    let loop = c .before .before .before .before .before .before .before .before .before .before .before .before .before .before .loop in
+    let read-list = c .before .before .before .before .before .before .before .before .read-list in
+    let count = c .before .before .before .before .before .before .count in
+    let few = list-inside (loop .inv .walk) (λ x. omega (arith, shared-slice-known .given x)) (sym (read-list .ensures) ∙ count .given .1) .0 in
     omega arith
 
 add-at-2 : tie.Need-add-at-2 Inv-loop μ-loop
 add-at-2 c =
-    let fits = list-inside (c .before .before .before .before .before .before .before .before .before .before .before .before .before .before .loop .inv .walk) (λ x. omega (arith, c .before .before .before .before .before .before .before .before .before .before .before .before .before .before .before .before .shared-slice-known .given x)) (sym (c .before .before .before .before .before .before .before .before .read-list .ensures) ∙ c .before .before .before .before .before .before .count .given .1) in
+    let shared-slice-known = c .before .before .before .before .before .before .before .before .before .before .before .before .before .before .before .before .shared-slice-known in
+    let loop = c .before .before .before .before .before .before .before .before .before .before .before .before .before .before .loop in
+    let read-list = c .before .before .before .before .before .before .before .before .read-list in
+    let count = c .before .before .before .before .before .before .count in
+    let fits = list-inside (loop .inv .walk) (λ x. omega (arith, shared-slice-known .given x)) (sym (read-list .ensures) ∙ count .given .1) in
     let few = fits .0 in
     let end = fits .1 in
     omega arith
@@ -109,7 +129,15 @@ loop-less-2 : tie.Need-loop-less-2 Inv-loop μ-loop
 loop-less-2 c = search needs
 
 loop-again-2 : tie.Need-loop-again-2 Inv-loop μ-loop
-loop-again-2 c = resumed-next (c .before .before .before .before .before .before .before .before .before .before .before .before .before .before .loop .inv) (λ x. omega (arith, c .before .before .before .before .before .before .before .before .before .before .before .before .before .before .before .before .shared-slice-known .given x)) (sym (c .before .before .before .before .before .before .before .before .read-list .ensures) ∙ c .before .before .before .before .before .before .count .given .1) (c .before .before .before .before .before .before .before .before .before .before .before .before .before .loop-test .taken) (sym (bit-test _ _) ∙ eq-eqb _ _ (c .before .before .before .before .before .before .before .before .before .before .if2 .taken)) (c .before .before .append .kept .0) (c .before .before .append .ensures)
+loop-again-2 c =
+    let shared-slice-known = c .before .before .before .before .before .before .before .before .before .before .before .before .before .before .before .before .shared-slice-known in
+    let loop = c .before .before .before .before .before .before .before .before .before .before .before .before .before .before .loop in
+    let loop-test = c .before .before .before .before .before .before .before .before .before .before .before .before .before .loop-test in
+    let if2 = c .before .before .before .before .before .before .before .before .before .before .if2 in
+    let read-list = c .before .before .before .before .before .before .before .before .read-list in
+    let count = c .before .before .before .before .before .before .count in
+    let append = c .before .before .append in
+    resumed-next (loop .inv) (λ x. omega (arith, shared-slice-known .given x)) (sym (read-list .ensures) ∙ count .given .1) (loop-test .taken) (sym (bit-test _ _) ∙ eq-eqb _ _ (if2 .taken)) (append .kept .0) (append .ensures)
 
 add-s-3 : tie.Need-add-s-3 Inv-loop μ-loop
 add-s-3 c = search needs
@@ -118,7 +146,10 @@ loop-less-3 : tie.Need-loop-less-3 Inv-loop μ-loop
 loop-less-3 c = search needs
 
 loop-again-3 : tie.Need-loop-again-3 Inv-loop μ-loop
-loop-again-3 c = resumed-clear (c .before .before .before .before .loop .inv) (c .before .before .before .loop-test .taken) (sym (bit-test _ _) ∙ ne-eqb _ _ (c .if2 .left))
+loop-again-3 c =
+    let loop = c .before .before .before .before .loop in
+    let loop-test = c .before .before .before .loop-test in
+    resumed-clear (loop .inv) (loop-test .taken) (sym (bit-test _ _) ∙ ne-eqb _ _ (c .if2 .left))
 
 same-length-2 : tie.Need-same-length-2 Inv-loop μ-loop
 same-length-2 c = c .before .before .loop .inv .size

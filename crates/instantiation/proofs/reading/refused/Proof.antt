@@ -4,11 +4,8 @@ use Rattle.bits.specs.Tab.{tab-same}
 use mathlib.Core.List.{List}
 use mathlib.Core.Path.{sym, ap}
 use Prim.Native.Nat.{ℕ}
-use borrow.Author.Needs.{needs}
 use Rattle.instantiation.proofs.reading.refused.Statement.{statement}
 use Rattle.instantiation.proofs.reading.refused.Tie as tie
-use Rattle.instantiation.proofs.reading.refused.Reads as reads
-use Rattle.instantiation.proofs.reading.refused.Lts as lts
 
 returns : tie.Need-returns
 unfolding refusedInstantiation readingOf

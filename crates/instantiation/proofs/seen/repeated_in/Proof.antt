@@ -6,12 +6,6 @@ use Prim.Native.Nat.{_-_}
 use borrow.Author.Needs.{needs}
 use Rattle.instantiation.proofs.seen.repeated_in.Statement.{statement}
 use Rattle.instantiation.proofs.seen.repeated_in.Tie as tie
-use Rattle.instantiation.proofs.seen.repeated_in.Reads as reads
-use Rattle.instantiation.proofs.seen.repeated_in.Lts as lts
-use Rattle.instantiation.proofs.seen.either.Reads as either-reads
-use Rattle.instantiation.proofs.seen.is_standing.Reads as is-standing-reads
-use Rattle.instantiation.proofs.seen.mark.Reads as mark-reads
-use Rattle.type_record.proofs.read_list.Reads as read-list-reads
 
 abbrev Inv-loop : tie.InvT-loop
 Inv-loop bytes seen₀ repeated₀ at₀ s₀ seen repeated at s = Repeats bytes seen repeated at s
@@ -41,7 +35,13 @@ enum-told : tie.Need-enum-told Inv-loop μ-loop
 enum-told c = search needs
 
 returns : tie.Need-returns Inv-loop μ-loop
-returns c = repeats-refused (c .before .before .before .before .before .before .before .loop .inv) (c .before .before .before .before .before .before .loop-test .taken) (sym (c .before .before .before .before .before .is-standing .ensures) ∙ c .before .before .before .before .if1 .taken) (sym (c .before .before .read-list .ensures) ∙ c .enum-told .given .1)
+returns c =
+    let loop = c .before .before .before .before .before .before .before .loop in
+    let loop-test = c .before .before .before .before .before .before .loop-test in
+    let is-standing = c .before .before .before .before .before .is-standing in
+    let if1 = c .before .before .before .before .if1 in
+    let read-list = c .before .before .read-list in
+    repeats-refused (loop .inv) (loop-test .taken) (sym (is-standing .ensures) ∙ if1 .taken) (sym (read-list .ensures) ∙ c .enum-told .given .1)
 
 enum-known-count : tie.Need-enum-known-count Inv-loop μ-loop
 enum-known-count c = search needs
@@ -60,25 +60,41 @@ slice-aggregate-mark c = let size = c .before .before .before .before .before .b
 
 mark-requires : tie.Need-mark-requires Inv-loop μ-loop
 mark-requires c κs =
-    let fits = list-inside (c .before .before .before .before .before .before .before .before .before .before .loop .inv .walk) (λ x. omega (arith, c .before .before .before .before .before .before .before .before .before .before .before .shared-slice-known .given x)) (sym (c .before .before .before .before .before .read-list .ensures) ∙ c .before .before .before .count .given .1) in
-    ((fits .0, c .before .before .before .before .before .before .before .before .before .before .loop .inv .size), list-fits (c .before .before .before .before .before .before .before .before .before .before .loop .inv .walk) (λ x. omega (arith, c .before .before .before .before .before .before .before .before .before .before .before .shared-slice-known .given x)) (sym (c .before .before .before .before .before .read-list .ensures) ∙ c .before .before .before .count .given .1))
+    let shared-slice-known = c .before .before .before .before .before .before .before .before .before .before .before .shared-slice-known in
+    let loop = c .before .before .before .before .before .before .before .before .before .before .loop in
+    let read-list = c .before .before .before .before .before .read-list in
+    let count = c .before .before .before .count in
+    let fits = list-inside (loop .inv .walk) (λ x. omega (arith, shared-slice-known .given x)) (sym (read-list .ensures) ∙ count .given .1) in
+    ((fits .0, loop .inv .size), list-fits (loop .inv .walk) (λ x. omega (arith, shared-slice-known .given x)) (sym (read-list .ensures) ∙ count .given .1))
 
 either-requires : tie.Need-either-requires Inv-loop μ-loop
 either-requires c κs = search needs
 
 mul-at : tie.Need-mul-at Inv-loop μ-loop
 mul-at c =
-    let few = list-inside (c .before .before .before .before .before .before .before .before .before .before .before .before .before .loop .inv .walk) (λ x. omega (arith, c .before .before .before .before .before .before .before .before .before .before .before .before .before .before .shared-slice-known .given x)) (sym (c .before .before .before .before .before .before .before .before .read-list .ensures) ∙ c .before .before .before .before .before .before .count .given .1) .0 in
+    let shared-slice-known = c .before .before .before .before .before .before .before .before .before .before .before .before .before .before .shared-slice-known in
+    let loop = c .before .before .before .before .before .before .before .before .before .before .before .before .before .loop in
+    let read-list = c .before .before .before .before .before .before .before .before .read-list in
+    let count = c .before .before .before .before .before .before .count in
+    let few = list-inside (loop .inv .walk) (λ x. omega (arith, shared-slice-known .given x)) (sym (read-list .ensures) ∙ count .given .1) .0 in
     omega arith
 
 add-at : tie.Need-add-at Inv-loop μ-loop
 add-at c =
-    let few = list-inside (c .before .before .before .before .before .before .before .before .before .before .before .before .before .loop .inv .walk) (λ x. omega (arith, c .before .before .before .before .before .before .before .before .before .before .before .before .before .before .shared-slice-known .given x)) (sym (c .before .before .before .before .before .before .before .before .read-list .ensures) ∙ c .before .before .before .before .before .before .count .given .1) .0 in
+    let shared-slice-known = c .before .before .before .before .before .before .before .before .before .before .before .before .before .before .shared-slice-known in
+    let loop = c .before .before .before .before .before .before .before .before .before .before .before .before .before .loop in
+    let read-list = c .before .before .before .before .before .before .before .before .read-list in
+    let count = c .before .before .before .before .before .before .count in
+    let few = list-inside (loop .inv .walk) (λ x. omega (arith, shared-slice-known .given x)) (sym (read-list .ensures) ∙ count .given .1) .0 in
     omega arith
 
 add-at-2 : tie.Need-add-at-2 Inv-loop μ-loop
 add-at-2 c =
-    let fits = list-inside (c .before .before .before .before .before .before .before .before .before .before .before .before .before .loop .inv .walk) (λ x. omega (arith, c .before .before .before .before .before .before .before .before .before .before .before .before .before .before .shared-slice-known .given x)) (sym (c .before .before .before .before .before .before .before .before .read-list .ensures) ∙ c .before .before .before .before .before .before .count .given .1) in
+    let shared-slice-known = c .before .before .before .before .before .before .before .before .before .before .before .before .before .before .shared-slice-known in
+    let loop = c .before .before .before .before .before .before .before .before .before .before .before .before .before .loop in
+    let read-list = c .before .before .before .before .before .before .before .before .read-list in
+    let count = c .before .before .before .before .before .before .count in
+    let fits = list-inside (loop .inv .walk) (λ x. omega (arith, shared-slice-known .given x)) (sym (read-list .ensures) ∙ count .given .1) in
     let few = fits .0 in
     let end = fits .1 in
     omega arith
@@ -90,7 +106,16 @@ loop-less : tie.Need-loop-less Inv-loop μ-loop
 loop-less c = search needs
 
 loop-again : tie.Need-loop-again Inv-loop μ-loop
-loop-again c = repeats-next (c .before .before .before .before .before .before .before .before .before .before .before .before .before .loop .inv) (λ x. omega (arith, c .before .before .before .before .before .before .before .before .before .before .before .before .before .before .shared-slice-known .given x)) (sym (c .before .before .before .before .before .before .before .before .read-list .ensures) ∙ c .before .before .before .before .before .before .count .given .1) (c .before .before .before .before .before .before .before .before .before .before .before .before .loop-test .taken) (sym (c .before .before .before .before .before .before .before .before .before .before .before .is-standing .ensures) ∙ c .before .before .before .before .before .before .before .before .before .before .if1 .taken) (c .before .before .mark .ensures .0) (c .before .before .mark .ensures .1) (c .either .ensures)
+loop-again c =
+    let shared-slice-known = c .before .before .before .before .before .before .before .before .before .before .before .before .before .before .shared-slice-known in
+    let loop = c .before .before .before .before .before .before .before .before .before .before .before .before .before .loop in
+    let loop-test = c .before .before .before .before .before .before .before .before .before .before .before .before .loop-test in
+    let is-standing = c .before .before .before .before .before .before .before .before .before .before .before .is-standing in
+    let if1 = c .before .before .before .before .before .before .before .before .before .before .if1 in
+    let read-list = c .before .before .before .before .before .before .before .before .read-list in
+    let count = c .before .before .before .before .before .before .count in
+    let mark = c .before .before .mark in
+    repeats-next (loop .inv) (λ x. omega (arith, shared-slice-known .given x)) (sym (read-list .ensures) ∙ count .given .1) (loop-test .taken) (sym (is-standing .ensures) ∙ if1 .taken) (mark .ensures .0) (mark .ensures .1) (c .either .ensures)
 
 add-s-2 : tie.Need-add-s-2 Inv-loop μ-loop
 add-s-2 c = search needs

@@ -1,15 +1,8 @@
 use Rattle.instantiation.proofs.Whole.{by-subset, same-lists, lists-short, whole-length, whole-written}
 use native.Mathlib.Omega.{arith}
-use mathlib.Core.Path.{sym}
 use borrow.Author.Needs.{needs}
 use Rattle.instantiation.proofs.writing.write_instantiation.Statement.{statement}
 use Rattle.instantiation.proofs.writing.write_instantiation.Tie as tie
-use Rattle.instantiation.proofs.writing.write_instantiation.Reads as reads
-use Rattle.instantiation.proofs.writing.write_instantiation.Lts as lts
-use Rattle.entry_sorting.proofs.sort_by_subset.Reads as sort-by-subset-reads
-use Rattle.instantiation.proofs.lists.write_lists.Reads as write-lists-reads
-use Rattle.instantiation.proofs.maps.write_map.Reads as write-map-reads
-use Rattle.instantiation.proofs.writing.write_special.Reads as write-special-reads
 
 sort-by-subset-requires : tie.Need-sort-by-subset-requires
 sort-by-subset-requires c κs = search needs
@@ -40,14 +33,19 @@ part-write-lists-end c = search needs
 
 write-lists-requires : tie.Need-write-lists-requires
 write-lists-requires c κs =
-    let same = c .before .before .before .before .before .before .before .before .before .before .before .before .sort-by-subset .kept .1 .1 .0 in
-    let room = c .before .before .before .before .before .before .before .before .before .before .before .before .before .before .before .before .before .before .pre .1 .1 in
-    (by-subset _ _ (c .before .before .before .before .before .before .before .before .before .before .before .before .before .before .before .before .before .before .pre .0) _ (c .before .before .before .before .before .before .before .before .before .before .before .before .sort-by-subset .ensures) (omega arith), search needs)
+    let pre = c .before .before .before .before .before .before .before .before .before .before .before .before .before .before .before .before .before .before .pre in
+    let sort-by-subset = c .before .before .before .before .before .before .before .before .before .before .before .before .sort-by-subset in
+    let same = sort-by-subset .kept .1 .1 .0 in
+    let room = pre .1 .1 in
+    (by-subset _ _ (pre .0) _ (sort-by-subset .ensures) (omega arith), search needs)
 
 add-result : tie.Need-add-result
 add-result c =
-    let short = lists-short _ _ (c .before .before .before .before .before .before .before .before .before .before .before .before .before .before .before .before .before .before .before .before .before .pre .0) (same-lists _ _ (c .before .before .before .before .before .before .before .before .before .before .before .before .before .before .before .before .before .before .before .before .before .pre .0) _ (c .before .before .before .before .before .before .before .before .before .before .before .before .before .before .before .sort-by-subset .ensures)) in
-    let size = c .before .before .write-lists .ensures .0 in
+    let pre = c .before .before .before .before .before .before .before .before .before .before .before .before .before .before .before .before .before .before .before .before .before .pre in
+    let sort-by-subset = c .before .before .before .before .before .before .before .before .before .before .before .before .before .before .before .sort-by-subset in
+    let write-lists = c .before .before .write-lists in
+    let short = lists-short _ _ (pre .0) (same-lists _ _ (pre .0) _ (sort-by-subset .ensures)) in
+    let size = write-lists .ensures .0 in
     omega arith
 
 same-length : tie.Need-same-length
@@ -58,8 +56,14 @@ same-length-2 c = search needs
 
 returns : tie.Need-returns
 returns c =
-    let same = same-lists _ _ (c .before .before .before .before .before .before .before .before .before .before .before .before .before .before .before .before .before .before .before .before .before .pre .0) _ (c .before .before .before .before .before .before .before .before .before .before .before .before .before .before .before .sort-by-subset .ensures) in
-    (whole-length (c .before .before .before .before .before .before .before .before .before .before .before .before .before .before .before .before .before .before .before .before .before .args .subsets .now) _ same (c .before .before .write-lists .ensures .0), whole-written (c .before .before .before .before .before .before .before .before .before .before .before .before .before .before .before .before .before .before .before .before .before .args .out .now) (c .before .before .before .before .before .before .before .before .before .before .before .before .before .before .before .before .before .before .before .before .before .args .subsets .now) _ (c .before .before .before .before .before .before .before .before .before .before .before .write-special .ensures) (c .before .before .before .before .before .before .before .write-map .ensures) same (c .before .before .write-lists .ensures .1))
+    let pre = c .before .before .before .before .before .before .before .before .before .before .before .before .before .before .before .before .before .before .before .before .before .pre in
+    let args = c .before .before .before .before .before .before .before .before .before .before .before .before .before .before .before .before .before .before .before .before .before .args in
+    let sort-by-subset = c .before .before .before .before .before .before .before .before .before .before .before .before .before .before .before .sort-by-subset in
+    let write-special = c .before .before .before .before .before .before .before .before .before .before .before .write-special in
+    let write-map = c .before .before .before .before .before .before .before .write-map in
+    let write-lists = c .before .before .write-lists in
+    let same = same-lists _ _ (pre .0) _ (sort-by-subset .ensures) in
+    (whole-length (args .subsets .now) _ same (write-lists .ensures .0), whole-written (args .out .now) (args .subsets .now) _ (write-special .ensures) (write-map .ensures) same (write-lists .ensures .1))
 
 pub write-instantiation-spec : {M : Type 1} → statement M
 write-instantiation-spec =
