@@ -1,4 +1,4 @@
-// Whether sorted entries have an attribute each.
+// Whether entries that are sorted by attribute have different attributes.
 ghost use mathlib.Core.Path.{_≡_};
 ghost use Prim.Native.Nat.{_≤_};
 ghost use lib.ListN.{length, take};

@@ -53,89 +53,96 @@ lists-refused bytes {x} {r} enough is e = go (readLists bytes 256 0 (drop 47 byt
 -- ---- the lists, judged together
 
 -- a reading that is not refused has lists
-record Found (bytes items : List ℕ) (k : ℕ) : Type 0 where
+pub record Found (bytes items : List ℕ) (k : ℕ) : Type 0 where
   lists : List (List ℕ)
+  long : 47 ≤ length bytes
   read : readLists bytes 256 0 (drop 47 bytes) ≡ listsRead lists
+  are : IsLists lists
   table : TableIn (listedFrom 0 lists) items k
   short : k * 2 ≤ length bytes
 
-module _ (bytes items : List ℕ) {k : ℕ} {x : ListsReading} (enough : 47 ≤ length bytes) (below : Bytes bytes) (is : x ≡ gathered (readLists bytes 256 0 (drop 47 bytes))) (stand : GatheredIn (length bytes) (readLists bytes 256 0 (drop 47 bytes)) items) (e : x ≡ ListsListed k) where
-  found : Found bytes items k
-  found = go (readLists bytes 256 0 (drop 47 bytes)) refl stand
-    where
-      go : (ls : Lists) → readLists bytes 256 0 (drop 47 bytes) ≡ ls → GatheredIn (length bytes) ls items → Found bytes items k
-      go (listsRefused q) read t = absurd (let said = sym (is ∙ ap gathered read) ∙ e in let z : _≡_ {A = ℕ} 0 1 = cc in omega arith)
-      go (listsRead ls) read t =
-          let said = sym (is ∙ ap gathered read) ∙ e in
-          let count : length (take 256 (listedFrom 0 ls)) ≡ k = cc in
-          record { lists = ls; read = read; table = subst (TableIn (listedFrom 0 ls) items) count (t .0); short = subst (λ (n : ℕ). n * 2 ≤ length bytes) count (t .1) }
+pub found : (bytes items : List ℕ) {k : ℕ} {x : ListsReading} → 47 ≤ length bytes → Bytes bytes → x ≡ gathered (readLists bytes 256 0 (drop 47 bytes)) → GatheredIn (length bytes) (readLists bytes 256 0 (drop 47 bytes)) items → x ≡ ListsListed k → Found bytes items k
+found bytes items {k} long below is stand e = go (readLists bytes 256 0 (drop 47 bytes)) refl stand
+  where
+    go : (ls : Lists) → readLists bytes 256 0 (drop 47 bytes) ≡ ls → GatheredIn (length bytes) ls items → Found bytes items k
+    go (listsRefused q) read t = absurd (let said = sym (is ∙ ap gathered read) ∙ e in let z : _≡_ {A = ℕ} 0 1 = cc in omega arith)
+    go (listsRead ls) read t =
+        let said = sym (is ∙ ap gathered read) ∙ e in
+        let count : length (take 256 (listedFrom 0 ls)) ≡ k = cc in
+        record {
+          lists = ls;
+          long = long;
+          read = read;
+          are = lists-read bytes ls below long read;
+          table = subst (TableIn (listedFrom 0 ls) items) count (t .0);
+          short = subst (λ (n : ℕ). n * 2 ≤ length bytes) count (t .1);
+        }
 
-  are : IsLists (found .lists)
-  are = lists-read bytes (found .lists) below enough (found .read)
-
+module _ {bytes items : List ℕ} {k : ℕ} (f : Found bytes items k) where
   -- "attribute in two lists"
-  repeated : repeatedIn nothingSeen (allListed (found .lists)) ≡ true → refusedInstantiation RepeatedAttribute ≡ instantiationReading bytes
+  repeated : repeatedIn nothingSeen (allListed (f .lists)) ≡ true → refusedInstantiation RepeatedAttribute ≡ instantiationReading bytes
   unfolding instantiationReading
-  repeated twice = sym (rw (le-ltb (length bytes) 47 enough, found .read, twice))
+  repeated twice = sym (rw (le-ltb (length bytes) 47 (f .long), f .read, twice))
 
   -- over 255 entries
   module _ {twice : Bool} (over : 255 < k) (told : (ls : List (List ℕ)) → readLists bytes 256 0 (drop 47 bytes) ≡ listsRead ls → twice ≡ repeatedIn nothingSeen (allListed ls)) where
     pub over-repeated : twice ≡ true → refusedInstantiation RepeatedAttribute ≡ instantiationReading bytes
-    over-repeated t = repeated (sym (told (found .lists) (found .read)) ∙ t)
+    over-repeated t = repeated (sym (told (f .lists) (f .read)) ∙ t)
 
     pub over-many : twice ≡ false → refusedInstantiation TooManyAttributes ≡ instantiationReading bytes
     unfolding instantiationReading
     over-many t =
-        let once = sym (told (found .lists) (found .read)) ∙ t in
-        sym (rw (le-ltb (length bytes) 47 enough, found .read, once, lt-ltb 255 (length (entriesIn (found .lists))) (many once (decLt 255 (length (listedFrom 0 (found .lists)))))))
+        let once = sym (told (f .lists) (f .read)) ∙ t in
+        sym (rw (le-ltb (length bytes) 47 (f .long), f .read, once, lt-ltb 255 (length (entriesIn (f .lists))) (many once (decLt 255 (length (listedFrom 0 (f .lists)))))))
       where
-        many : repeatedIn nothingSeen (allListed (found .lists)) ≡ false → Dec (255 < length (listedFrom 0 (found .lists))) → 255 < length (entriesIn (found .lists))
-        many once (yes more) = let same = sorted-length (found .lists) are once in omega arith
-        many once (no less) = absurd (let count = table-count (found .table) (omega arith) in omega arith)
+        many : repeatedIn nothingSeen (allListed (f .lists)) ≡ false → Dec (255 < length (listedFrom 0 (f .lists))) → 255 < length (entriesIn (f .lists))
+        many once (yes more) = let same = sorted-length (f .lists) (f .are) once in omega arith
+        many once (no less) = absurd (let count = table-count (f .table) (omega arith) in omega arith)
 
   -- at most 255
   module _ (under : k ≤ 255) where
-    few : length (listedFrom 0 (found .lists)) ≤ 255
-    few = go (decLt 255 (length (listedFrom 0 (found .lists))))
+    few : length (listedFrom 0 (f .lists)) ≤ 255
+    few = go (decLt 255 (length (listedFrom 0 (f .lists))))
       where
-        go : Dec (255 < length (listedFrom 0 (found .lists))) → length (listedFrom 0 (found .lists)) ≤ 255
-        go (yes more) = absurd (let full = table-full (found .table) more in omega arith)
+        go : Dec (255 < length (listedFrom 0 (f .lists))) → length (listedFrom 0 (f .lists)) ≤ 255
+        go (yes more) = absurd (let full = table-full (f .table) more in omega arith)
         go (no less) = omega arith
 
     pub lists-fit : ItemsFit items k
-    lists-fit = front-fit (table-reaches (found .table)) (table-all (found .table) few) (listed-below (found .lists) are)
+    lists-fit = front-fit (table-reaches (f .table)) (table-all (f .table) few) (listed-below (f .lists) (f .are))
 
     -- there is room for them in the other slice
     pub lists-room : (spare : List ℕ) → RoomFor (length bytes) spare → k ≤ length spare
-    lists-room spare room = room k (omega arith) (found .short)
+    lists-room spare room = room k (omega arith) (f .short)
 
     module _ (sorted : List ℕ) {rise : Bool} (sorted-is : take k sorted ≡ byAttribute (take k items)) (rise-is : rise ≡ ascending (take k sorted)) where
-      sorted-listed : take k sorted ≡ byAttribute (listedFrom 0 (found .lists))
-      sorted-listed = sorted-is ∙ ap byAttribute (table-all (found .table) few)
+      sorted-listed : take k sorted ≡ byAttribute (listedFrom 0 (f .lists))
+      sorted-listed = sorted-is ∙ ap byAttribute (table-all (f .table) few)
 
-      rises-as : ascending (byAttribute (listedFrom 0 (found .lists))) ≡ rise
+      rises-as : ascending (byAttribute (listedFrom 0 (f .lists))) ≡ rise
       rises-as = ap ascending (sym sorted-listed) ∙ sym rise-is
 
       pub falls : rise ≡ false → refusedInstantiation RepeatedAttribute ≡ instantiationReading bytes
-      falls t = repeated (falling-repeated (found .lists) are (rises-as ∙ t))
+      falls t = repeated (falling-repeated (f .lists) (f .are) (rises-as ∙ t))
 
       module _ (t : rise ≡ true) where
-        once : repeatedIn nothingSeen (allListed (found .lists)) ≡ false
-        once = rising-apart (found .lists) are (rises-as ∙ t)
+        once : repeatedIn nothingSeen (allListed (f .lists)) ≡ false
+        once = rising-apart (f .lists) (f .are) (rises-as ∙ t)
 
-        entries : take k sorted ≡ entriesIn (found .lists)
-        entries = sorted-listed ∙ sorted-lists (found .lists) are once
+        entries : take k sorted ≡ entriesIn (f .lists)
+        entries = sorted-listed ∙ sorted-lists (f .lists) (f .are) once
 
-        count : k ≡ length (entriesIn (found .lists))
-        count = table-count (found .table) few ∙ sorted-length (found .lists) are once
+        count : k ≡ length (entriesIn (f .lists))
+        count = table-count (f .table) few ∙ sorted-length (f .lists) (f .are) once
 
-        reading : record { judgement = Read; subsets = subsetsOf bytes; entries = entriesIn (found .lists) } ≡ instantiationReading bytes
+        reading : record { judgement = Read; subsets = subsetsOf bytes; entries = entriesIn (f .lists) } ≡ instantiationReading bytes
         unfolding instantiationReading
         reading =
             let size = count in
-            sym (rw (le-ltb (length bytes) 47 enough, found .read, once, le-ltb 255 (length (entriesIn (found .lists))) (omega arith)))
+            sym (rw (le-ltb (length bytes) 47 (f .long), f .read, once, le-ltb 255 (length (entriesIn (f .lists))) (omega arith)))
 
         pub lists-read-all : {subsets : List ℕ} → subsets ≡ subsetsOf bytes → (record { judgement = Read; subsets = subsets; count = k } ≡ readingOf (instantiationReading bytes)) × EntriesStand Read (instantiationReading bytes .entries) sorted
         unfolding readingOf
         lists-read-all subsets-are =
-            (ap₂ (λ (l : List ℕ) (n : ℕ). record { judgement = Read; subsets = l; count = n }) subsets-are count ∙ ap readingOf reading, λ said. subst (λ (i : Instantiation). take (length (i .entries)) sorted ≡ i .entries) reading (subst (λ (n : ℕ). take n sorted ≡ entriesIn (found .lists)) count entries))
+            let stands = subst (λ (n : ℕ). take n sorted ≡ entriesIn (f .lists)) count entries in
+            (ap₂ (λ (l : List ℕ) (n : ℕ). record { judgement = Read; subsets = l; count = n }) subsets-are count ∙ ap readingOf reading, λ said. subst (λ (i : Instantiation). take (length (i .entries)) sorted ≡ i .entries) reading stands)

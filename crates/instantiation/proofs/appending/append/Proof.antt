@@ -1,3 +1,4 @@
+use native.Mathlib.Nat.{le-trans}
 use Rattle.instantiation.proofs.Append.{Adding, adding-none, adding-room, adding-more, adding-end}
 use Rattle.membership.specs.Entries.{entry}
 use Rattle.bits.specs.Word.{word}
@@ -47,10 +48,10 @@ slice-write-items c =
     let loop = c .before .before .before .loop in
     let loop-test = c .before .before .loop-test in
     let if1 = c .before .if1 in
-    adding-room (pre) _ (loop .inv) (loop-test .taken) (ltb-true _ _ (if1 .taken))
+    adding-room (pre) _ (loop .inv) (loop-test .taken) (le-trans (ltb-true _ _ (if1 .taken)) (omega arith))
 
 add-at : tie.Need-add-at Inv-loop μ-loop
-add-at c = let few = ltb-true (c .before .before .before .loop .at) 256 (c .before .if1 .taken) in omega arith
+add-at c = let most = c .before .before .before .loop .inv .most in omega arith
 
 add-i : tie.Need-add-i Inv-loop μ-loop
 add-i c = let few = c .before .before .before .before .before .before .pre .few in omega arith
@@ -64,7 +65,7 @@ loop-again c =
     let loop = c .before .before .before .loop in
     let loop-test = c .before .before .loop-test in
     let if1 = c .before .if1 in
-    adding-more (pre) _ (loop .inv) (loop-test .taken) (ltb-true _ _ (if1 .taken)) (c .word-at .ensures)
+    adding-more (pre) _ (loop .inv) (loop-test .taken) (le-trans (ltb-true _ _ (if1 .taken)) (omega arith)) (c .word-at .ensures)
 
 same-length : tie.Need-same-length Inv-loop μ-loop
 same-length c = c .before .before .loop .inv .written .written .size

@@ -1,4 +1,4 @@
-use Rattle.instantiation.proofs.Finish.{refused-reading, reading-short, lists-refused, over-repeated, over-many, lists-fit, lists-room, falls, lists-read-all}
+use Rattle.instantiation.proofs.Finish.{refused-reading, reading-short, lists-refused, found, over-repeated, over-many, lists-fit, lists-room, falls, lists-read-all}
 use native.Mathlib.Omega.{arith}
 use borrow.Author.Needs.{needs}
 use Rattle.instantiation.proofs.reading.read_instantiation.Statement.{statement}
@@ -33,6 +33,7 @@ same-length c = search needs
 
 returns-2 : tie.Need-returns-2
 returns-2 c =
+    let args = c .before .before .before .before .before .before .before .before .before .before .before .before .before .before .before .args in
     let shared-slice-known = c .before .before .before .before .before .before .before .before .before .before .before .before .before .before .shared-slice-known in
     let if1 = c .before .before .before .before .before .before .before .before .before .before .before .if1 in
     let read-lists = c .before .before .before .before .before .before .before .before .before .read-lists in
@@ -40,7 +41,9 @@ returns-2 c =
     let if2 = c .before .before .before .if2 in
     let repeated-in = c .before .before .repeated-in in
     let if3 = c .before .if3 in
-    refused-reading _ _ _ (c .refused3 .ensures) (over-repeated _ _ (if1 .left) (λ x. omega (arith, shared-slice-known .given x)) (read-lists .ensures .0) (read-lists .ensures .1) (count .given .1) (if2 .taken) (repeated-in .ensures) (if3 .taken))
+    let lists = found (args .bytes .now) _ (if1 .left) (λ x. omega (arith, shared-slice-known .given x)) (read-lists .ensures .0) (read-lists .ensures .1) (count .given .1) in
+    let many = if2 .taken in
+    refused-reading _ _ _ (c .refused3 .ensures) (over-repeated lists (omega arith) (repeated-in .ensures) (if3 .taken))
 
 refused-requires-4 : tie.Need-refused-requires-4
 refused-requires-4 c κs = search needs
@@ -50,6 +53,7 @@ same-length-2 c = search needs
 
 returns-3 : tie.Need-returns-3
 returns-3 c =
+    let args = c .before .before .before .before .before .before .before .before .before .before .before .before .before .before .before .args in
     let shared-slice-known = c .before .before .before .before .before .before .before .before .before .before .before .before .before .before .shared-slice-known in
     let if1 = c .before .before .before .before .before .before .before .before .before .before .before .if1 in
     let read-lists = c .before .before .before .before .before .before .before .before .before .read-lists in
@@ -57,7 +61,9 @@ returns-3 c =
     let if2 = c .before .before .before .if2 in
     let repeated-in = c .before .before .repeated-in in
     let if3 = c .before .if3 in
-    refused-reading _ _ _ (c .refused4 .ensures) (over-many _ _ (if1 .left) (λ x. omega (arith, shared-slice-known .given x)) (read-lists .ensures .0) (read-lists .ensures .1) (count .given .1) (if2 .taken) (repeated-in .ensures) (if3 .left))
+    let lists = found (args .bytes .now) _ (if1 .left) (λ x. omega (arith, shared-slice-known .given x)) (read-lists .ensures .0) (read-lists .ensures .1) (count .given .1) in
+    let many = if2 .taken in
+    refused-reading _ _ _ (c .refused4 .ensures) (over-many lists (omega arith) (repeated-in .ensures) (if3 .left))
 
 sort-by-attribute-requires : tie.Need-sort-by-attribute-requires
 sort-by-attribute-requires c κs =
@@ -68,20 +74,21 @@ sort-by-attribute-requires c κs =
     let read-lists = c .before .before .before .before .before .before .before .before .read-lists in
     let count = c .before .before .before .before .count in
     let if2 = c .before .before .if2 in
-    let fit = lists-fit _ _ (if1 .left) (λ x. omega (arith, shared-slice-known .given x)) (read-lists .ensures .0) (read-lists .ensures .1) (count .given .1) (if2 .left) in
-    let room = lists-room _ _ (if1 .left) (λ x. omega (arith, shared-slice-known .given x)) (read-lists .ensures .0) (read-lists .ensures .1) (count .given .1) (if2 .left) (args .spare .now) (pre .1) in
-    ((if2 .left, fit), room)
+    let lists = found (args .bytes .now) _ (if1 .left) (λ x. omega (arith, shared-slice-known .given x)) (read-lists .ensures .0) (read-lists .ensures .1) (count .given .1) in
+    let few = if2 .left in
+    ((few, lists-fit lists few), lists-room lists few (args .spare .now) (pre .1))
 
 rises-requires : tie.Need-rises-requires
 rises-requires c κs =
+    let args = c .before .before .before .before .before .before .before .before .before .before .before .before .before .before .before .before .before .before .before .before .args in
     let shared-slice-known = c .before .before .before .before .before .before .before .before .before .before .before .before .before .before .before .before .before .before .before .shared-slice-known in
     let if1 = c .before .before .before .before .before .before .before .before .before .before .before .before .before .before .before .before .if1 in
     let read-lists = c .before .before .before .before .before .before .before .before .before .before .before .before .before .before .read-lists in
     let count = c .before .before .before .before .before .before .before .before .before .before .count in
     let if2 = c .before .before .before .before .before .before .before .before .if2 in
     let sort-by-attribute = c .before .before .before .before .before .sort-by-attribute in
-    let fit = lists-fit _ _ (if1 .left) (λ x. omega (arith, shared-slice-known .given x)) (read-lists .ensures .0) (read-lists .ensures .1) (count .given .1) (if2 .left) in
-    let enough = fit .enough in
+    let lists = found (args .bytes .now) _ (if1 .left) (λ x. omega (arith, shared-slice-known .given x)) (read-lists .ensures .0) (read-lists .ensures .1) (count .given .1) in
+    let enough = lists-fit lists (if2 .left) .enough in
     let same = sort-by-attribute .kept .0 in
     omega arith
 
@@ -96,6 +103,7 @@ same-length-4 c = search needs
 
 returns-4 : tie.Need-returns-4
 returns-4 c =
+    let args = c .before .before .before .before .before .before .before .before .before .before .before .before .before .before .before .before .before .before .before .before .before .before .before .args in
     let shared-slice-known = c .before .before .before .before .before .before .before .before .before .before .before .before .before .before .before .before .before .before .before .before .before .before .shared-slice-known in
     let if1 = c .before .before .before .before .before .before .before .before .before .before .before .before .before .before .before .before .before .before .before .if1 in
     let read-lists = c .before .before .before .before .before .before .before .before .before .before .before .before .before .before .before .before .before .read-lists in
@@ -104,7 +112,8 @@ returns-4 c =
     let sort-by-attribute = c .before .before .before .before .before .before .before .before .sort-by-attribute in
     let rises = c .before .before .rises in
     let if4 = c .before .if4 in
-    lists-read-all _ _ (if1 .left) (λ x. omega (arith, shared-slice-known .given x)) (read-lists .ensures .0) (read-lists .ensures .1) (count .given .1) (if2 .left) _ (sort-by-attribute .ensures) (rises .ensures) (if4 .taken) (c .subsets-of .ensures)
+    let lists = found (args .bytes .now) _ (if1 .left) (λ x. omega (arith, shared-slice-known .given x)) (read-lists .ensures .0) (read-lists .ensures .1) (count .given .1) in
+    lists-read-all lists (if2 .left) _ (sort-by-attribute .ensures) (rises .ensures) (if4 .taken) (c .subsets-of .ensures)
 
 refused-requires-5 : tie.Need-refused-requires-5
 refused-requires-5 c κs = search needs
@@ -127,6 +136,7 @@ same-length-7 c = search needs
 
 returns-6 : tie.Need-returns-6
 returns-6 c =
+    let args = c .before .before .before .before .before .before .before .before .before .before .before .before .before .before .before .before .before .before .before .before .before .before .before .args in
     let shared-slice-known = c .before .before .before .before .before .before .before .before .before .before .before .before .before .before .before .before .before .before .before .before .before .before .shared-slice-known in
     let if1 = c .before .before .before .before .before .before .before .before .before .before .before .before .before .before .before .before .before .before .before .if1 in
     let read-lists = c .before .before .before .before .before .before .before .before .before .before .before .before .before .before .before .before .before .read-lists in
@@ -135,7 +145,8 @@ returns-6 c =
     let sort-by-attribute = c .before .before .before .before .before .before .before .before .sort-by-attribute in
     let rises = c .before .before .rises in
     let if4 = c .before .if4 in
-    refused-reading _ _ _ (c .refused5 .ensures) (falls _ _ (if1 .left) (λ x. omega (arith, shared-slice-known .given x)) (read-lists .ensures .0) (read-lists .ensures .1) (count .given .1) (if2 .left) _ (sort-by-attribute .ensures) (rises .ensures) (if4 .left))
+    let lists = found (args .bytes .now) _ (if1 .left) (λ x. omega (arith, shared-slice-known .given x)) (read-lists .ensures .0) (read-lists .ensures .1) (count .given .1) in
+    refused-reading _ _ _ (c .refused5 .ensures) (falls lists (if2 .left) _ (sort-by-attribute .ensures) (rises .ensures) (if4 .left))
 
 pub read-instantiation-spec : {M : Type 1} → statement M
 read-instantiation-spec =
