@@ -3,6 +3,7 @@ pub mod ChainLaws
 pub mod Sorting
 pub mod SortingLaws
 pub mod SortedLaws
+pub mod Order
 pub mod Appending
 pub mod Grouping
 pub mod Passes

@@ -1,77 +1,81 @@
--- How the entries of a list are appended to a table, entry by entry, and the table that this gives.
+-- How the entries of a list are appended, entry by entry.
 use Prim.Native.Nat.{ℕ, zero, suc, _+_, _-_, _*_, _≤_, _<_, min}
 use mathlib.Core.Path.{_≡_, refl, sym, ap, _∙_}
 use mathlib.Core.List.{List, [], _∷_, _++_, map}
-use mathlib.Core.Logic.{_⊎_, ⊎-elim}
-use native.Mathlib.Decide.{decLt}
-use native.Mathlib.Nat.{min-le-left, min-le-right}
+use mathlib.Core.Logic.{_⊎_, inl, inr}
+use native.Mathlib.Nat.{min-le-right}
 use native.Mathlib.Omega.{arith}
-use lib.ListN.{length, getD, set, take, length-take, length-append, List·getD-eq-default}
-use lib.Seq.{getD-take, take-append-add, length-take-le}
-use Rattle.bits.specs.Tab.{tab, map-tab, length-tab, getD-tab, over, over-length, over-front, over-back}
-use Rattle.membership.specs.declared.merging.Entries.{Entries}
-use Rattle.membership.specs.Entries.{entry, tableOf}
-use Rattle.membership.specs.TableLaws.{table-made, table-entries, table-size, table-item}
-use Rattle.entry_sorting.specs.Appending.{Appending, appending-none, appending-more, appending-end}
-use Rattle.instantiation.specs.Gathering.{appended}
+use lib.ListN.{length, getD, set, take, length-take, length-append}
+use lib.Seq.{length-take-le}
+use Rattle.bits.specs.Tab.{tab, map-tab, length-tab, getD-tab}
+use Rattle.bits.specs.Word.{word}
+use Rattle.membership.specs.Entries.{entry, TableIn}
+use Rattle.membership.specs.TableLaws.{table-written}
+use Rattle.entry_sorting.specs.Appending.{Appending, appending-none, appending-more}
+use Rattle.instantiation.specs.Gathering.{Appends}
 
 -- ---- the loop
 
 -- i attributes are entered
 pub record Adding (more : List ℕ) (k : ℕ) (old out : List ℕ) (at i : ℕ) : Type 0 where
   pub place : at ≡ k + i
+  pub most : at ≤ 256
+  pub inside : at ≤ length old
   pub upTo : i ≤ length more
-  pub written : Appending (take (256 - k) more) k old out at
+  pub written : Appending more k old out at
 
-pub adding-none : (more : List ℕ) (k : ℕ) (old : List ℕ) → k ≤ length old → Adding more k old old k 0
-adding-none more k old fits = record { place = omega arith; upTo = omega arith; written = appending-none (take (256 - k) more) k old fits }
+module _ {list : List ℕ} {count : ℕ} {old : List ℕ} {k : ℕ} (a : Appends list count old k) (s : ℕ) where
+  -- the entries of the list
+  abbrev entries : List ℕ
+  entries = map (λ x. entry x s) (tab count (λ x. word list (x * 2 + 1)))
 
-module _ (n s : ℕ) (f : ℕ → ℕ) {k : ℕ} {old out : List ℕ} {at i : ℕ} (most : k ≤ 256) (size : length old ≡ 256) (h : Adding (map (λ a. entry a s) (tab n f)) k old out at i) where
-  all : length (map (λ a. entry a s) (tab n f)) ≡ n
-  all = ap length (map-tab (λ a. entry a s) n f) ∙ length-tab n (λ x. entry (f x) s)
+  entries-are : entries ≡ tab count (λ x. entry (word list (x * 2 + 1)) s)
+  entries-are = map-tab (λ x. entry x s) count (λ x. word list (x * 2 + 1))
 
-  -- there is room
-  pub adding-room : at < 256 → at < length out
-  adding-room room = let same = h .written .written .size in omega arith
+  size : length entries ≡ count
+  size = ap length entries-are ∙ length-tab count (λ x. entry (word list (x * 2 + 1)) s)
 
-  pub adding-more : {x : ℕ} → i < n → at < 256 → x ≡ f i → Adding (map (λ a. entry a s) (tab n f)) k old (set out at (x * 256 + s)) (at + 1) (i + 1)
-  adding-more {x} more room is =
-      let place = h .place in
-      let here : at - k ≡ i = omega arith in
-      let count = all in
-      record {
-        place = omega arith;
-        upTo = omega arith;
-        written =
-            appending-more (h .written) (x * 256 + s) (adding-room room) (rw (here, length-take) (inside (256 - k) (length (map (λ a. entry a s) (tab n f))) (omega arith) (omega arith)))
-            (rw here
-            (getD-take (256 - k) (map (λ a. entry a s) (tab n f)) i 0 (omega arith)
-            ∙ ap (λ (l : List ℕ). getD l i 0) (map-tab (λ a. entry a s) n f)
-            ∙ getD-tab n (λ x. entry (f x) s) i 0 more
-            ∙ ap (λ (a : ℕ). entry a s) (sym is)));
-      }
-    where
-      inside : (a b : ℕ) → i < a → i < b → i < min a b
-      inside a b p q = omega arith
+  pub adding-none : Adding (map (λ x. entry x s) (tab count (λ x. word list (x * 2 + 1)))) k old old k 0
+  adding-none = record { place = omega arith; most = a .most; inside = a .enough; upTo = omega arith; written = appending-none entries k old (a .enough) }
 
-  front : appended k (map (λ a. entry a s) (tab n f)) old ≡ take k old ++ take (256 - k) (map (λ a. entry a s) (tab n f))
-  front =
-      let own = length-take-le k old (omega arith) in
-      let whole : 256 ≡ length (take k old) + (256 - k) = omega arith in
-      ap (λ (m : ℕ). take m (take k old ++ map (λ a. entry a s) (tab n f))) whole ∙ take-append-add (take k old) (map (λ a. entry a s) (tab n f)) (256 - k)
+  module _ {out : List ℕ} {at i : ℕ} (h : Adding (map (λ x. entry x s) (tab count (λ x. word list (x * 2 + 1)))) k old out at i) where
+    -- there is room
+    pub adding-room : i < count → at < 256 → at < length out
+    adding-room more few =
+        let place = h .place in
+        let same = h .written .written .size in
+        let room = a .room at few (omega arith) in
+        omega arith
 
-  pub adding-end : (n ≤ i) ⊎ (256 ≤ at) → (at ≡ length (appended k (map (λ a. entry a s) (tab n f)) old)) × (out ≡ over (appended k (map (λ a. entry a s) (tab n f)) old) old)
-  adding-end done =
-      let place = h .place in
-      let count = all in
-      let taken = length-take (256 - k) (map (λ a. entry a s) (tab n f)) in
-      let left = min-le-left (256 - k) (length (map (λ a. entry a s) (tab n f))) in
-      let right = min-le-right (256 - k) (length (map (λ a. entry a s) (tab n f))) in
-      let reached : k + length (take (256 - k) (map (λ a. entry a s) (tab n f))) ≤ at = ⊎-elim (λ p. omega arith) (λ p. omega arith) done in
-      let end = appending-end (h .written) (omega arith) reached in
-      let own = length-take-le k old (omega arith) in
-      let whole = length-append (take k old) (take (256 - k) (map (λ a. entry a s) (tab n f))) in
-      rw front (omega arith, end .1)
+    pub adding-more : {x : ℕ} → i < count → at < 256 → x ≡ word list (i * 2 + 1) → Adding (map (λ x. entry x s) (tab count (λ x. word list (x * 2 + 1)))) k old (set out at (x * 256 + s)) (at + 1) (i + 1)
+    adding-more {x} more few is =
+        let place = h .place in
+        let here : at - k ≡ i = omega arith in
+        let all = size in
+        record {
+          place = omega arith;
+          most = omega arith;
+          inside = let room = a .room at few (omega arith) in omega arith;
+          upTo = omega arith;
+          written =
+              appending-more (h .written) (x * 256 + s) (adding-room more few) (omega arith)
+              (rw here (ap (λ (l : List ℕ). getD l i 0) entries-are ∙ getD-tab count (λ x. entry (word list (x * 2 + 1)) s) i 0 more ∙ ap (λ (b : ℕ). entry b s) (sym is)));
+        }
+
+    pub adding-end : (count ≤ i) ⊎ (256 ≤ at) → TableIn (take k old ++ map (λ x. entry x s) (tab count (λ x. word list (x * 2 + 1)))) out at
+    adding-end done = table-written (take k old ++ entries) old out at (h .inside) (h .written .written) (count-is done)
+      where
+        count-is : (count ≤ i) ⊎ (256 ≤ at) → at ≡ length (take 256 (take k old ++ entries))
+        count-is done =
+            let taken = length-take 256 (take k old ++ entries) in
+            let whole = length-append (take k old) entries in
+            let front = length-take-le k old (a .enough) in
+            let all = size in
+            taken-is (length (take k old ++ entries)) (omega arith) done taken
+          where
+            taken-is : (n : ℕ) → n ≡ k + count → (count ≤ i) ⊎ (256 ≤ at) → length (take 256 (take k old ++ entries)) ≡ min 256 n → at ≡ length (take 256 (take k old ++ entries))
+            taken-is n n-is (inl last) taken = let place = h .place in let upTo = h .upTo in let most = h .most in let all = size in omega arith
+            taken-is n n-is (inr full) taken = let place = h .place in let upTo = h .upTo in let most = h .most in let all = size in omega arith
 
 -- ---- the table
 
@@ -81,42 +85,18 @@ front-more zero es more = refl
 front-more (suc n) [] more = refl
 front-more (suc n) (e ∷ es) more = ap (λ (l : List ℕ). e ∷ l) (front-more n es more)
 
-module _ {k : ℕ} {items : List ℕ} (es more : List ℕ) (table : record { count = k; items = items } ≡ tableOf es) where
-  items-are : items ≡ tableOf es .items
-  items-are = ap (λ (t : Entries). t .items) table
+-- appending to the first 256 entries gives the first 256 of all
+pub append-table : {es items : List ℕ} {k : ℕ} (more : List ℕ) {out : List ℕ} {r : ℕ} → TableIn es items k → TableIn (take k items ++ more) out r → TableIn (es ++ more) out r
+append-table {es} {items} {k} more t u =
+    let same : take 256 (take k items ++ more) ≡ take 256 (es ++ more) = ap (λ (l : List ℕ). take 256 (l ++ more)) (t .entries) ∙ front-more 256 es more in
+    record { count-is = u .count-is ∙ ap length same; entries = u .entries ∙ same }
 
-  appended-is : appended k more items ≡ take 256 (es ++ more)
-  appended-is =
-      ap (λ (t : Entries). take 256 (take (t .count) (t .items) ++ more)) table
-      ∙ ap (λ (l : List ℕ). take 256 (l ++ more)) (table-entries es)
-      ∙ front-more 256 es more
-
-  pub appended-table : {r : ℕ} {out : List ℕ} → r ≡ length (appended k more items) → out ≡ over (appended k more items) items → record { count = r; items = out } ≡ tableOf (es ++ more)
-  appended-table {r} {out} r-is out-is =
-      ap (λ (l : List ℕ). record { count = r; items = l }) (out-is ∙ ap (λ (l : List ℕ). over l items) appended-is)
-      ∙ table-made (es ++ more) (r-is ∙ ap length appended-is) size (λ i h. each i h (decLt i (length (take 256 (es ++ more)))))
-    where
-      length-items : length items ≡ 256
-      length-items = ap length items-are ∙ table-size es
-
-      size : length (over (take 256 (es ++ more)) items) ≡ 256
-      size =
-          let own = length-items in
-          let taken = length-take 256 (es ++ more) in
-          let most = min-le-left 256 (length (es ++ more)) in
-          over-length (take 256 (es ++ more)) items (omega arith) ∙ own
-
-      each : (i : ℕ) → i < 256 → Dec (i < length (take 256 (es ++ more))) → getD (over (take 256 (es ++ more)) items) i 0 ≡ getD (es ++ more) i 0
-      each i h (yes inside) = over-front (take 256 (es ++ more)) items i 0 inside ∙ getD-take 256 (es ++ more) i 0 h
-      each i h (no past) =
-          let taken = length-take 256 (es ++ more) in
-          let whole = length-append es more in
-          let none : length (es ++ more) ≤ i = less (length (es ++ more)) taken in
-          over-back (take 256 (es ++ more)) items i 0 (omega arith)
-          ∙ ap (λ (l : List ℕ). getD l i 0) items-are
-          ∙ table-item es i h
-          ∙ List·getD-eq-default es 0 {n = i} (omega arith)
-          ∙ sym (List·getD-eq-default (es ++ more) 0 {n = i} none)
-        where
-          less : (n : ℕ) → length (take 256 (es ++ more)) ≡ min 256 n → n ≤ i
-          less n taken = omega arith
+-- and no more than are appended
+pub append-few : (items : List ℕ) (k : ℕ) (more : List ℕ) {out : List ℕ} {r : ℕ} → k ≤ length items → TableIn (take k items ++ more) out r → r ≤ k + length more
+append-few items k more enough t =
+    let is = t .count-is in
+    let taken = length-take 256 (take k items ++ more) in
+    let least = min-le-right 256 (length (take k items ++ more)) in
+    let whole = length-append (take k items) more in
+    let front = length-take-le k items enough in
+    omega arith

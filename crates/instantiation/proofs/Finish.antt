@@ -1,140 +1,148 @@
--- The reading of an instantiation after all 256 subsets: "17; 19; 18".
-use Prim.Native.Nat.{ℕ, _-_, _≤_, _<_}
-use mathlib.Core.Path.{_≡_, refl, sym, ap, ap₂, _∙_}
+-- The reading of an instantiation once its lists are read: "17; 19; 18".
+use Prim.Native.Nat.{ℕ, _*_, _≤_, _<_}
+use mathlib.Core.Path.{_≡_, refl, sym, ap, ap₂, subst, _∙_}
 use mathlib.Core.Bool.{Bool, true, false}
 use mathlib.Core.List.{List}
 use native.Mathlib.Decide.{decLt}
 use native.Mathlib.Omega.{arith}
 use borrow.Author.Tests.{lt-ltb, le-ltb}
-use lib.ListN.{length, take, drop, drop-of-length-le}
-use lib.Seq.{drop-cons}
+use lib.ListN.{length, take, drop}
 use Rattle.bits.specs.Word.{Bytes}
 use Rattle.refusal.specs.declared.Refusal.{Refusal}
-use Rattle.refusal.specs.declared.Refusal.the-variants.{InputFollowed, TooManyAttributes, RepeatedAttribute}
-use Rattle.membership.specs.declared.merging.Entries.{Entries}
-use Rattle.membership.specs.Entries.{tableOf}
+use Rattle.refusal.specs.declared.Refusal.the-variants.{InputTruncated, TooManyAttributes, RepeatedAttribute}
+use Rattle.membership.specs.Entries.{TableIn, RoomFor}
 use Rattle.membership.specs.Holders.{ItemsFit}
-use Rattle.entry_sorting.specs.Passes.{table-fit}
+use Rattle.membership.specs.TableLaws.{table-count, table-full, table-all, table-reaches}
+use Rattle.entry_sorting.specs.Order.{ascending}
+use Rattle.entry_sorting.specs.Passes.{front-fit}
 use Rattle.entry_sorting.specs.Sorting.{byAttribute}
-use Rattle.membership.specs.TableLaws.{table-count, table-full, table-all}
-use Rattle.schema.specs.declared.reading.Judgement.the-variants.{Read, Refused}
+use Rattle.schema.specs.Schema.{EntriesStand}
+use Rattle.schema.specs.declared.reading.Judgement.the-variants.{Read}
+use Rattle.instantiation.specs.declared.reading.InstantiationReading.{InstantiationReading}
 use Rattle.instantiation.specs.declared.reading.ListsReading.{ListsReading}
-use Rattle.instantiation.specs.Instantiation.{Lists, listsRefused, listsRead, atEnd, readLists, entriesIn, allListed, subsetsOf, refusedInstantiation, instantiationReading}
-use Rattle.instantiation.specs.Gathering.{listedFrom, refusedLists, gathered}
+use Rattle.instantiation.specs.declared.reading.ListsReading.the-variants.{Listed as ListsListed, Refused as ListsRefused}
+use Rattle.instantiation.specs.Instantiation.{Instantiation, Lists, listsRefused, listsRead, readLists, entriesIn, allListed, subsetsOf, refusedInstantiation, instantiationReading, readingOf}
+use Rattle.instantiation.specs.Gathering.{listedFrom, gathered, GatheredIn}
 use Rattle.instantiation.specs.ReadLaws.{IsLists, lists-read}
 use Rattle.instantiation.specs.Seen.{nothingSeen, repeatedIn}
-use Rattle.instantiation.specs.SortedLists.{listed-distinct, sorted-lists, sorted-length}
-use Rattle.instantiation.proofs.More.{precedeAll, precede-refused, precede-none}
-use Rattle.instantiation.proofs.Resume.{Resumed}
+use Rattle.instantiation.specs.SortedLists.{listed-below, rising-apart, falling-repeated, sorted-lists, sorted-length}
 
--- ---- "bytes left over", and the lists where there are none
+-- ---- a refusal
 
-module _ {bytes seen : List ℕ} {repeated : Bool} {items : List ℕ} {k at s : ℕ} (h : Resumed bytes seen repeated items k at s) (last : 256 ≤ s) where
-  ended : readLists bytes 256 0 (drop 47 bytes) ≡ precedeAll (h .done) (atEnd (drop at bytes))
-  unfolding readLists
-  ended =
-      let none : 256 - s ≡ 0 = omega arith in
-      h .rest ∙ rw none
+-- what is handed on, and nothing is said of the entries
+pub refused-reading : (bytes items : List ℕ) {x : InstantiationReading} (r : Refusal) → x ≡ readingOf (refusedInstantiation r) → refusedInstantiation r ≡ instantiationReading bytes → (x ≡ readingOf (instantiationReading bytes)) × EntriesStand (x .judgement) (instantiationReading bytes .entries) items
+unfolding readingOf refusedInstantiation
+refused-reading bytes items {x} r is same =
+    (is ∙ ap readingOf same, λ said. absurd (let other = ap (λ (y : InstantiationReading). y .judgement) is in let z : _≡_ {A = ℕ} 0 1 = cc in omega arith))
 
-  pub resumed-followed : at < length bytes → refusedLists InputFollowed ≡ gathered (readLists bytes 256 0 (drop 47 bytes))
-  resumed-followed more =
-      sym (ap gathered (ended ∙ ap (λ (l : List ℕ). precedeAll (h .done) (atEnd l)) (drop-cons bytes at 0 more) ∙ precede-refused (h .done) InputFollowed))
+pub reading-short : (bytes : List ℕ) → length bytes < 47 → refusedInstantiation InputTruncated ≡ instantiationReading bytes
+unfolding instantiationReading
+reading-short bytes short = sym (rw (lt-ltb (length bytes) 47 short))
 
-  pub resumed-end : length bytes ≤ at → record { judgement = Read; repeated = repeated; entries = record { count = k; items = items } } ≡ gathered (readLists bytes 256 0 (drop 47 bytes))
-  resumed-end none =
-      ap₂ (λ (b : Bool) (t : Entries). record { judgement = Read; repeated = b; entries = t }) (sym (h .repeats)) (h .table)
-      ∙ sym (ap gathered (ended ∙ ap (λ (l : List ℕ). precedeAll (h .done) (atEnd l)) (drop-of-length-le bytes none) ∙ precede-none (h .done)))
+pub lists-refused : (bytes : List ℕ) {x : ListsReading} {r : Refusal} → 47 ≤ length bytes → x ≡ gathered (readLists bytes 256 0 (drop 47 bytes)) → x ≡ ListsRefused r → refusedInstantiation r ≡ instantiationReading bytes
+unfolding instantiationReading
+lists-refused bytes {x} {r} enough is e = go (readLists bytes 256 0 (drop 47 bytes)) refl
+  where
+    go : (ls : Lists) → readLists bytes 256 0 (drop 47 bytes) ≡ ls → refusedInstantiation r ≡ instantiationReading bytes
+    go (listsRefused q) read =
+        let said = sym (is ∙ ap gathered read) ∙ e in
+        let same : q ≡ r = cc in
+        sym (rw (le-ltb (length bytes) 47 enough, read, same))
+    go (listsRead ls) read = absurd (let said = sym (is ∙ ap gathered read) ∙ e in let z : _≡_ {A = ℕ} 0 1 = cc in omega arith)
 
 -- ---- the lists, judged together
 
 -- a reading that is not refused has lists
-record Found (bytes : List ℕ) (x : ListsReading) : Type 0 where
+pub record Found (bytes items : List ℕ) (k : ℕ) : Type 0 where
   lists : List (List ℕ)
+  long : 47 ≤ length bytes
   read : readLists bytes 256 0 (drop 47 bytes) ≡ listsRead lists
-  repeats : repeatedIn nothingSeen (allListed lists) ≡ x .repeated
-  table : x .entries ≡ tableOf (listedFrom 0 lists)
+  are : IsLists lists
+  table : TableIn (listedFrom 0 lists) items k
+  short : k * 2 ≤ length bytes
 
-module _ (bytes : List ℕ) {x : ListsReading} (enough : 47 ≤ length bytes) (is : x ≡ gathered (readLists bytes 256 0 (drop 47 bytes))) where
-  pub lists-refused : {r : Refusal} → x .judgement ≡ Refused r → refusedInstantiation r ≡ instantiationReading bytes
-  unfolding instantiationReading refusedLists
-  lists-refused {r} e = go (readLists bytes 256 0 (drop 47 bytes)) refl
-    where
-      go : (ls : Lists) → readLists bytes 256 0 (drop 47 bytes) ≡ ls → refusedInstantiation r ≡ instantiationReading bytes
-      go (listsRefused q) read =
-          let same : q ≡ r = cc (ap (λ (y : ListsReading). y .judgement) (is ∙ ap gathered read)) in
-          sym (rw (le-ltb (length bytes) 47 enough, read, same))
-      go (listsRead ls) read = absurd (let said = ap (λ (y : ListsReading). y .judgement) (is ∙ ap gathered read) in let z : _≡_ {A = ℕ} 0 1 = cc in omega arith)
+pub found : (bytes items : List ℕ) {k : ℕ} {x : ListsReading} → 47 ≤ length bytes → Bytes bytes → x ≡ gathered (readLists bytes 256 0 (drop 47 bytes)) → GatheredIn (length bytes) (readLists bytes 256 0 (drop 47 bytes)) items → x ≡ ListsListed k → Found bytes items k
+found bytes items {k} long below is stand e = go (readLists bytes 256 0 (drop 47 bytes)) refl stand
+  where
+    go : (ls : Lists) → readLists bytes 256 0 (drop 47 bytes) ≡ ls → GatheredIn (length bytes) ls items → Found bytes items k
+    go (listsRefused q) read t = absurd (let said = sym (is ∙ ap gathered read) ∙ e in let z : _≡_ {A = ℕ} 0 1 = cc in omega arith)
+    go (listsRead ls) read t =
+        let said = sym (is ∙ ap gathered read) ∙ e in
+        let count : length (take 256 (listedFrom 0 ls)) ≡ k = cc in
+        record {
+          lists = ls;
+          long = long;
+          read = read;
+          are = lists-read bytes ls below long read;
+          table = subst (TableIn (listedFrom 0 ls) items) count (t .0);
+          short = subst (λ (n : ℕ). n * 2 ≤ length bytes) count (t .1);
+        }
 
-  module _ (e : x .judgement ≡ Read) where
-    found : Found bytes x
-    unfolding refusedLists
-    found = go (readLists bytes 256 0 (drop 47 bytes)) refl
-      where
-        go : (ls : Lists) → readLists bytes 256 0 (drop 47 bytes) ≡ ls → Found bytes x
-        go (listsRefused q) read = absurd (let said = ap (λ (y : ListsReading). y .judgement) (is ∙ ap gathered read) in let z : _≡_ {A = ℕ} 0 1 = cc in omega arith)
-        go (listsRead ls) read =
-            record {
-              lists = ls;
-              read = read;
-              repeats = sym (ap (λ (y : ListsReading). y .repeated) (is ∙ ap gathered read));
-              table = ap (λ (y : ListsReading). y .entries) (is ∙ ap gathered read);
-            }
+module _ {bytes items : List ℕ} {k : ℕ} (f : Found bytes items k) where
+  -- "attribute in two lists"
+  repeated : repeatedIn nothingSeen (allListed (f .lists)) ≡ true → refusedInstantiation RepeatedAttribute ≡ instantiationReading bytes
+  unfolding instantiationReading
+  repeated twice = sym (rw (le-ltb (length bytes) 47 (f .long), f .read, twice))
 
-    pub lists-repeated : x .repeated ≡ true → refusedInstantiation RepeatedAttribute ≡ instantiationReading bytes
+  -- over 255 entries
+  module _ {twice : Bool} (over : 255 < k) (told : (ls : List (List ℕ)) → readLists bytes 256 0 (drop 47 bytes) ≡ listsRead ls → twice ≡ repeatedIn nothingSeen (allListed ls)) where
+    pub over-repeated : twice ≡ true → refusedInstantiation RepeatedAttribute ≡ instantiationReading bytes
+    over-repeated t = repeated (sym (told (f .lists) (f .read)) ∙ t)
+
+    pub over-many : twice ≡ false → refusedInstantiation TooManyAttributes ≡ instantiationReading bytes
     unfolding instantiationReading
-    lists-repeated twice = sym (rw (le-ltb (length bytes) 47 enough, found .read, found .repeats ∙ twice))
+    over-many t =
+        let once = sym (told (f .lists) (f .read)) ∙ t in
+        sym (rw (le-ltb (length bytes) 47 (f .long), f .read, once, lt-ltb 255 (length (entriesIn (f .lists))) (many once (decLt 255 (length (listedFrom 0 (f .lists)))))))
+      where
+        many : repeatedIn nothingSeen (allListed (f .lists)) ≡ false → Dec (255 < length (listedFrom 0 (f .lists))) → 255 < length (entriesIn (f .lists))
+        many once (yes more) = let same = sorted-length (f .lists) (f .are) once in omega arith
+        many once (no less) = absurd (let count = table-count (f .table) (omega arith) in omega arith)
 
-    module _ (below : Bytes bytes) (once : x .repeated ≡ false) where
-      are : IsLists (found .lists)
-      are = lists-read bytes (found .lists) below enough (found .read)
+  -- at most 255
+  module _ (under : k ≤ 255) where
+    few : length (listedFrom 0 (f .lists)) ≤ 255
+    few = go (decLt 255 (length (listedFrom 0 (f .lists))))
+      where
+        go : Dec (255 < length (listedFrom 0 (f .lists))) → length (listedFrom 0 (f .lists)) ≤ 255
+        go (yes more) = absurd (let full = table-full (f .table) more in omega arith)
+        go (no less) = omega arith
 
-      apart : repeatedIn nothingSeen (allListed (found .lists)) ≡ false
-      apart = found .repeats ∙ once
+    pub lists-fit : ItemsFit items k
+    lists-fit = front-fit (table-reaches (f .table)) (table-all (f .table) few) (listed-below (f .lists) (f .are))
 
-      size : length (listedFrom 0 (found .lists)) ≡ length (entriesIn (found .lists))
-      size = sorted-length (found .lists) are apart
+    -- there is room for them in the other slice
+    pub lists-room : (spare : List ℕ) → RoomFor (length bytes) spare → k ≤ length spare
+    lists-room spare room = room k (omega arith) (f .short)
 
-      -- over 255 entries, as the table counts them and as they are
-      full : 255 < x .entries .count → 255 < length (entriesIn (found .lists))
-      full over = go (decLt 255 (length (entriesIn (found .lists))))
-        where
-          go : Dec (255 < length (entriesIn (found .lists))) → 255 < length (entriesIn (found .lists))
-          go (yes more) = more
-          go (no less) =
-              let same = size in
-              let count = ap (λ (t : Entries). t .count) (found .table) ∙ table-count (listedFrom 0 (found .lists)) (omega arith) in
-              absurd (omega arith)
+    module _ (sorted : List ℕ) {rise : Bool} (sorted-is : take k sorted ≡ byAttribute (take k items)) (rise-is : rise ≡ ascending (take k sorted)) where
+      sorted-listed : take k sorted ≡ byAttribute (listedFrom 0 (f .lists))
+      sorted-listed = sorted-is ∙ ap byAttribute (table-all (f .table) few)
 
-      fitting : x .entries .count ≤ 255 → length (entriesIn (found .lists)) ≤ 255
-      fitting under = go (decLt 255 (length (entriesIn (found .lists))))
-        where
-          go : Dec (255 < length (entriesIn (found .lists))) → length (entriesIn (found .lists)) ≤ 255
-          go (yes more) =
-              let same = size in
-              let count = ap (λ (t : Entries). t .count) (found .table) in
-              let over = table-full (listedFrom 0 (found .lists)) (omega arith) in
-              absurd (omega arith)
-          go (no less) = omega arith
+      rises-as : ascending (byAttribute (listedFrom 0 (f .lists))) ≡ rise
+      rises-as = ap ascending (sym sorted-listed) ∙ sym rise-is
 
-      pub lists-over : 255 < x .entries .count → refusedInstantiation TooManyAttributes ≡ instantiationReading bytes
-      unfolding instantiationReading
-      lists-over over = sym (rw (le-ltb (length bytes) 47 enough, found .read, apart, lt-ltb 255 (length (entriesIn (found .lists))) (full over)))
+      pub falls : rise ≡ false → refusedInstantiation RepeatedAttribute ≡ instantiationReading bytes
+      falls t = repeated (falling-repeated (f .lists) (f .are) (rises-as ∙ t))
 
-      module _ (under : x .entries .count ≤ 255) where
-        pub lists-fit : ItemsFit (x .entries .items) (x .entries .count)
-        lists-fit = rw (ap (λ (t : Entries). t .items) (found .table)) (table-fit (listedFrom 0 (found .lists)) (x .entries .count) (omega arith) (listed-distinct (found .lists) are apart .below))
+      module _ (t : rise ≡ true) where
+        once : repeatedIn nothingSeen (allListed (f .lists)) ≡ false
+        once = rising-apart (f .lists) (f .are) (rises-as ∙ t)
 
-        -- sorting the listed entries gives the table
-        sorted-is : take (x .entries .count) (x .entries .items) ≡ listedFrom 0 (found .lists)
-        sorted-is =
-            let same = size in
-            let fits = fitting under in
-            let count = ap (λ (t : Entries). t .count) (found .table) ∙ table-count (listedFrom 0 (found .lists)) (omega arith) in
-            ap (λ (t : Entries). take (x .entries .count) (t .items)) (found .table) ∙ table-all (listedFrom 0 (found .lists)) (x .entries .count) (sym count) under
+        entries : take k sorted ≡ entriesIn (f .lists)
+        entries = sorted-listed ∙ sorted-lists (f .lists) (f .are) once
 
-        pub lists-sorted : {subsets : List ℕ} {entries : Entries} → subsets ≡ subsetsOf bytes → entries ≡ tableOf (byAttribute (take (x .entries .count) (x .entries .items))) → record { judgement = Read; subsets = subsets; entries = entries } ≡ instantiationReading bytes
+        count : k ≡ length (entriesIn (f .lists))
+        count = table-count (f .table) few ∙ sorted-length (f .lists) (f .are) once
+
+        reading : record { judgement = Read; subsets = subsetsOf bytes; entries = entriesIn (f .lists) } ≡ instantiationReading bytes
         unfolding instantiationReading
-        lists-sorted subsets-are entries-are =
-            ap₂ (λ (s : List ℕ) (t : Entries). record { judgement = Read; subsets = s; entries = t }) subsets-are
-            (entries-are ∙ ap (λ (l : List ℕ). tableOf (byAttribute l)) sorted-is ∙ ap tableOf (sorted-lists (found .lists) are apart))
-            ∙ sym (rw (le-ltb (length bytes) 47 enough, found .read, apart, le-ltb 255 (length (entriesIn (found .lists))) (fitting under)))
+        reading =
+            let size = count in
+            sym (rw (le-ltb (length bytes) 47 (f .long), f .read, once, le-ltb 255 (length (entriesIn (f .lists))) (omega arith)))
+
+        pub lists-read-all : {subsets : List ℕ} → subsets ≡ subsetsOf bytes → (record { judgement = Read; subsets = subsets; count = k } ≡ readingOf (instantiationReading bytes)) × EntriesStand Read (instantiationReading bytes .entries) sorted
+        unfolding readingOf
+        lists-read-all subsets-are =
+            let stands = subst (λ (n : ℕ). take n sorted ≡ entriesIn (f .lists)) count entries in
+            (ap₂ (λ (l : List ℕ) (n : ℕ). record { judgement = Read; subsets = l; count = n }) subsets-are count ∙ ap readingOf reading, λ said. subst (λ (i : Instantiation). take (length (i .entries)) sorted ≡ i .entries) reading stands)

@@ -1,20 +1,22 @@
--- How the list of a subset is written along its chain: n attributes are written, and what is left comes from entry i on.
-use Prim.Native.Nat.{ℕ, zero, suc, _+_, _*_, _/_, _%_, _≤_, _<_}
+-- How the list of a subset is written from entries that are sorted by subset: the attributes of the entries from i to j are written.
+use Prim.Native.Nat.{ℕ, zero, suc, _+_, _-_, _*_, _/_, _%_, _≤_, _<_}
 use mathlib.Core.Path.{_≡_, refl, sym, ap, _∙_}
-use mathlib.Core.Bool.{true}
 use mathlib.Core.List.{List, [], _∷_}
+use mathlib.Core.Logic.{_⊎_, inl, inr}
+use native.Mathlib.Nat.{sub-self}
 use native.Mathlib.Numerals.{add-one}
 use native.Mathlib.Omega.{arith}
-use lib.ListN.{length, getD, set, take, drop, length-set, length-drop}
-use lib.Seq.{ext-getD, getD-set-same, getD-set-other, length-take-le}
+use borrow.Author.Tests.{eq-eqb}
+use lib.ListN.{length, getD, set, take, drop, length-set, length-drop, drop-of-length-le}
+use lib.Seq.{drop-cons, getD-take, getD-set-same, getD-set-other, length-take-le}
 use Rattle.bits.specs.Part.{at-head}
-use Rattle.bits.specs.Tab.{over, over-none, over-is}
+use Rattle.bits.specs.Tab.{over, over-is}
 use Rattle.bits.specs.Written.{Written, written-more}
-use Rattle.entry_sorting.specs.Chains.{hasDigit, Chained}
-use Rattle.entry_sorting.specs.ChainLaws.{next-is, link-next}
+use Rattle.membership.specs.Entries.{attributeOf, subsetOf}
+use Rattle.entry_sorting.specs.SortedLaws.{RisingSubsets}
 use Rattle.instantiation.specs.Instantiation.{withSubset, wordBytes, listBytes}
 use Rattle.instantiation.specs.ListBytes.{word-low, word-high, bytes-length}
-use Rattle.instantiation.specs.ChainLaws.{subset-here, subset-next, subset-end}
+use Rattle.instantiation.specs.Runs.{listAt, BySubset, run-none, run-from, list-some}
 use Rattle.instantiation.specs.SubsetLaws.{subset-few}
 
 -- ---- the bytes of a list
@@ -46,14 +48,6 @@ written-word v l old out n a fits is w =
     let low = rw next at (written-more (listByte v l) (n * 2 + 1) old out (a % 256) (omega arith) w (ap (λ (x : ℕ). x % 256) is ∙ sym (byte-low v l n))) in
     rw end (written-more (listByte v l) (n * 2 + 2) old (set out (n * 2 + 1) (a % 256)) (a / 256) (omega arith) low (ap (λ (x : ℕ). x / 256) is ∙ sym (byte-high v l n)))
 
-written-empty : (l old out : List ℕ) → length l ≡ 0 → Written (listByte (getD old 0 0) l) 1 old out → (0 ≡ length (listBytes l)) × (out ≡ over (listBytes l) old)
-written-empty [] old out none w = (refl, ext-getD 0 out old (w .size) (λ i h. each i) ∙ sym (over-none old))
-  where
-    each : (i : ℕ) → getD out i 0 ≡ getD old i 0
-    each zero = w .front 0 (omega arith)
-    each (suc i) = w .back (suc i) (omega arith)
-written-empty (a ∷ l) old out none w = absurd (omega arith)
-
 written-whole : (l old out : List ℕ) → 1 ≤ length l → length (listBytes l) ≤ length old → Written (listByte (getD old 0 0) l) (length l * 2 + 1) old out → set out 0 (length l) ≡ over (listBytes l) old
 written-whole [] old out some fits w = absurd (omega arith)
 written-whole (a ∷ l) old out some fits w =
@@ -68,92 +62,126 @@ written-whole (a ∷ l) old out some fits w =
 
 -- ---- the loop
 
-pub record Following (s : ℕ) (items : List ℕ) (count : ℕ) (old out : List ℕ) (n i : ℕ) : Type 0 where
-  pub most : n ≤ 255
-  pub reached : n ≤ length (withSubset s (take count items))
-  pub upTo : i ≤ count
-  pub has : i < count → hasDigit 1 items s i ≡ true
-  pub rest : drop n (withSubset s (take count items)) ≡ withSubset s (drop i (take count items))
-  pub written : Written (listByte (getD old 0 0) (withSubset s (take count items))) (n * 2 + 1) old out
+pub record Following (es : List ℕ) (i : ℕ) (old out : List ℕ) (j : ℕ) : Type 0 where
+  pub from : i ≤ j
+  pub upTo : j ≤ length es
+  pub reached : j - i ≤ length (listAt es i)
+  pub rising : RisingSubsets (subsetOf (getD es i 0)) (drop j es)
+  pub rest : drop (j - i) (listAt es i) ≡ withSubset (subsetOf (getD es i 0)) (drop j es)
+  pub written : Written (listByte (getD old 0 0) (listAt es i)) ((j - i) * 2 + 1) old out
 
-module _ {items : List ℕ} {count : ℕ} {first next : List ℕ} (chained : Chained 1 items count first next 0) where
-  list-few : (s : ℕ) → length (withSubset s (take count items)) ≤ 255
-  list-few s =
-      let few = chained .few in
-      let least = subset-few s (take count items) in
-      let taken = length-take-le count items (chained .fit .enough) in
+module _ (sorted : List ℕ) (count : ℕ) (by : BySubset sorted count) (i : ℕ) (inside : i < count) where
+  all : length (take count sorted) ≡ count
+  all = length-take-le count sorted (by .fit .enough)
+
+  -- entry j of the slice
+  entry-is : (j : ℕ) → j < count → getD (take count sorted) j 0 ≡ getD sorted j 0
+  entry-is j h = getD-take count sorted j 0 h
+
+  pub follow-first : (old : List ℕ) → Following (take count sorted) i old old i
+  follow-first old =
+      let size = all in
+      record {
+        from = omega arith;
+        upTo = omega arith;
+        reached = omega arith;
+        rising = run-from 0 (take count sorted) i (by .rising) (omega arith);
+        rest = rw (sub-self i);
+        written = rw (sub-self i) (unwritten (listAt (take count sorted) i) old);
+      }
+
+  -- the list is short
+  list-few : length (listAt (take count sorted) i) ≤ 255
+  list-few =
+      let few = by .few in
+      let least = subset-few (subsetOf (getD (take count sorted) i 0)) (drop i (take count sorted)) in
+      let left = length-drop i (take count sorted) in
+      let size = all in
       omega arith
 
-  pub follow-first : {s : ℕ} {old : List ℕ} → s < 256 → Following s items count old old 0 (getD first s 0)
-  follow-first {s} {old} small =
-      let is = next-is 1 items count s 0 (omega arith) in
-      rw (chained .start s small)
-      (record {
-        most = omega arith;
-        reached = omega arith;
-        upTo = is .upTo;
-        has = is .has;
-        rest = subset-next items count (chained .fit) s 0 (omega arith);
-        written = unwritten (withSubset s (take count items)) old;
-      })
+  some : 1 ≤ length (listAt (take count sorted) i)
+  some = let size = all in list-some (take count sorted) i (omega arith)
 
-  module _ {s : ℕ} {old out : List ℕ} {n i : ℕ} (h : Following s items count old out n i) where
-    module _ (inside : i < count) where
-      -- the next entry is a later one
-      pub follow-later : i < getD next i 0
-      follow-later =
-          let is = next-is 1 items count s (i + 1) (omega arith) .from in
-          let link = link-next chained s i inside (h .has inside) in
-          omega arith
+  module _ {old out : List ℕ} {j : ℕ} (fits : length (listBytes (listAt (take count sorted) i)) ≤ length old) (h : Following (take count sorted) i old out j) where
+    pub follow-bounds : (i ≤ j) × (j ≤ count) × (j - i ≤ 255) × (length out ≡ length old)
+    follow-bounds = let size = all in let upTo = h .upTo in let few = list-few in let reached = h .reached in (h .from, omega arith, omega arith, h .written .size)
 
-      -- an attribute is left
-      follow-left : n < length (withSubset s (take count items))
-      follow-left = at-head (withSubset s (take count items)) n 0 _ _ (h .rest ∙ subset-here items count (chained .fit) s i inside (h .has inside)) .below
+    module _ (more : j < count) where
+      split : drop j (take count sorted) ≡ getD (take count sorted) j 0 ∷ drop (suc j) (take count sorted)
+      split = let size = all in drop-cons (take count sorted) j 0 (omega arith)
 
-      -- there is room for it
-      pub follow-room : length (listBytes (withSubset s (take count items))) ≤ length old → n * 2 + 3 ≤ length out
-      follow-room fits =
-          let left = follow-left in
-          let size = h .written .size in
-          let long = bytes-length (withSubset s (take count items)) (omega arith) in
-          omega arith
+      module _ (same : getD sorted j 0 % 256 ≡ getD sorted i 0 % 256) where
+        subset-same : subsetOf (getD (take count sorted) j 0) ≡ subsetOf (getD (take count sorted) i 0)
+        subset-same = ap subsetOf (entry-is j more) ∙ same ∙ sym (ap subsetOf (entry-is i inside))
 
-      pub follow-next : length (listBytes (withSubset s (take count items))) ≤ length old → Following s items count old (set (set out (n * 2 + 1) (getD items i 0 / 256 % 256)) (n * 2 + 2) (getD items i 0 / 256 / 256)) (n + 1) (getD next i 0)
-      follow-next fits =
-          let here = at-head (withSubset s (take count items)) n 0 _ _ (h .rest ∙ subset-here items count (chained .fit) s i inside (h .has inside)) in
-          let is = next-is 1 items count s (i + 1) (omega arith) in
-          let below = here .below in
-          rw (link-next chained s i inside (h .has inside))
-          (record {
-            most = let few = list-few s in omega arith;
-            reached = omega arith;
-            upTo = is .upTo;
-            has = is .has;
-            rest = rw (add-one n) (here .rest ∙ ap (λ (k : ℕ). withSubset s (drop k (take count items))) (sym (add-one i)) ∙ subset-next items count (chained .fit) s (i + 1) (omega arith));
-            written = written-word (getD old 0 0) (withSubset s (take count items)) old out n (getD items i 0 / 256) (follow-room fits) (sym (here .here)) (h .written);
-          })
+        -- the entry gives an attribute
+        here : withSubset (subsetOf (getD (take count sorted) i 0)) (drop j (take count sorted)) ≡ attributeOf (getD (take count sorted) j 0) ∷ withSubset (subsetOf (getD (take count sorted) i 0)) (drop (suc j) (take count sorted))
+        here =
+            ap (withSubset (subsetOf (getD (take count sorted) i 0))) split
+            ∙ rw (eq-eqb (subsetOf (getD (take count sorted) j 0)) (subsetOf (getD (take count sorted) i 0)) subset-same)
 
-    module _ (past : count ≤ i) where
-      follow-all : n ≡ length (withSubset s (take count items))
-      follow-all =
-          let fewer = h .reached in
-          let none = ap length (h .rest ∙ subset-end items count (chained .fit) s i past) in
-          let left = length-drop n (withSubset s (take count items)) in
-          omega arith
+        -- there is room for it
+        pub follow-room : (j - i) * 2 + 3 ≤ length out
+        follow-room =
+            let below = at-head (listAt (take count sorted) i) (j - i) 0 _ _ (h .rest ∙ here) .below in
+            let size = h .written .size in
+            let long = bytes-length (listAt (take count sorted) i) some in
+            omega arith
 
-      pub follow-empty : n ≡ 0 → (0 ≡ length (listBytes (withSubset s (take count items)))) × (out ≡ over (listBytes (withSubset s (take count items))) old)
-      follow-empty none = written-empty (withSubset s (take count items)) old out (sym follow-all ∙ none) (rw none at (h .written))
+        pub follow-next : Following (take count sorted) i old (set (set out ((j - i) * 2 + 1) (getD sorted j 0 / 256 % 256)) ((j - i) * 2 + 2) (getD sorted j 0 / 256 / 256)) (j + 1)
+        follow-next =
+            let from = h .from in
+            let size = all in
+            let next : j + 1 - i ≡ suc (j - i) = omega arith in
+            let place : j + 1 - i ≡ j - i + 1 = omega arith in
+            let head = at-head (listAt (take count sorted) i) (j - i) 0 _ _ (h .rest ∙ here) in
+            record {
+              from = omega arith;
+              upTo = omega arith;
+              reached = let below = head .below in omega arith;
+              rising = rw (add-one j) (rw subset-same at ((rw split at (h .rising)) .1));
+              rest = rw (next, add-one j) (head .rest);
+              written =
+                  rw place
+                  (written-word (getD old 0 0) (listAt (take count sorted) i) old out (j - i) (getD sorted j 0 / 256) follow-room
+                  (sym (head .here ∙ ap attributeOf (entry-is j more))) (h .written));
+            }
 
-      -- there is room for the count of a list that is not empty
-      pub follow-front : (n ≡ 0 → ⊥) → length (listBytes (withSubset s (take count items))) ≤ length old → 0 < length out
-      follow-front some fits =
-          let all = follow-all in
-          let size = h .written .size in
-          let long = bytes-length (withSubset s (take count items)) (omega arith) in
-          omega arith
+    -- ---- the end
 
-      pub follow-whole : (n ≡ 0 → ⊥) → length (listBytes (withSubset s (take count items))) ≤ length old → (n * 2 + 1 ≡ length (listBytes (withSubset s (take count items)))) × (set out 0 n ≡ over (listBytes (withSubset s (take count items))) old)
-      follow-whole some fits =
-          let all = follow-all in
-          let long = bytes-length (withSubset s (take count items)) (omega arith) in
-          (omega arith, rw all (written-whole (withSubset s (take count items)) old out (omega arith) fits (rw all at (h .written))))
+    -- no entry is left, or the next has another subset
+    abbrev pub Ends : Type 0
+    Ends = (count ≤ j) ⊎ ((j < count) × (getD sorted j 0 % 256 ≡ getD sorted i 0 % 256 → ⊥))
+
+    none-left : Ends → withSubset (subsetOf (getD (take count sorted) i 0)) (drop j (take count sorted)) ≡ []
+    none-left (inl past) = let size = all in ap (withSubset (subsetOf (getD (take count sorted) i 0))) (drop-of-length-le (take count sorted) {i = j} (omega arith))
+    none-left (inr other) =
+        let more = other .0 in
+        let one = ap subsetOf (entry-is j more) in
+        let two = ap subsetOf (entry-is i inside) in
+        let apart : subsetOf (getD (take count sorted) j 0) ≡ subsetOf (getD (take count sorted) i 0) → ⊥ = λ k. other .1 (sym one ∙ k ∙ two) in
+        let rises = rw (split more) at (h .rising) in
+        let first = rises .0 in
+        ap (withSubset (subsetOf (getD (take count sorted) i 0))) (split more)
+        ∙ run-none (subsetOf (getD (take count sorted) i 0)) (subsetOf (getD (take count sorted) j 0)) (getD (take count sorted) j 0 ∷ drop (suc j) (take count sorted)) (omega arith, rises .1) (omega arith)
+
+    follow-all : Ends → j - i ≡ length (listAt (take count sorted) i)
+    follow-all ends =
+        let fewer = h .reached in
+        let none = ap length (h .rest ∙ none-left ends) in
+        let left = length-drop (j - i) (listAt (take count sorted) i) in
+        omega arith
+
+    -- there is room for the count
+    pub follow-front : 0 < length out
+    follow-front =
+        let size = h .written .size in
+        let least = some in
+        let long = bytes-length (listAt (take count sorted) i) some in
+        omega arith
+
+    pub follow-whole : Ends → (j ≡ i + length (listAt (take count sorted) i)) × (set out 0 (j - i) ≡ over (listBytes (listAt (take count sorted) i)) old)
+    follow-whole ends =
+        let all = follow-all ends in
+        let from = h .from in
+        (omega arith, rw all (written-whole (listAt (take count sorted) i) old out some fits (rw all at (h .written))))

@@ -1,8 +1,11 @@
 mod Append
+mod Bits
 mod Finish
+mod Following
 mod Marking
 mod More
-mod Resume
-mod Following
 mod Prefix
+mod Repeats
+mod Resume
+mod Walk
 mod Whole

@@ -1,88 +1,108 @@
--- The lists of the subsets before s, written to the front of a slice: one list more, and all of them.
-use Prim.Native.Nat.{ℕ, _+_, _-_, _≤_, _<_}
-use mathlib.Core.Path.{_≡_, sym, ap, _∙_}
-use mathlib.Core.List.{List, [], _∷_, _++_, append-assoc, append-nil}
+-- The lists of entries that are sorted by subset, written to the front of a slice: those of the entries before i are written.
+use Prim.Native.Nat.{ℕ, _+_, _-_, _*_, _≤_, _<_}
+use mathlib.Core.Path.{_≡_, refl, sym, ap, _∙_}
+use mathlib.Core.List.{List, [], _++_, append-assoc, append-nil}
 use native.Mathlib.Nat.{le-refl}
-use native.Mathlib.Numerals.{add-one}
 use native.Mathlib.Omega.{arith}
 use borrow.Rule.Slice.PartMut.{putMid, midOf, mid-len}
-use lib.ListN.{length, take, length-append}
+use lib.ListN.{length, getD, take, drop, length-append, length-drop, drop-of-length-le}
 use lib.Seq.{length-take-le}
 use Rattle.bits.specs.Part.{over-more}
-use Rattle.bits.specs.Tab.{tab, tab-none, tab-more, over, over-none, over-length}
-use Rattle.entry_sorting.specs.Chains.{Chained}
-use Rattle.instantiation.specs.Instantiation.{withSubset, listsOf, listBytes, listsBytes}
-use Rattle.instantiation.specs.SubsetLaws.{lists-few}
+use Rattle.bits.specs.Tab.{over, over-none, over-length}
+use Rattle.membership.specs.Entries.{subsetOf}
+use Rattle.instantiation.specs.Instantiation.{listsOf, listBytes, listsBytes}
+use Rattle.instantiation.specs.EntriesLaws.{lists-most}
+use Rattle.instantiation.specs.ListBytes.{bytes-length}
+use Rattle.instantiation.specs.Runs.{listAt, BySubset, list-some, lists-run, lists-none}
+use Rattle.instantiation.specs.SubsetLaws.{subset-few}
 
--- ---- one more
-
-bytes-more : (ls : List (List ℕ)) (l : List ℕ) → listsBytes (ls ++ (l ∷ [])) ≡ listsBytes ls ++ listBytes l
-bytes-more [] l = append-nil (listBytes l)
-bytes-more (m ∷ ls) l = ap (λ (b : List ℕ). listBytes m ++ b) (bytes-more ls l) ∙ sym (append-assoc (listBytes m) (listsBytes ls) (listBytes l))
-
--- the bytes of the lists before s
-abbrev bytesTo : ℕ → List ℕ → List ℕ
-bytesTo s es = listsBytes (tab s (λ x. withSubset x es))
-
-prefix-more : (es : List ℕ) (s : ℕ) → bytesTo (s + 1) es ≡ bytesTo s es ++ listBytes (withSubset s es)
-prefix-more es s = rw (add-one s) (ap listsBytes (tab-more s (λ x. withSubset x es)) ∙ bytes-more (tab s (λ x. withSubset x es)) (withSubset s es))
-
--- ---- the loop
-
-pub record Prefix (es old out : List ℕ) (at s : ℕ) : Type 0 where
-  pub upTo : s ≤ 256
-  pub size : at ≡ length (bytesTo s es)
-  pub written : out ≡ over (bytesTo s es) old
+pub record Prefix (es old out : List ℕ) (at i : ℕ) : Type 0 where
+  -- what is written
+  pub front : List ℕ
+  pub upTo : i ≤ length es
+  pub size : at ≡ length front
+  pub written : out ≡ over front old
+  pub whole : front ++ listsBytes (listsOf (drop i es)) ≡ listsBytes (listsOf es)
 
 pub prefix-first : (es old : List ℕ) → Prefix es old old 0 0
-prefix-first es old =
-    let none = tab-none (λ x. withSubset x es) in
-    record {
-      upTo = omega arith;
-      size = sym (ap (λ (ls : List (List ℕ)). length (listsBytes ls)) none);
-      written = sym (ap (λ (ls : List (List ℕ)). over (listsBytes ls) old) none ∙ over-none old);
-    }
+prefix-first es old = record { front = []; upTo = omega arith; size = refl; written = sym (over-none old); whole = refl }
 
-module _ {items : List ℕ} {count : ℕ} {first next old out : List ℕ} {at s : ℕ} (chained : Chained 1 items count first next 0) (fits : 765 ≤ length old) (h : Prefix (take count items) old out at s) where
-  few : (n : ℕ) → length (bytesTo n (take count items)) ≤ 765
-  few n =
-      let most = lists-few n (take count items) in
-      let taken = length-take-le count items (chained .fit .enough) in
-      let least = chained .few in
+module _ (sorted : List ℕ) (count : ℕ) (by : BySubset sorted count) {old out : List ℕ} {at i : ℕ} (fits : 765 ≤ length old) (h : Prefix (take count sorted) old out at i) where
+  all : length (take count sorted) ≡ count
+  all = length-take-le count sorted (by .fit .enough)
+
+  -- where the lists end
+  few : length (h .front) + length (listsBytes (listsOf (drop i (take count sorted)))) ≤ 765
+  few =
+      let most = lists-most (take count sorted) in
+      let parts = sym (length-append (h .front) (listsBytes (listsOf (drop i (take count sorted))))) ∙ ap length (h .whole) in
+      let size = all in
+      let least = by .few in
       omega arith
 
   pub same-size : length out ≡ length old
-  same-size = let most = few s in ap length (h .written) ∙ over-length (bytesTo s (take count items)) old (omega arith)
+  same-size = let most = few in ap length (h .written) ∙ over-length (h .front) old (omega arith)
 
-  -- where the list of s ends
-  pub reach : at + length (listBytes (withSubset s (take count items))) ≤ 765
-  reach =
-      let most = few (s + 1) in
-      let more = ap length (prefix-more (take count items) s) ∙ length-append (bytesTo s (take count items)) (listBytes (withSubset s (take count items))) in
-      let size = h .size in
-      omega arith
+  pub prefix-at : at ≤ length out
+  prefix-at = let most = few in let size = h .size in let same = same-size in omega arith
 
-  -- there is room for it
-  pub room : at + length (listBytes (withSubset s (take count items))) ≤ length out
-  room = let end = reach in let same = same-size in omega arith
+  module _ (inside : i < count) where
+    run : listsBytes (listsOf (drop i (take count sorted))) ≡ listBytes (listAt (take count sorted) i) ++ listsBytes (listsOf (drop (i + length (listAt (take count sorted) i)) (take count sorted)))
+    run = let size = all in lists-run (take count sorted) i (by .rising) (omega arith)
 
-  pub part-room : length (listBytes (withSubset s (take count items))) ≤ length (midOf at (length out - at) out)
-  part-room = let space = room in let part = mid-len at (length out) out (le-refl (length out)) in omega arith
+    -- where the next list ends
+    pub reach : at + length (listBytes (listAt (take count sorted) i)) ≤ 765
+    reach =
+        let most = few in
+        let parts = ap length run ∙ length-append (listBytes (listAt (take count sorted) i)) (listsBytes (listsOf (drop (i + length (listAt (take count sorted) i)) (take count sorted)))) in
+        let size = h .size in
+        omega arith
 
-  pub prefix-next : {size : ℕ} {part : List ℕ} → s < 256 → size ≡ length (listBytes (withSubset s (take count items))) → part ≡ over (listBytes (withSubset s (take count items))) (midOf at (length out - at) out) → Prefix (take count items) old (putMid at (length out - at) out part) (at + size) (s + 1)
-  prefix-next more size-is part-is =
-      let before = h .size in
-      let whole = length-append (bytesTo s (take count items)) (listBytes (withSubset s (take count items))) in
-      record {
-        upTo = omega arith;
-        size = rw prefix-more (omega arith);
-        written = rw (part-is, prefix-more (take count items) s, h .size) (over-more (bytesTo s (take count items)) (listBytes (withSubset s (take count items))) old out (h .written));
-      }
+    pub list-positive : 1 ≤ length (listAt (take count sorted) i)
+    list-positive = let size = all in list-some (take count sorted) i (omega arith)
+
+    pub list-size : length (listBytes (listAt (take count sorted) i)) ≡ length (listAt (take count sorted) i) * 2 + 1
+    list-size = bytes-length (listAt (take count sorted) i) list-positive
+
+    -- there is room for it
+    pub part-room : length (listBytes (listAt (take count sorted) i)) ≤ length (midOf at (length out - at) out)
+    part-room =
+        let end = reach in
+        let same = same-size in
+        let part = mid-len at (length out) out (le-refl (length out)) in
+        omega arith
+
+    -- it ends within the entries
+    pub list-upTo : i + length (listAt (take count sorted) i) ≤ count
+    list-upTo =
+        let least = subset-few (subsetOf (getD (take count sorted) i 0)) (drop i (take count sorted)) in
+        let left = length-drop i (take count sorted) in
+        let size = all in
+        omega arith
+
+    pub prefix-next : {j : ℕ} {part : List ℕ} → j ≡ i + length (listAt (take count sorted) i) → part ≡ over (listBytes (listAt (take count sorted) i)) (midOf at (length out - at) out) → Prefix (take count sorted) old (putMid at (length out - at) out part) (at + ((j - i) * 2 + 1)) j
+    prefix-next {j} {part} j-is part-is =
+        let size = h .size in
+        let long = list-size in
+        let both = length-append (h .front) (listBytes (listAt (take count sorted) i)) in
+        let end = list-upTo in
+        let whole = all in
+        record {
+          front = h .front ++ listBytes (listAt (take count sorted) i);
+          upTo = omega arith;
+          size = omega arith;
+          written = rw (part-is, h .size) (over-more (h .front) (listBytes (listAt (take count sorted) i)) old out (h .written));
+          whole =
+              rw j-is
+              (append-assoc (h .front) (listBytes (listAt (take count sorted) i)) (listsBytes (listsOf (drop (i + length (listAt (take count sorted) i)) (take count sorted))))
+              ∙ ap (λ (l : List ℕ). h .front ++ l) (sym run)
+              ∙ h .whole);
+        }
 
   -- all lists
-  pub prefix-end : 256 ≤ s → (at ≡ length (listsBytes (listsOf (take count items)))) × (out ≡ over (listsBytes (listsOf (take count items))) old)
-  unfolding listsOf
+  pub prefix-end : count ≤ i → (at ≡ length (listsBytes (listsOf (take count sorted)))) × (out ≡ over (listsBytes (listsOf (take count sorted))) old)
   prefix-end last =
-      let upTo = h .upTo in
-      let all : s ≡ 256 = omega arith in
-      (h .size ∙ ap (λ (n : ℕ). length (bytesTo n (take count items))) all, h .written ∙ ap (λ (n : ℕ). over (bytesTo n (take count items)) old) all)
+      let size = all in
+      let none = ap (λ (l : List ℕ). listsBytes (listsOf l)) (drop-of-length-le (take count sorted) {i = i} (omega arith)) ∙ lists-none in
+      let whole : h .front ≡ listsBytes (listsOf (take count sorted)) = sym (append-nil (h .front)) ∙ ap (λ (l : List ℕ). h .front ++ l) (sym none) ∙ h .whole in
+      (h .size ∙ ap length whole, h .written ∙ ap (λ (l : List ℕ). over l old) whole)

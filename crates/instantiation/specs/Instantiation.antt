@@ -1,5 +1,5 @@
 -- Instantiations: "15 bytes, the subset given to attributes 1 to 15; then a bit map of 32 bytes over s; then, for each standing bit in rising order, a count byte (1 to 255) and ordinary attributes, as above. No attribute is in two lists; there are at most 255 in all." (document 01)
-use Prim.Native.Nat.{ℕ, zero, suc, _+_, _-_, _*_, _/_, _%_, _≤_, _<_}
+use Prim.Native.Nat.{ℕ, zero, suc, _+_, _-_, _*_, _/_, _%_, _≤_}
 use mathlib.Core.Path.{_≡_}
 use mathlib.Core.Bool.{Bool, true, false, cond, not}
 use mathlib.Core.List.{List, [], _∷_, _++_}
@@ -13,9 +13,11 @@ use Rattle.refusal.specs.declared.Refusal.the-variants.{InputTruncated, InputFo
 use Rattle.type_record.specs.declared.lists.ListReading.{ListReading}
 use Rattle.type_record.specs.declared.lists.ListReading.the-variants.{Listed, Refused as ListRefused}
 use Rattle.type_record.specs.Lists.{readList, listed}
-use Rattle.membership.specs.Entries.{attributeOf, subsetOf, enter, tableOf}
+use Rattle.membership.specs.Entries.{attributeOf, subsetOf, enter}
+use Rattle.membership.specs.Holders.{ItemsFit}
+use Rattle.schema.specs.declared.reading.Judgement.{Judgement}
 use Rattle.schema.specs.declared.reading.Judgement.the-variants.{Read, Refused}
-use Rattle.instantiation.specs.declared.reading.Instantiation.{Instantiation}
+use Rattle.instantiation.specs.declared.reading.InstantiationReading.{InstantiationReading}
 use Rattle.instantiation.specs.Seen.{nothingSeen, repeatedIn}
 
 -- ---- the lists
@@ -69,8 +71,15 @@ subsetsOf bytes = tab 16 (λ i. cond (eqb i 0) 0 (getD bytes (i - 1) 0))
 
 -- ---- reading
 
+-- what the bytes of an instantiation say: whether it is refused, and if not its membership table
+pub record Instantiation : Type 0 where
+  pub judgement : Judgement
+  -- the subset given to each special attribute, by its number
+  pub subsets : List ℕ
+  pub entries : List ℕ
+
 unfoldable pub refusedInstantiation : Refusal → Instantiation
-refusedInstantiation r = record { judgement = Refused r; subsets = tab 16 (λ i. 0); entries = tableOf [] }
+refusedInstantiation r = record { judgement = Refused r; subsets = tab 16 (λ i. 0); entries = [] }
 
 -- "17; 19; 18"
 abbrev pub tabled : Lists → List ℕ → Instantiation
@@ -78,11 +87,15 @@ tabled (listsRefused r) bytes = refusedInstantiation r
 tabled (listsRead ls) bytes =
     cond (repeatedIn nothingSeen (allListed ls)) (refusedInstantiation RepeatedAttribute)
     (cond (ltb 255 (length (entriesIn ls))) (refusedInstantiation TooManyAttributes)
-    (record { judgement = Read; subsets = subsetsOf bytes; entries = tableOf (entriesIn ls) }))
+    (record { judgement = Read; subsets = subsetsOf bytes; entries = entriesIn ls }))
 
 unfoldable pub instantiationReading : List ℕ → Instantiation
 instantiationReading bytes =
     cond (ltb (length bytes) 47) (refusedInstantiation InputTruncated) (tabled (readLists bytes 256 0 (drop 47 bytes)) bytes)
+
+-- the same as it is handed on, with the number of the entries
+unfoldable pub readingOf : Instantiation → InstantiationReading
+readingOf i = record { judgement = i .judgement; subsets = i .subsets; count = length (i .entries) }
 
 -- ---- writing
 
@@ -118,6 +131,5 @@ instantiationBytes subsets ls = tab 15 (λ i. getD subsets (i + 1) 0) ++ (tab 32
 -- what a table that is written must be: a subset for each special attribute, at most 255 entries below 2 ^ 24
 pub record WritesFrom (subsets items : List ℕ) (count : ℕ) : Type 0 where
   pub special : length subsets ≡ 16
-  pub size : length items ≡ 256
   pub few : count ≤ 255
-  pub below : (i : ℕ) → getD items i 0 < 16777216
+  pub fit : ItemsFit items count

@@ -10,8 +10,8 @@ pub mod Apart
 pub mod SubsetLaws
 pub mod Owners
 pub mod EntriesLaws
-pub mod ChainLaws
-pub mod MapLaws
+pub mod Runs
+pub mod SubsetBits
 pub mod TableLaws
 pub mod SortedLists
 pub mod ListZero

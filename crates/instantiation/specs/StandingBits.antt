@@ -10,13 +10,12 @@ use lib.ListN.{length, getD}
 use Rattle.bits.specs.Booleans.{clash}
 use Rattle.bits.specs.Word.{Bytes}
 use Rattle.membership.specs.Entries.{subsetOf}
-use Rattle.instantiation.specs.Instantiation.{standing, entriesIn, withSubset}
+use Rattle.instantiation.specs.Instantiation.{Instantiation, standing, entriesIn, withSubset}
 use Rattle.instantiation.specs.ListsLaws.{some, some-is}
 use Rattle.instantiation.specs.ReadLaws.{lists-read, lists-standing}
 use Rattle.instantiation.specs.EntriesLaws.{entries-lists, list-at}
 use Rattle.instantiation.specs.SubsetLaws.{subset-found, subset-some}
 use Rattle.instantiation.specs.TableLaws.{ReadInstantiation}
-use Rattle.instantiation.specs.declared.reading.Instantiation.{Instantiation}
 
 -- a list that is not empty, by the test
 long-enough : (l : List ℕ) → some l ≡ true → 1 ≤ length l

@@ -1,30 +1,26 @@
 -- Laws of an instantiation that was read: its lists, and the table that is made of them.
 use Prim.Native.Nat.{ℕ, zero, suc, _+_, _-_, _*_, _≤_, _<_}
-use mathlib.Core.Path.{_≡_, refl, sym, ap, subst, _∙_}
+use mathlib.Core.Path.{_≡_, refl, sym, ap, subst}
 use mathlib.Core.Bool.{Bool, true, false, cond}
 use mathlib.Core.List.{List, [], _∷_}
 use native.Mathlib.Decide.{decLt}
 use native.Mathlib.Omega.{arith}
 use borrow.Author.Tests.{le-ltb, ltb-false}
 use lib.Dec.{eqb, ltb, lit<, lit≤}
-use lib.ListN.{length, getD, take, drop, List·getD-eq-default}
-use lib.Seq.{take-all}
+use lib.ListN.{length, getD, drop, List·getD-eq-default}
 use Rattle.bits.specs.Tab.{tab, length-tab, getD-tab}
 use Rattle.bits.specs.Word.{Bytes}
 use Rattle.refusal.specs.Number.{numberOf}
 use Rattle.refusal.specs.declared.Refusal.{Refusal}
 use Rattle.refusal.specs.declared.Refusal.the-variants.{InputTruncated, RepeatedAttribute, TooManyAttributes}
-use Rattle.membership.specs.Entries.{tableOf}
-use Rattle.membership.specs.TableLaws.{table-count, table-size, table-entries, table-item}
 use Rattle.type_record.specs.declared.lists.ListReading.{ListReading}
 use Rattle.type_record.specs.declared.lists.ListReading.the-variants.{Listed, Refused as ListRefused}
 use Rattle.type_record.specs.Lists.{readList, listed}
 use Rattle.type_record.specs.ListLaws.{list-number}
 use Rattle.schema.specs.declared.reading.Judgement.the-variants.{Read, Refused}
 use Rattle.instantiation.specs.Seen.{nothingSeen, repeatedIn}
-use Rattle.instantiation.specs.Instantiation.{Lists, listsRefused, listsRead, standing, precede, follow, readLists, entriesIn, allListed, subsetsOf, refusedInstantiation, tabled, instantiationReading}
+use Rattle.instantiation.specs.Instantiation.{Instantiation, Lists, listsRefused, listsRead, standing, precede, follow, readLists, entriesIn, allListed, subsetsOf, refusedInstantiation, tabled, instantiationReading}
 use Rattle.instantiation.specs.ReadStep.{read-clear, read-stands}
-use Rattle.instantiation.specs.declared.reading.Instantiation.{Instantiation}
 
 -- an instantiation that was read from these bytes, with its lists
 pub record ReadInstantiation (bytes : List ℕ) (i : Instantiation) (ls : List (List ℕ)) : Type 0 where
@@ -32,7 +28,7 @@ pub record ReadInstantiation (bytes : List ℕ) (i : Instantiation) (ls : List (
   pub read : readLists bytes 256 0 (drop 47 bytes) ≡ listsRead ls
   pub once : repeatedIn nothingSeen (allListed ls) ≡ false
   pub few : length (entriesIn ls) ≤ 255
-  pub is : i ≡ record { judgement = Read; subsets = subsetsOf bytes; entries = tableOf (entriesIn ls) }
+  pub is : i ≡ record { judgement = Read; subsets = subsetsOf bytes; entries = entriesIn ls }
 
 refused-not : (r : Refusal) → refusedInstantiation r .judgement ≡ Read → ⊥
 unfolding refusedInstantiation
@@ -42,11 +38,11 @@ pub instantiation-read : (bytes : List ℕ) → instantiationReading bytes .judg
 unfolding instantiationReading
 instantiation-read bytes e = long (ltb (length bytes) 47) refl e
   where
-    counted : (ls : List (List ℕ)) → 47 ≤ length bytes → readLists bytes 256 0 (drop 47 bytes) ≡ listsRead ls → repeatedIn nothingSeen (allListed ls) ≡ false → (t : Bool) → ltb 255 (length (entriesIn ls)) ≡ t → cond t (refusedInstantiation TooManyAttributes) (record { judgement = Read; subsets = subsetsOf bytes; entries = tableOf (entriesIn ls) }) .judgement ≡ Read → (us : List (List ℕ)) × ReadInstantiation bytes (cond t (refusedInstantiation TooManyAttributes) (record { judgement = Read; subsets = subsetsOf bytes; entries = tableOf (entriesIn ls) })) us
+    counted : (ls : List (List ℕ)) → 47 ≤ length bytes → readLists bytes 256 0 (drop 47 bytes) ≡ listsRead ls → repeatedIn nothingSeen (allListed ls) ≡ false → (t : Bool) → ltb 255 (length (entriesIn ls)) ≡ t → cond t (refusedInstantiation TooManyAttributes) (record { judgement = Read; subsets = subsetsOf bytes; entries = entriesIn ls }) .judgement ≡ Read → (us : List (List ℕ)) × ReadInstantiation bytes (cond t (refusedInstantiation TooManyAttributes) (record { judgement = Read; subsets = subsetsOf bytes; entries = entriesIn ls })) us
     counted ls enough read once true many said = absurd (refused-not TooManyAttributes said)
     counted ls enough read once false few said = (ls, record { long = enough; read = read; once = once; few = ltb-false 255 (length (entriesIn ls)) few; is = refl })
 
-    unrepeated : (ls : List (List ℕ)) → 47 ≤ length bytes → readLists bytes 256 0 (drop 47 bytes) ≡ listsRead ls → (t : Bool) → repeatedIn nothingSeen (allListed ls) ≡ t → cond t (refusedInstantiation RepeatedAttribute) (cond (ltb 255 (length (entriesIn ls))) (refusedInstantiation TooManyAttributes) (record { judgement = Read; subsets = subsetsOf bytes; entries = tableOf (entriesIn ls) })) .judgement ≡ Read → (us : List (List ℕ)) × ReadInstantiation bytes (cond t (refusedInstantiation RepeatedAttribute) (cond (ltb 255 (length (entriesIn ls))) (refusedInstantiation TooManyAttributes) (record { judgement = Read; subsets = subsetsOf bytes; entries = tableOf (entriesIn ls) }))) us
+    unrepeated : (ls : List (List ℕ)) → 47 ≤ length bytes → readLists bytes 256 0 (drop 47 bytes) ≡ listsRead ls → (t : Bool) → repeatedIn nothingSeen (allListed ls) ≡ t → cond t (refusedInstantiation RepeatedAttribute) (cond (ltb 255 (length (entriesIn ls))) (refusedInstantiation TooManyAttributes) (record { judgement = Read; subsets = subsetsOf bytes; entries = entriesIn ls })) .judgement ≡ Read → (us : List (List ℕ)) × ReadInstantiation bytes (cond t (refusedInstantiation RepeatedAttribute) (cond (ltb 255 (length (entriesIn ls))) (refusedInstantiation TooManyAttributes) (record { judgement = Read; subsets = subsetsOf bytes; entries = entriesIn ls }))) us
     unrepeated ls enough read true twice said = absurd (refused-not RepeatedAttribute said)
     unrepeated ls enough read false once said = counted ls enough read once (ltb 255 (length (entriesIn ls))) refl said
 
@@ -99,11 +95,11 @@ reading-number bytes r e = long (ltb (length bytes) 47) e
     number : (q : Refusal) → numberOf q ≤ 19 → refusedInstantiation q .judgement ≡ Refused r → numberOf r ≤ 19
     number q most said = rw (← refused-by q r said) most
 
-    counted : (ls : List (List ℕ)) (t : Bool) → cond t (refusedInstantiation TooManyAttributes) (record { judgement = Read; subsets = subsetsOf bytes; entries = tableOf (entriesIn ls) }) .judgement ≡ Refused r → numberOf r ≤ 19
+    counted : (ls : List (List ℕ)) (t : Bool) → cond t (refusedInstantiation TooManyAttributes) (record { judgement = Read; subsets = subsetsOf bytes; entries = entriesIn ls }) .judgement ≡ Refused r → numberOf r ≤ 19
     counted ls true said = number TooManyAttributes (lit≤ tt) said
     counted ls false said = absurd (let z : _≡_ {A = ℕ} 0 1 = cc in omega arith)
 
-    unrepeated : (ls : List (List ℕ)) (t : Bool) → cond t (refusedInstantiation RepeatedAttribute) (cond (ltb 255 (length (entriesIn ls))) (refusedInstantiation TooManyAttributes) (record { judgement = Read; subsets = subsetsOf bytes; entries = tableOf (entriesIn ls) })) .judgement ≡ Refused r → numberOf r ≤ 19
+    unrepeated : (ls : List (List ℕ)) (t : Bool) → cond t (refusedInstantiation RepeatedAttribute) (cond (ltb 255 (length (entriesIn ls))) (refusedInstantiation TooManyAttributes) (record { judgement = Read; subsets = subsetsOf bytes; entries = entriesIn ls })) .judgement ≡ Refused r → numberOf r ≤ 19
     unrepeated ls true said = number RepeatedAttribute (lit≤ tt) said
     unrepeated ls false said = counted ls (ltb 255 (length (entriesIn ls))) said
 
@@ -117,19 +113,8 @@ reading-number bytes r e = long (ltb (length bytes) 47) e
 
 -- ---- what stands in its table
 
-pub read-entries : (bytes : List ℕ) (i : Instantiation) (ls : List (List ℕ)) → ReadInstantiation bytes i ls → take (i .entries .count) (i .entries .items) ≡ entriesIn ls
-read-entries bytes i ls r =
-    let few = r .few in
-    ap (λ (x : Instantiation). take (x .entries .count) (x .entries .items)) (r .is) ∙ table-entries (entriesIn ls) ∙ take-all 256 (entriesIn ls) (omega arith)
-
-pub read-zeros : (bytes : List ℕ) (i : Instantiation) (ls : List (List ℕ)) → ReadInstantiation bytes i ls → (j : ℕ) → i .entries .count ≤ j → getD (i .entries .items) j 0 ≡ 0
-read-zeros bytes i ls r j past = rw (r .is) (go (decLt j 256) (rw (r .is) at past))
-  where
-    go : Dec (j < 256) → tableOf (entriesIn ls) .count ≤ j → getD (tableOf (entriesIn ls) .items) j 0 ≡ 0
-    go (yes inside) h =
-        let n = table-count (entriesIn ls) (r .few) in
-        table-item (entriesIn ls) j inside ∙ List·getD-eq-default (entriesIn ls) 0 {n = j} (omega arith)
-    go (no outside) h = let size = table-size (entriesIn ls) in List·getD-eq-default (tableOf (entriesIn ls) .items) 0 {n = j} (omega arith)
+pub read-entries : (bytes : List ℕ) (i : Instantiation) (ls : List (List ℕ)) → ReadInstantiation bytes i ls → i .entries ≡ entriesIn ls
+read-entries bytes i ls r = ap (λ (x : Instantiation). x .entries) (r .is)
 
 -- ---- the subsets of special attributes
 

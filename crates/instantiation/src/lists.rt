@@ -1,101 +1,44 @@
-// Writing the lists of an instantiation, and the map that says which of them are not empty.
+// Writing the lists of an instantiation from entries that are sorted by subset.
 ghost use mathlib.Core.Path.{_≡_};
-ghost use mathlib.Core.Bool.{cond};
-ghost use Prim.Native.Nat.{_+_, _*_, _≤_, _<_};
-ghost use lib.Dec.{ltb};
+ghost use Prim.Native.Nat.{_+_, _≤_, _<_};
 ghost use lib.ListN.{length, take};
-ghost use Rattle.bits.specs.Tab.{tab, over};
-ghost use Rattle.entry_sorting.specs.Chains.{Chained};
-ghost use Rattle.instantiation.specs.Instantiation.{withSubset, listsOf, listBytes, listsBytes};
-ghost use Rattle.instantiation.specs.Gathering.{mapFrom};
+ghost use Rattle.bits.specs.Tab.{over};
+ghost use Rattle.instantiation.specs.Instantiation.{listsOf, listBytes, listsBytes};
+ghost use Rattle.instantiation.specs.Runs.{listAt, BySubset};
 
-// Writes the list of subset s to the front of the slice, nothing where it is empty, and gives its length.
-fn write_list(
-    out: &mut [u8],
-    s: usize,
-    first: &[usize],
-    next: &[usize],
-    items: &[u32],
-    count: usize,
-) -> usize
-    requires { ⌜ s < 256 ⌝ }
-    requires { ⌜ Chained 1 (now items) count (now first) (now next) 0 ⌝ }
-    requires { ⌜ length (listBytes (withSubset s (take count (now items)))) ≤ length (now out) ⌝ }
-    ensures { λ r. ⌜ r ≡ length (listBytes (withSubset s (take count (now (items .entry))))) ⌝ }
-    ensures { λ _. ⌜ now (out .exit) ≡ over (listBytes (withSubset s (take count (now (items .entry))))) (now (out .entry)) ⌝ }
+// Writes the list of the subset that entry i has, whose entries stand from i on, to the front of the slice, and gives
+// the entry after the last of them.
+fn write_list(out: &mut [u8], sorted: &[u32], i: usize, count: usize) -> usize
+    requires { ⌜ BySubset (now sorted) count × (i < count) ⌝ }
+    requires { ⌜ length (listBytes (listAt (take count (now sorted)) i)) ≤ length (now out) ⌝ }
+    ensures { λ j. ⌜ j ≡ i + length (listAt (take count (now (sorted .entry))) i) ⌝ }
+    ensures { λ _. ⌜ now (out .exit) ≡ over (listBytes (listAt (take count (now (sorted .entry))) i)) (now (out .entry)) ⌝ }
 {
-    let mut n = 0;
-    let mut i = first[s];
-    while i < count {
-        let a = items[i] / 256;
-        out[n * 2 + 1] = (a % 256) as u8;
-        out[n * 2 + 2] = (a / 256) as u8;
-        n += 1;
-        i = next[i];
+    let s = sorted[i] % 256;
+    let mut j = i;
+    while j < count && sorted[j] % 256 == s {
+        let a = sorted[j] / 256;
+        out[(j - i) * 2 + 1] = (a % 256) as u8;
+        out[(j - i) * 2 + 2] = (a / 256) as u8;
+        j += 1;
     }
-    if n == 0 {
-        return 0;
-    }
-    out[0] = n as u8;
-    n * 2 + 1
+    out[0] = (j - i) as u8;
+    j
 }
 
 // Writes the lists of all subsets to the front of the slice, and gives their length.
-pub fn write_lists(
-    out: &mut [u8],
-    first: &[usize],
-    next: &[usize],
-    items: &[u32],
-    count: usize,
-) -> usize
-    requires { ⌜ Chained 1 (now items) count (now first) (now next) 0 ⌝ }
+pub fn write_lists(out: &mut [u8], sorted: &[u32], count: usize) -> usize
+    requires { ⌜ BySubset (now sorted) count ⌝ }
     requires { ⌜ 765 ≤ length (now out) ⌝ }
-    ensures { λ r. ⌜ r ≡ length (listsBytes (listsOf (take count (now (items .entry))))) ⌝ }
-    ensures { λ _. ⌜ now (out .exit) ≡ over (listsBytes (listsOf (take count (now (items .entry))))) (now (out .entry)) ⌝ }
+    ensures { λ r. ⌜ r ≡ length (listsBytes (listsOf (take count (now (sorted .entry))))) ⌝ }
+    ensures { λ _. ⌜ now (out .exit) ≡ over (listsBytes (listsOf (take count (now (sorted .entry))))) (now (out .entry)) ⌝ }
 {
     let mut at = 0;
-    let mut s = 0;
-    while s < 256 {
-        at += write_list(&mut out[at..], s, first, next, items, count);
-        s += 1;
+    let mut i = 0;
+    while i < count {
+        let j = write_list(&mut out[at..], sorted, i, count);
+        at += (j - i) * 2 + 1;
+        i = j;
     }
     at
-}
-
-// The bit of a list whose first entry is this.
-fn digit(entry: usize, count: usize) -> u8
-    ensures { λ r. ⌜ r ≡ cond (ltb entry count) 1 0 ⌝ }
-{
-    if entry < count {
-        return 1;
-    }
-    0
-}
-
-// Byte j of the map.
-fn map_byte(first: &[usize], count: usize, j: usize) -> u8
-    requires { ⌜ (length (now first) ≡ 256) × (j < 32) ⌝ }
-    ensures { λ r. ⌜ r ≡ mapFrom (now (first .entry)) count j ⌝ }
-{
-    let mut byte = 0u8;
-    let mut i = 8;
-    while 0 < i {
-        let k = i - 1;
-        byte = byte * 2 + digit(first[j * 8 + k], count);
-        i = k;
-    }
-    byte
-}
-
-// Writes the map to the front of the slice.
-pub fn write_map(out: &mut [u8], first: &[usize], count: usize)
-    requires { ⌜ length (now first) ≡ 256 ⌝ }
-    requires { ⌜ 32 ≤ length (now out) ⌝ }
-    ensures { λ _. ⌜ now (out .exit) ≡ over (tab 32 (mapFrom (now (first .entry)) count)) (now (out .entry)) ⌝ }
-{
-    let mut j = 0;
-    while j < 32 {
-        out[j] = map_byte(first, count, j);
-        j += 1;
-    }
 }

@@ -1,62 +1,42 @@
 // Reading an instantiation: "15 bytes, the subset given to attributes 1 to 15; then a bit map of 32 bytes over s; then, for each standing bit in rising order", a list.
 ghost use mathlib.Core.Path.{_≡_};
-ghost use Prim.Native.Nat.{_≤_, _<_};
+ghost use Prim.Native.Nat.{_≤_};
 ghost use lib.ListN.{length, drop};
-ghost use Rattle.instantiation.specs.Instantiation.{standing, readLists, subsetsOf, refusedInstantiation, instantiationReading};
-ghost use Rattle.instantiation.specs.Gathering.{refusedLists, gathered};
+ghost use Rattle.membership.specs.Entries.{RoomFor};
+ghost use Rattle.schema.specs.Schema.{EntriesStand};
+ghost use Rattle.instantiation.specs.Instantiation.{readLists, subsetsOf, refusedInstantiation, instantiationReading, readingOf};
+ghost use Rattle.instantiation.specs.Gathering.{gathered, GatheredIn};
 use crate::appending::append;
-use crate::seen::either;
-use crate::seen::mark;
+use crate::seen::repeated_in;
+use entry_sorting::rises;
 use entry_sorting::sort_by_attribute;
-use membership::Entries;
-use membership::no_entries;
 use refusal::Refusal;
 use schema::Judgement;
 use type_record::ListReading;
 use type_record::read_list;
 
-// An instantiation's membership table: the subset given to each special attribute, by its number, and the entries.
-// After a refusal of 14 to 19 it is empty.
-pub struct Instantiation {
+// An instantiation's membership table but for its entries: the subset given to each special attribute, by its number,
+// and the number of the entries. After a refusal of 14 to 19 it is empty.
+pub struct InstantiationReading {
     pub judgement: Judgement,
     pub subsets: [u8; 16],
-    pub entries: Entries,
+    pub count: usize,
 }
 
-// The lists before they are judged together: whether an attribute is in two of them, and their entries in the order of
-// the bytes, at most 256. After a refusal there are none.
-pub struct ListsReading {
-    pub judgement: Judgement,
-    pub repeated: bool,
-    pub entries: Entries,
+// The lists before they are judged together: the first refusal, or the number of their entries, at most 256.
+pub enum ListsReading {
+    Refused(Refusal),
+    Listed(usize),
 }
 
-fn refused_lists(r: Refusal) -> ListsReading
-    ensures { λ x. ⌜ x ≡ refusedLists r ⌝ }
+fn refused(r: Refusal) -> InstantiationReading
+    ensures { λ x. ⌜ x ≡ readingOf (refusedInstantiation r) ⌝ }
 {
-    ListsReading {
-        judgement: Judgement::Refused(r),
-        repeated: false,
-        entries: no_entries(),
-    }
-}
-
-fn refused(r: Refusal) -> Instantiation
-    ensures { λ x. ⌜ x ≡ refusedInstantiation r ⌝ }
-{
-    Instantiation {
+    InstantiationReading {
         judgement: Judgement::Refused(r),
         subsets: [0u8; 16],
-        entries: no_entries(),
+        count: 0,
     }
-}
-
-// Whether the bit of s stands in the map.
-fn is_standing(bytes: &[u8], s: usize) -> bool
-    requires { ⌜ (47 ≤ length (now bytes)) × (s < 256) ⌝ }
-    ensures { λ r. ⌜ r ≡ standing (now (bytes .entry)) s ⌝ }
-{
-    (bytes[15 + s / 8] >> (s % 8)) % 2 == 1
 }
 
 // The subsets given to the special attributes.
@@ -73,27 +53,27 @@ fn subsets_of(bytes: &[u8]) -> [u8; 16]
     subsets
 }
 
-// The lists in these bytes: refusals 14 to 17.
-fn read_lists(bytes: &[u8]) -> ListsReading
+// The lists in these bytes: refusals 14 to 17. Their entries stand at the front of the slice, in the order of the bytes.
+fn read_lists(bytes: &[u8], items: &mut [u32]) -> ListsReading
     requires { ⌜ 47 ≤ length (now bytes) ⌝ }
+    requires { ⌜ RoomFor (length (now bytes)) (now items) ⌝ }
     ensures { λ x. ⌜ x ≡ gathered (readLists (now (bytes .entry)) 256 0 (drop 47 (now (bytes .entry)))) ⌝ }
+    ensures { λ _. ⌜ GatheredIn (length (now (bytes .entry))) (readLists (now (bytes .entry)) 256 0 (drop 47 (now (bytes .entry)))) (now (items .exit)) ⌝ }
 {
-    let mut seen = [0u8; 8192];
-    let mut repeated = false;
-    let mut items = [0u32; 256];
     let mut k = 0;
     let mut at = 47;
     let mut s = 0usize;
     while s < 256 {
-        if is_standing(bytes, s) {
+        let rest = bytes[15 + s / 8] >> (s % 8);
+        if rest == 0 {
+            s = (s / 8 + 1) * 8;
+        } else if rest % 2 == 1 {
             match read_list(&bytes[at..]) {
                 ListReading::Refused(r) => {
-                    return refused_lists(r);
+                    return ListsReading::Refused(r);
                 }
                 ListReading::Listed(count) => {
-                    let again = mark(&bytes[at..], count, &mut seen);
-                    repeated = either(repeated, again);
-                    k = append(&mut items, k, &bytes[at..], count, s as u8);
+                    k = append(items, k, &bytes[at..], count, s as u8);
                     at += count * 2 + 1;
                     s += 1;
                 }
@@ -103,40 +83,43 @@ fn read_lists(bytes: &[u8]) -> ListsReading
         }
     }
     if at < bytes.len() {
-        return refused_lists(Refusal::InputFollowed);
+        return ListsReading::Refused(Refusal::InputFollowed);
     }
-    ListsReading {
-        judgement: Judgement::Read,
-        repeated,
-        entries: Entries { count: k, items },
-    }
+    ListsReading::Listed(k)
 }
 
-// The instantiation in these bytes: refusals 14 to 17, 19, 18.
-pub fn read_instantiation(bytes: &[u8]) -> Instantiation
-    ensures { λ x. ⌜ x ≡ instantiationReading (now (bytes .entry)) ⌝ }
+// The instantiation in these bytes: refusals 14 to 17, 19, 18. Its entries stand at the front of `items`; what stands
+// after them, and in the second slice, is free.
+pub fn read_instantiation(
+    bytes: &[u8],
+    items: &mut [u32],
+    spare: &mut [u32],
+) -> InstantiationReading
+    requires { ⌜ RoomFor (length (now bytes)) (now items) × RoomFor (length (now bytes)) (now spare) ⌝ }
+    ensures { λ x. ⌜ x ≡ readingOf (instantiationReading (now (bytes .entry))) ⌝ }
+    ensures { λ x. ⌜ EntriesStand (x .judgement) (instantiationReading (now (bytes .entry)) .entries) (now (items .exit)) ⌝ }
 {
     if bytes.len() < 47 {
         return refused(Refusal::InputTruncated);
     }
-    let lists = read_lists(bytes);
-    let judgement = lists.judgement;
-    match judgement {
-        Judgement::Refused(r) => refused(r),
-        Judgement::Read => {
-            if lists.repeated {
-                return refused(Refusal::RepeatedAttribute);
-            }
-            let entries = lists.entries;
-            if 255 < entries.count {
+    match read_lists(bytes, items) {
+        ListsReading::Refused(r) => refused(r),
+        ListsReading::Listed(count) => {
+            if 255 < count {
+                if repeated_in(bytes) {
+                    return refused(Refusal::RepeatedAttribute);
+                }
                 return refused(Refusal::TooManyAttributes);
             }
-            let items = entries.items;
-            Instantiation {
-                judgement: Judgement::Read,
-                subsets: subsets_of(bytes),
-                entries: sort_by_attribute(&items, entries.count),
+            sort_by_attribute(items, count, spare);
+            if rises(items, count) {
+                return InstantiationReading {
+                    judgement: Judgement::Read,
+                    subsets: subsets_of(bytes),
+                    count,
+                };
             }
+            refused(Refusal::RepeatedAttribute)
         }
     }
 }

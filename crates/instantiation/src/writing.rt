@@ -5,8 +5,8 @@ ghost use Rattle.bits.specs.Tab.{tab, over};
 ghost use Prim.Native.Nat.{_+_, _≤_};
 ghost use Rattle.instantiation.specs.Instantiation.{listsOf, instantiationBytes, WritesFrom};
 use crate::lists::write_lists;
-use crate::lists::write_map;
-use entry_sorting::chain;
+use crate::maps::write_map;
+use entry_sorting::sort_by_subset;
 
 // Writes the subsets of the special attributes 1 to 15 to the front of the slice.
 fn write_special(out: &mut [u8], subsets: &[u8])
@@ -21,17 +21,22 @@ fn write_special(out: &mut [u8], subsets: &[u8])
     }
 }
 
-// Writes the instantiation of these subsets and entries to the front of the slice, and gives its length.
-pub fn write_instantiation(out: &mut [u8], subsets: &[u8], items: &[u32], count: usize) -> usize
+// Writes the instantiation of these subsets and entries to the front of the slice, and gives its length. The last slice
+// is for the entries by subset, and free afterwards.
+pub fn write_instantiation(
+    out: &mut [u8],
+    subsets: &[u8],
+    items: &[u32],
+    count: usize,
+    spare: &mut [u32],
+) -> usize
     requires { ⌜ WritesFrom (now subsets) (now items) count ⌝ }
-    requires { ⌜ 812 ≤ length (now out) ⌝ }
+    requires { ⌜ (812 ≤ length (now out)) × (count ≤ length (now spare)) ⌝ }
     ensures { λ r. ⌜ r ≡ length (instantiationBytes (now (subsets .entry)) (listsOf (take count (now (items .entry))))) ⌝ }
     ensures { λ _. ⌜ now (out .exit) ≡ over (instantiationBytes (now (subsets .entry)) (listsOf (take count (now (items .entry))))) (now (out .entry)) ⌝ }
 {
-    let chains = chain(items, count, 1);
-    let first = chains.first;
-    let next = chains.next;
+    sort_by_subset(items, count, spare);
     write_special(out, subsets);
-    write_map(&mut out[15..], &first, count);
-    47 + write_lists(&mut out[47..], &first, &next, items, count)
+    write_map(&mut out[15..], items, count);
+    47 + write_lists(&mut out[47..], spare, count)
 }

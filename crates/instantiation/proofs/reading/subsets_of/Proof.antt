@@ -59,10 +59,13 @@ loop-less c = search needs
 
 loop-again : tie.Need-loop-again Inv-loop μ-loop
 loop-again c =
+    let args = c .before .before .before .args in
     let loop = c .before .before .loop in
-    let test = c .before .loop-test .taken in
+    let loop-test = c .before .loop-test in
+    let loop = loop in
+    let test = loop-test .taken in
     let size = loop .inv .1 .size in
-    let bytes = c .before .before .before .args .bytes .now in
+    let bytes = args .bytes .now in
     (omega arith, written-more (given bytes) (loop .i + 1) (replicate 16 0) (loop .subsets) (getD bytes (loop .i) 0) (omega arith) (loop .inv .1) (given-more bytes (loop .i)))
 
 returns : tie.Need-returns Inv-loop μ-loop

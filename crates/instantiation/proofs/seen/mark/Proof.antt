@@ -30,11 +30,16 @@ cast-a c = search needs
 
 slice-read-byte : tie.Need-slice-read-byte Inv-loop μ-loop
 slice-read-byte c =
-    let list = c .before .before .before .before .before .before .args .list .now in
-    let below = word-below list (c .before .before .before .loop .i * 2 + 1) (λ x. omega (arith, c .before .before .before .before .before .shared-slice-known .given x)) in
-    let is = c .before .word-at .ensures in
-    let size = c .before .before .before .loop .inv .size in
-    let whole = c .before .before .before .before .before .before .pre .0 .1 in
+    let args = c .before .before .before .before .before .before .args in
+    let pre = c .before .before .before .before .before .before .pre in
+    let shared-slice-known = c .before .before .before .before .before .shared-slice-known in
+    let loop = c .before .before .before .loop in
+    let word-at = c .before .word-at in
+    let list = args .list .now in
+    let below = word-below list (loop .i * 2 + 1) (λ x. omega (arith, shared-slice-known .given x)) in
+    let is = word-at .ensures in
+    let size = loop .inv .size in
+    let whole = pre .0 .1 in
     omega arith
 
 cast-again : tie.Need-cast-again Inv-loop μ-loop
@@ -54,11 +59,16 @@ shl-seen c = search needs
 
 slice-write-seen : tie.Need-slice-write-seen Inv-loop μ-loop
 slice-write-seen c =
-    let list = c .before .before .before .before .before .before .before .args .list .now in
-    let below = word-below list (c .before .before .before .before .loop .i * 2 + 1) (λ x. omega (arith, c .before .before .before .before .before .before .shared-slice-known .given x)) in
-    let is = c .before .before .word-at .ensures in
-    let size = c .before .before .before .before .loop .inv .size in
-    let whole = c .before .before .before .before .before .before .before .pre .0 .1 in
+    let args = c .before .before .before .before .before .before .before .args in
+    let pre = c .before .before .before .before .before .before .before .pre in
+    let shared-slice-known = c .before .before .before .before .before .before .shared-slice-known in
+    let loop = c .before .before .before .before .loop in
+    let word-at = c .before .before .word-at in
+    let list = args .list .now in
+    let below = word-below list (loop .i * 2 + 1) (λ x. omega (arith, shared-slice-known .given x)) in
+    let is = word-at .ensures in
+    let size = loop .inv .size in
+    let whole = pre .0 .1 in
     omega arith
 
 add-i : tie.Need-add-i Inv-loop μ-loop
@@ -69,12 +79,18 @@ loop-less c = search needs
 
 loop-again : tie.Need-loop-again Inv-loop μ-loop
 loop-again c =
-    let list = c .before .before .before .before .before .before .before .args .list .now in
-    let below = word-below list (c .before .before .before .before .loop .i * 2 + 1) (λ x. omega (arith, c .before .before .before .before .before .before .shared-slice-known .given x)) in
-    let is = c .before .before .word-at .ensures in
-    let size = c .before .before .before .before .loop .inv .size in
-    let whole = c .before .before .before .before .before .before .before .pre .0 .1 in
-    marking-next (c .before .before .before .before .loop .inv) (c .before .before .before .loop-test .taken) (omega arith) is (rw bit-test at (c .either .ensures))
+    let args = c .before .before .before .before .before .before .before .args in
+    let pre = c .before .before .before .before .before .before .before .pre in
+    let shared-slice-known = c .before .before .before .before .before .before .shared-slice-known in
+    let loop = c .before .before .before .before .loop in
+    let loop-test = c .before .before .before .loop-test in
+    let word-at = c .before .before .word-at in
+    let list = args .list .now in
+    let below = word-below list (loop .i * 2 + 1) (λ x. omega (arith, shared-slice-known .given x)) in
+    let is = word-at .ensures in
+    let size = loop .inv .size in
+    let whole = pre .0 .1 in
+    marking-next (loop .inv) (loop-test .taken) (omega arith) is (rw bit-test at (c .either .ensures))
 
 same-length : tie.Need-same-length Inv-loop μ-loop
 same-length c = c .before .loop .inv .size

@@ -1,7 +1,7 @@
 use Rattle.bits.specs.Bit.{bit-test}
 use borrow.Author.Needs.{needs}
-use Rattle.instantiation.proofs.reading.is_standing.Statement.{statement}
-use Rattle.instantiation.proofs.reading.is_standing.Tie as tie
+use Rattle.instantiation.proofs.seen.is_standing.Statement.{statement}
+use Rattle.instantiation.proofs.seen.is_standing.Tie as tie
 
 add-result : tie.Need-add-result
 add-result c = search needs
