@@ -30,10 +30,10 @@ use Rattle.instantiation.specs.SortedLists.{listed-below, rising-apart, 
 -- ---- a refusal
 
 -- what is handed on, and nothing is said of the entries
-pub refused-reading : (bytes items : List ℕ) {x : InstantiationReading} (r : Refusal) → x ≡ readingOf (refusedInstantiation r) → refusedInstantiation r ≡ instantiationReading bytes → (x ≡ readingOf (instantiationReading bytes)) × EntriesStand (x .judgement) (instantiationReading bytes .entries) items
+pub refused-reading : (bytes items : List ℕ) (size : ℕ) {x : InstantiationReading} (r : Refusal) → x ≡ readingOf (refusedInstantiation r) → refusedInstantiation r ≡ instantiationReading bytes → (x ≡ readingOf (instantiationReading bytes)) × (EntriesStand (x .judgement) (instantiationReading bytes .entries) items × (x .count ≤ size))
 unfolding readingOf refusedInstantiation
-refused-reading bytes items {x} r is same =
-    (is ∙ ap readingOf same, λ said. absurd (let other = ap (λ (y : InstantiationReading). y .judgement) is in let z : _≡_ {A = ℕ} 0 1 = cc in omega arith))
+refused-reading bytes items size {x} r is same =
+    (is ∙ ap readingOf same, ((λ said. absurd (let other = ap (λ (y : InstantiationReading). y .judgement) is in let z : _≡_ {A = ℕ} 0 1 = cc in omega arith)), rw is (omega arith)))
 
 pub reading-short : (bytes : List ℕ) → length bytes < 47 → refusedInstantiation InputTruncated ≡ instantiationReading bytes
 unfolding instantiationReading

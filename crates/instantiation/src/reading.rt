@@ -98,6 +98,7 @@ pub fn read_instantiation(
     requires { ⌜ RoomFor (length (now bytes)) (now items) × RoomFor (length (now bytes)) (now spare) ⌝ }
     ensures { λ x. ⌜ x ≡ readingOf (instantiationReading (now (bytes .entry))) ⌝ }
     ensures { λ x. ⌜ EntriesStand (x .judgement) (instantiationReading (now (bytes .entry)) .entries) (now (items .exit)) ⌝ }
+    ensures { λ x. ⌜ x .count ≤ length (now (spare .exit)) ⌝ }
 {
     if bytes.len() < 47 {
         return refused(Refusal::InputTruncated);

@@ -1,15 +1,14 @@
-use native.Mathlib.Omega.{arith}
-use Rattle.expression.specs.Accepted.{accepted-file}
-use Rattle.formula.specs.Expressions.{expressionAt}
-use Rattle.typing.specs.TypingLaws.{schema-table}
-use Rattle.application.specs.ApplyLaws.{filled-space}
-use Rattle.application.specs.RecoverLaws.{read-stops, read-goes}
 use borrow.Author.Needs.{needs}
 use Rattle.application.proofs.recovering.recover_bytes.Statement.{statement}
 use Rattle.application.proofs.recovering.recover_bytes.Tie as tie
+use Rattle.application.proofs.recovering.recover_bytes.Reads as reads
+use Rattle.application.proofs.recovering.recover_bytes.Lts as lts
+use Rattle.application.proofs.recovering.recover_table.Reads as recover-table-reads
+use Rattle.formula.proofs.fill.Reads as fill-reads
+use Rattle.schema.proofs.read_schema.Reads as read-schema-reads
 
 read-schema-requires : tie.Need-read-schema-requires
-read-schema-requires c κs = (accepted-file (c .before .before .before .before .args .file .now) (c .before .before .before .before .args .m) (c .before .before .before .before .args .n) (c .before .before .before .before .pre .0) .counts .relations .1)
+read-schema-requires c κs = search needs
 
 enum-known-judgement : tie.Need-enum-known-judgement
 enum-known-judgement c = search needs
@@ -18,19 +17,13 @@ enum-told : tie.Need-enum-told
 enum-told c = search needs
 
 fill-requires : tie.Need-fill-requires
-fill-requires c κs = (c .before .before .before .before .before .before .before .before .before .before .before .pre .0, c .before .before .before .before .before .before .before .before .before .before .before .pre .1 .0 .1)
+fill-requires c κs = search needs
 
 slice-aggregate-recover-table : tie.Need-slice-aggregate-recover-table
 slice-aggregate-recover-table c = search needs
 
-slice-aggregate-recover-table-2 : tie.Need-slice-aggregate-recover-table-2
-slice-aggregate-recover-table-2 c = search needs
-
 recover-table-requires : tie.Need-recover-table-requires
-recover-table-requires c κs = (filled-space (c .before .before .before .before .before .before .before .before .before .before .before .before .before .before .before .before .before .before .args .file .now) (c .before .before .before .before .before .before .before .before .before .before .before .before .before .before .before .before .before .before .args .work .now) _ (c .before .before .before .before .before .before .before .before .before .before .before .before .before .before .before .before .before .before .args .m) (c .before .before .before .before .before .before .before .before .before .before .before .before .before .before .before .before .before .before .args .n) (c .before .before .before .before .before .before .before .before .before .before .before .before .before .before .before .before .before .before .args .node) (c .before .before .before .before .before .before .before .before .before .before .before .before .before .before .before .before .before .before .pre .1 .0 .0) (c .before .before .before .before .before .before .before .before .before .before .before .before .before .before .before .before .before .before .pre .1 .0 .1) (c .before .before .before .before .before .before .fill .ensures) (c .before .before .before .before .before .before .fill .kept .1 .1 .1 .0), (schema-table (c .before .before .before .before .before .before .before .before .before .before .before .before .before .before .before .before .before .before .args .m) (c .before .before .before .before .before .before .before .before .before .before .before .before .before .before .before .before .before .before .args .bytes .now) (c .before .before .before .before .before .before .before .before .before .before .before .before .before .read-schema .result) (accepted-file (c .before .before .before .before .before .before .before .before .before .before .before .before .before .before .before .before .before .before .args .file .now) (c .before .before .before .before .before .before .before .before .before .before .before .before .before .before .before .before .before .before .args .m) (c .before .before .before .before .before .before .before .before .before .before .before .before .before .before .before .before .before .before .args .n) (c .before .before .before .before .before .before .before .before .before .before .before .before .before .before .before .before .before .before .pre .0) .counts .relations .1) (λ x. omega (arith, c .before .before .before .before .before .before .before .before .before .before .before .before .before .before .before .before .shared-slice-known2 .given x)) (c .before .before .before .before .before .before .before .before .before .before .before .before .before .read-schema .ensures) (c .before .before .before .before .before .before .before .before .before .before .before .enum-told .given .1), c .before .before .before .before .before .before .before .before .before .before .before .before .before .before .before .before .before .before .pre .1 .1))
-
-returns : tie.Need-returns
-returns c = rw (← c .before .before .before .read-schema .ensures) (read-stops (c .before .before .before .before .before .before .before .before .args .file .now) (c .before .before .before .before .before .before .before .before .args .m) (c .before .before .before .before .before .before .before .before .args .n) (expressionAt (c .before .before .before .before .before .before .before .before .args .file .now) (c .before .before .before .before .before .before .before .before .args .node)) (c .before .before .before .read-schema .result) (c .before .before .before .before .before .before .before .before .args .work .now) (c .before .before .before .before .before .before .before .before .args .out .now) _ (c .before .judgement .given .1))
+recover-table-requires c κs = search needs
 
 same-length : tie.Need-same-length
 same-length c = search needs
@@ -38,8 +31,23 @@ same-length c = search needs
 same-length-2 : tie.Need-same-length-2
 same-length-2 c = search needs
 
+returns : tie.Need-returns
+returns c = search needs
+
+same-length-3 : tie.Need-same-length-3
+same-length-3 c = search needs
+
+same-length-4 : tie.Need-same-length-4
+same-length-4 c = search needs
+
+same-length-5 : tie.Need-same-length-5
+same-length-5 c = search needs
+
+same-length-6 : tie.Need-same-length-6
+same-length-6 c = search needs
+
 returns-2 : tie.Need-returns-2
-returns-2 c = rw (← c .before .before .before .before .before .before .before .before .before .before .before .before .before .before .before .before .read-schema .ensures) (read-goes (c .before .before .before .before .before .before .before .before .before .before .before .before .before .before .before .before .before .before .before .before .before .args .file .now) (c .before .before .before .before .before .before .before .before .before .before .before .before .before .before .before .before .before .before .before .before .before .args .m) (c .before .before .before .before .before .before .before .before .before .before .before .before .before .before .before .before .before .before .before .before .before .args .n) (expressionAt (c .before .before .before .before .before .before .before .before .before .before .before .before .before .before .before .before .before .before .before .before .before .args .file .now) (c .before .before .before .before .before .before .before .before .before .before .before .before .before .before .before .before .before .before .before .before .before .args .node)) (c .before .before .before .before .before .before .before .before .before .before .before .before .before .before .before .before .read-schema .result) (c .before .before .before .before .before .before .before .before .before .before .before .before .before .before .before .before .before .before .before .before .before .args .work .now) (c .before .before .before .before .before .before .before .before .before .before .before .before .before .before .before .before .before .before .before .before .before .args .out .now) (c .before .before .before .before .before .before .before .before .before .before .before .before .before .before .enum-told .given .1) _ _ _ (c .before .before .before .before .before .before .before .before .before .fill .ensures) (c .before .before .recover-table .ensures .0) (c .before .before .recover-table .ensures .1))
+returns-2 c = search needs
 
 pub recover-bytes-spec : {M : Type 1} → statement M
 recover-bytes-spec =
@@ -50,9 +58,12 @@ recover-bytes-spec =
     enum-told
     fill-requires
     slice-aggregate-recover-table
-    slice-aggregate-recover-table-2
     recover-table-requires
-    returns
     same-length
     same-length-2
+    returns
+    same-length-3
+    same-length-4
+    same-length-5
+    same-length-6
     returns-2)

@@ -8,7 +8,7 @@ refused-requires : tie.Need-refused-requires
 refused-requires c κs = search needs
 
 returns : tie.Need-returns
-returns c = refused-reading _ _ _ (c .refused .ensures) (reading-short _ (c .before .if1 .taken))
+returns c = refused-reading _ _ _ _ (c .refused .ensures) (reading-short _ (c .before .if1 .taken))
 
 read-lists-requires : tie.Need-read-lists-requires
 read-lists-requires c κs = search needs
@@ -43,7 +43,7 @@ returns-2 c =
     let if3 = c .before .if3 in
     let lists = found (args .bytes .now) _ (if1 .left) (λ x. omega (arith, shared-slice-known .given x)) (read-lists .ensures .0) (read-lists .ensures .1) (count .given .1) in
     let many = if2 .taken in
-    refused-reading _ _ _ (c .refused3 .ensures) (over-repeated lists (omega arith) (repeated-in .ensures) (if3 .taken))
+    refused-reading _ _ _ _ (c .refused3 .ensures) (over-repeated lists (omega arith) (repeated-in .ensures) (if3 .taken))
 
 refused-requires-4 : tie.Need-refused-requires-4
 refused-requires-4 c κs = search needs
@@ -63,7 +63,7 @@ returns-3 c =
     let if3 = c .before .if3 in
     let lists = found (args .bytes .now) _ (if1 .left) (λ x. omega (arith, shared-slice-known .given x)) (read-lists .ensures .0) (read-lists .ensures .1) (count .given .1) in
     let many = if2 .taken in
-    refused-reading _ _ _ (c .refused4 .ensures) (over-many lists (omega arith) (repeated-in .ensures) (if3 .left))
+    refused-reading _ _ _ _ (c .refused4 .ensures) (over-many lists (omega arith) (repeated-in .ensures) (if3 .left))
 
 sort-by-attribute-requires : tie.Need-sort-by-attribute-requires
 sort-by-attribute-requires c κs =
@@ -104,6 +104,7 @@ same-length-4 c = search needs
 returns-4 : tie.Need-returns-4
 returns-4 c =
     let args = c .before .before .before .before .before .before .before .before .before .before .before .before .before .before .before .before .before .before .before .before .before .before .before .args in
+    let pre = c .before .before .before .before .before .before .before .before .before .before .before .before .before .before .before .before .before .before .before .before .before .before .before .pre in
     let shared-slice-known = c .before .before .before .before .before .before .before .before .before .before .before .before .before .before .before .before .before .before .before .before .before .before .shared-slice-known in
     let if1 = c .before .before .before .before .before .before .before .before .before .before .before .before .before .before .before .before .before .before .before .if1 in
     let read-lists = c .before .before .before .before .before .before .before .before .before .before .before .before .before .before .before .before .before .read-lists in
@@ -113,7 +114,10 @@ returns-4 c =
     let rises = c .before .before .rises in
     let if4 = c .before .if4 in
     let lists = found (args .bytes .now) _ (if1 .left) (λ x. omega (arith, shared-slice-known .given x)) (read-lists .ensures .0) (read-lists .ensures .1) (count .given .1) in
-    lists-read-all lists (if2 .left) _ (sort-by-attribute .ensures) (rises .ensures) (if4 .taken) (c .subsets-of .ensures)
+    let read = lists-read-all lists (if2 .left) _ (sort-by-attribute .ensures) (rises .ensures) (if4 .taken) (c .subsets-of .ensures) in
+    let room = lists-room lists (if2 .left) (args .spare .now) (pre .1) in
+    let same = sort-by-attribute .kept .1 .1 .0 in
+    (read .0, (read .1, omega arith))
 
 refused-requires-5 : tie.Need-refused-requires-5
 refused-requires-5 c κs = search needs
@@ -126,7 +130,7 @@ returns-5 c =
     let if1 = c .before .before .before .before .before .before .before .before .if1 in
     let read-lists = c .before .before .before .before .before .before .read-lists in
     let r = c .before .before .r in
-    refused-reading _ _ _ (c .refused2 .ensures) (lists-refused _ (if1 .left) (read-lists .ensures .0) (r .given .1))
+    refused-reading _ _ _ _ (c .refused2 .ensures) (lists-refused _ (if1 .left) (read-lists .ensures .0) (r .given .1))
 
 same-length-6 : tie.Need-same-length-6
 same-length-6 c = search needs
@@ -146,7 +150,7 @@ returns-6 c =
     let rises = c .before .before .rises in
     let if4 = c .before .if4 in
     let lists = found (args .bytes .now) _ (if1 .left) (λ x. omega (arith, shared-slice-known .given x)) (read-lists .ensures .0) (read-lists .ensures .1) (count .given .1) in
-    refused-reading _ _ _ (c .refused5 .ensures) (falls lists (if2 .left) _ (sort-by-attribute .ensures) (rises .ensures) (if4 .left))
+    refused-reading _ _ _ _ (c .refused5 .ensures) (falls lists (if2 .left) _ (sort-by-attribute .ensures) (rises .ensures) (if4 .left))
 
 pub read-instantiation-spec : {M : Type 1} → statement M
 read-instantiation-spec =

@@ -1,0 +1,34 @@
+use borrow.Author.Needs.{needs}
+use Rattle.application.proofs.fitting.output_digit.Statement.{statement}
+use Rattle.application.proofs.fitting.output_digit.Tie as tie
+use Rattle.application.proofs.fitting.output_digit.Reads as reads
+use Rattle.application.proofs.fitting.output_digit.Lts as lts
+
+mul-at : tie.Need-mul-at
+mul-at c = search needs
+
+mul-at-2 : tie.Need-mul-at-2
+mul-at-2 c = search needs
+
+add-at : tie.Need-add-at
+add-at c = search needs
+
+add-at-2 : tie.Need-add-at-2
+add-at-2 c = search needs
+
+add-at-3 : tie.Need-add-at-3
+add-at-3 c = search needs
+
+shared-slice-read-result : tie.Need-shared-slice-read-result
+shared-slice-read-result c = search needs
+
+shr-result : tie.Need-shr-result
+shr-result c = search needs
+
+returns : tie.Need-returns
+returns c = search needs
+
+pub output-digit-spec : {M : Type 1} → statement M
+output-digit-spec =
+    tie.close
+    (tie.spec mul-at mul-at-2 add-at add-at-2 add-at-3 shared-slice-read-result shr-result returns)

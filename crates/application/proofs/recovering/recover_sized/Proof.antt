@@ -1,0 +1,59 @@
+use borrow.Author.Needs.{needs}
+use Rattle.application.proofs.recovering.recover_sized.Statement.{statement}
+use Rattle.application.proofs.recovering.recover_sized.Tie as tie
+use Rattle.application.proofs.recovering.recover_sized.Reads as reads
+use Rattle.application.proofs.recovering.recover_sized.Lts as lts
+use Rattle.application.proofs.recovering.recover_bytes.Reads as recover-bytes-reads
+
+slice-aggregate-recover-bytes : tie.Need-slice-aggregate-recover-bytes
+slice-aggregate-recover-bytes c = search needs
+
+slice-aggregate-recover-bytes-2 : tie.Need-slice-aggregate-recover-bytes-2
+slice-aggregate-recover-bytes-2 c = search needs
+
+recover-bytes-requires : tie.Need-recover-bytes-requires
+recover-bytes-requires c κs = search needs
+
+same-length : tie.Need-same-length
+same-length c = search needs
+
+same-length-2 : tie.Need-same-length-2
+same-length-2 c = search needs
+
+returns : tie.Need-returns
+returns c = search needs
+
+slice-aggregate-recover-bytes-3 : tie.Need-slice-aggregate-recover-bytes-3
+slice-aggregate-recover-bytes-3 c = search needs
+
+slice-aggregate-recover-bytes-4 : tie.Need-slice-aggregate-recover-bytes-4
+slice-aggregate-recover-bytes-4 c = search needs
+
+recover-bytes-requires-2 : tie.Need-recover-bytes-requires-2
+recover-bytes-requires-2 c κs = search needs
+
+same-length-3 : tie.Need-same-length-3
+same-length-3 c = search needs
+
+same-length-4 : tie.Need-same-length-4
+same-length-4 c = search needs
+
+returns-2 : tie.Need-returns-2
+returns-2 c = search needs
+
+pub recover-sized-spec : {M : Type 1} → statement M
+recover-sized-spec =
+    tie.close
+    (tie.spec
+    slice-aggregate-recover-bytes
+    slice-aggregate-recover-bytes-2
+    recover-bytes-requires
+    same-length
+    same-length-2
+    returns
+    slice-aggregate-recover-bytes-3
+    slice-aggregate-recover-bytes-4
+    recover-bytes-requires-2
+    same-length-3
+    same-length-4
+    returns-2)
