@@ -165,6 +165,11 @@ module _ (file : List ℕ) (m k : ℕ) (few : m ≤ 8) (legal : Legal m (express
             ),
           )
 
+-- what is found in the bytes, by the reading that was handed on
+pub read-stopped : (bytes : List ℕ) (x : InstantiationReading) (r : Refusal) → x ≡ readingOf (instantiationReading bytes) → x .judgement ≡ ReadRefused r → instantiationReading bytes .judgement ≡ ReadRefused r
+unfolding readingOf
+read-stopped bytes x r is said = sym (ap (λ (y : InstantiationReading). y .judgement) is) ∙ said
+
 -- an instantiation that was read has such a table
 pub record SubsetsRead (bytes items : List ℕ) (x : InstantiationReading) : Type 0 where
   pub table : ReadSubsets (x .subsets) items (x .count)

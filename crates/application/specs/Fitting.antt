@@ -1,7 +1,7 @@
 -- A membership table against a node's stored formula: "Each subset must be allowed in its column and each standing bit a type variable." (document 01)
 use Prim.Native.Nat.{ℕ, _+_, _-_, _*_, _/_, _%_, _≤_, _<_}
 use mathlib.Core.Path.{_≡_, sym, ap, _∙_}
-use mathlib.Core.Bool.{Bool, cond}
+use mathlib.Core.Bool.{Bool, true, false, cond}
 use mathlib.Core.List.{List}
 use native.Mathlib.Omega.{arith}
 use lib.ListN.{length, getD}
@@ -43,6 +43,10 @@ pub output-at : (work : List ℕ) (k c s : ℕ) → s < 256 → outputIn (column
 output-at work k c s h =
     let at : k * 1024 + c * 64 + (32 + s / 8) ≡ k * 1024 + c * 64 + 32 + s / 8 = omega arith in
     output-bit (columnAt work k c) s ∙ ap (λ (x : ℕ). bit x (s % 8)) (column-byte work k c (32 + s / 8) (omega arith) ∙ ap (λ (p : ℕ). getD work p 0) at)
+
+pub digit-small : {r : ℕ} (b : Bool) → r ≡ cond b 1 0 → r ≤ 1
+digit-small true is = rw is (omega arith)
+digit-small false is = rw is (omega arith)
 
 -- ---- the map from bit i up
 

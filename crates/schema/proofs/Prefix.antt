@@ -2,18 +2,18 @@
 use Prim.Native.Nat.{ℕ, _+_, _-_, _*_, _≤_, _<_}
 use mathlib.Core.Path.{_≡_, sym, ap, _∙_}
 use mathlib.Core.List.{List, [], _∷_, _++_, append-assoc, append-nil}
-use native.Mathlib.Nat.{min-le-right}
 use native.Mathlib.Numerals.{add-one}
 use native.Mathlib.Omega.{arith}
 use borrow.Rule.Slice.PartMut.{putMid, midOf}
-use lib.ListN.{length, getD, take, length-take, length-append}
+use lib.ListN.{length, getD, take, length-append}
+use Rattle.bits.specs.Bit.{bit}
 use Rattle.bits.specs.Part.{over-more}
 use Rattle.bits.specs.Tab.{tab-none, tab-more, over, over-none, over-length}
 use Rattle.type_record.specs.Record.{TypeRecord, recordSize, recordBytes}
 use Rattle.type_record.specs.RecordBytes.{size-most, record-length}
 use Rattle.type_record.specs.WritingLaws.{Ordinaries}
 use Rattle.membership.specs.Holders.{heldBy}
-use Rattle.membership.specs.HolderLaws.{held-few, held-below, items-taken, taken-below}
+use Rattle.membership.specs.HolderLaws.{held-few, items-taken, listed-reaches, listed-fits}
 use Rattle.schema.specs.Schema.{schemaBytes, recordsOf, WritesFrom}
 
 -- ---- one more
@@ -73,14 +73,10 @@ module _ {m : ℕ} {special items : List ℕ} {count : ℕ} {old out : List ℕ}
   -- the attributes that the relation holds, as they are listed
   module _ {n : ℕ} (list : List ℕ) (number : n ≡ length (heldBy r (take count items))) (listed-is : take n list ≡ heldBy r (take count items)) where
     pub list-reaches : n ≤ length list
-    list-reaches =
-        let same = ap length listed-is in
-        let size = length-take n list in
-        let least = min-le-right n (length list) in
-        omega arith
+    list-reaches = listed-reaches items count (λ e. bit e r) list number listed-is
 
     pub listed-most : (length (take n list) ≤ 255) × Ordinaries (take n list)
-    listed-most = rw listed-is (held-most, held-below r (take count items) (taken-below (w .fit)))
+    listed-most = listed-fits items count (λ e. bit e r) list number listed-is (w .fit) (w .few)
 
     pub prefix-next : {size : ℕ} {part : List ℕ} → r < m → size ≡ recordSize (length (take n list)) → part ≡ over (recordBytes (getD special r 0) (take n list)) (midOf at (length out - at) out) → Prefix m special (take count items) old (putMid at (length out - at) out part) (at + size) (r + 1)
     prefix-next more size-is part-is =

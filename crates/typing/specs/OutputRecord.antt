@@ -1,13 +1,13 @@
 -- The output record is a type record, and what it says about each attribute is what the attribute's cell says.
 use Prim.Native.Nat.{ℕ, zero, suc, _%_, _≤_, _<_}
-use mathlib.Core.Path.{_≡_, refl, sym, ap, _∙_}
+use mathlib.Core.Path.{_≡_, refl, sym, _∙_}
 use mathlib.Core.Bool.{Bool, true, false, cond}
 use mathlib.Core.List.{List, [], _∷_}
-use native.Mathlib.Nat.{lt-of-lt-of-le, min-le-right}
+use native.Mathlib.Nat.{lt-of-lt-of-le}
 use native.Mathlib.Omega.{arith}
 use borrow.Author.Tests.{eqb-true, eq-eqb, ne-eqb}
 use lib.Dec.{eqb, lit<}
-use lib.ListN.{length, getD, take, length-take}
+use lib.ListN.{length, getD}
 use Rattle.bits.specs.Bit.{bit}
 use Rattle.bits.specs.Pack.{pack-below}
 use Rattle.bits.specs.Rising.{member, Rising, rising-lower, rising-above}
@@ -16,9 +16,7 @@ use Rattle.algebra.specs.Cell.{plain, out, ok}
 use Rattle.algebra.specs.CellLaws.{cell-depends}
 use Rattle.type_record.specs.Record.{TypeRecord}
 use Rattle.type_record.specs.RecordBytes.{IsRecord}
-use Rattle.type_record.specs.WritingLaws.{Ordinaries}
-use Rattle.membership.specs.Holders.{ItemsFit}
-use Rattle.membership.specs.HolderLaws.{items-taken, taken-below}
+use Rattle.membership.specs.HolderLaws.{kept-rising, kept-few, kept-below}
 use Rattle.membership.specs.Entries.{attributeOf, subsetOf, holdersIn}
 use Rattle.membership.specs.EnterLaws.{RisingEntries, subset-bit}
 use Rattle.membership.specs.TableLaws.{Below}
@@ -33,62 +31,19 @@ pub output-parts : (e : Expression) (special entries : List ℕ) → outputRecor
 unfolding outputRecord
 output-parts e special entries = refl
 
--- ---- its list
-
-output-rising : (e : Expression) (p : ℕ) (es : List ℕ) → RisingEntries p es → Rising p (outputList e es)
-output-rising e p [] h = tt
-output-rising e p (x ∷ xs) h = go (out plain e 0 (bit x)) (output-rising e (attributeOf x) xs (h .1))
-  where
-    go : (t : Bool) → Rising (attributeOf x) (outputList e xs) → Rising p (cond t (attributeOf x ∷ outputList e xs) (outputList e xs))
-    go true rest = (h .0, rest)
-    go false rest = let first = h .0 in rising-lower p (attributeOf x) (outputList e xs) (omega arith) rest
-
-output-few : (e : Expression) (es : List ℕ) → length (outputList e es) ≤ length es
-output-few e [] = omega arith
-output-few e (x ∷ xs) = go (out plain e 0 (bit x)) (output-few e xs)
-  where
-    go : (t : Bool) → length (outputList e xs) ≤ length xs → length (cond t (attributeOf x ∷ outputList e xs) (outputList e xs)) ≤ suc (length xs)
-    go true rest = omega arith
-    go false rest = omega arith
-
-output-below : (e : Expression) (es : List ℕ) → Below 16777216 es → (i : ℕ) → getD (outputList e es) i 0 < 65536
-output-below e [] h i = lit< tt
-output-below e (x ∷ xs) h i = go (out plain e 0 (bit x)) (output-below e xs (h .1)) i
-  where
-    go : (t : Bool) → ((i : ℕ) → getD (outputList e xs) i 0 < 65536) → (i : ℕ) → getD (cond t (attributeOf x ∷ outputList e xs) (outputList e xs)) i 0 < 65536
-    go true rest zero = let below = h .0 in omega arith
-    go true rest (suc i) = rest i
-    go false rest i = rest i
-
--- ---- its list in a slice
-
-module _ (e : Expression) (items : List ℕ) (count : ℕ) {n : ℕ} (list : List ℕ) (number : n ≡ length (outputList e (take count items))) (is : take n list ≡ outputList e (take count items)) where
-  pub listed-reaches : n ≤ length list
-  listed-reaches =
-      let same = ap length is in
-      let size = length-take n list in
-      let least = min-le-right n (length list) in
-      omega arith
-
-  pub listed-most : ItemsFit items count → count ≤ 255 → (length (take n list) ≤ 255) × Ordinaries (take n list)
-  listed-most fit few =
-      let size = items-taken fit in
-      let fewer = output-few e (take count items) in
-      rw is (omega arith, output-below e (take count items) (taken-below fit))
-
 -- ---- the record
 
 module _ (m : ℕ) (few : m ≤ 8) (e : Expression) (legal : Legal m e) where
   pub output-is : (special es : List ℕ) → ((r : ℕ) → getD special r 0 % 2 ≡ 0) → length es ≤ 255 → RisingEntries 15 es → Below 16777216 es → IsRecord (outputRecord e special es)
   unfolding outputRecord outputMap
   output-is special es even fits rising below =
-      let most = output-few e es in
+      let most = kept-few (λ x. out plain e 0 (bit x)) es in
       record {
         even = map-even m e legal special even;
         small = pack-below 16 _;
         few = omega arith;
-        rising = output-rising e 15 es rising;
-        below = output-below e es below;
+        rising = kept-rising (λ x. out plain e 0 (bit x)) 15 es rising;
+        below = kept-below (λ x. out plain e 0 (bit x)) es below;
       }
 
   -- a cell of an entry is that of its subset
@@ -104,7 +59,7 @@ module _ (m : ℕ) (few : m ≤ 8) (e : Expression) (legal : Legal m e) where
       go true same true has rest = rw same (sym (entry-cell x .1 ∙ has))
       go true same false lacks rest =
           let is = eqb-true a (attributeOf x) same in
-          rising-above (attributeOf x) (outputList e xs) a (output-rising e (attributeOf x) xs (h .1)) (omega arith) ∙ sym (entry-cell x .1 ∙ lacks)
+          rising-above (attributeOf x) (outputList e xs) a (kept-rising (λ x. out plain e 0 (bit x)) (attributeOf x) xs (h .1)) (omega arith) ∙ sym (entry-cell x .1 ∙ lacks)
       go false other true has rest = rw other rest
       go false other false lacks rest = rest
 

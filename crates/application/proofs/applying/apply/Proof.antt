@@ -24,11 +24,11 @@ returns c = apply-stops (c .before .before .before .before .before .before .befo
 returns-2 : tie.Need-returns-2
 returns-2 c = apply-stops (c .before .before .before .before .before .before .before .before .before .before .before .args .file .now) (c .before .before .before .before .before .before .before .before .before .before .before .args .node) (c .before .before .before .before .before .before .before .before .before .before .before .args .instantiation .now) (c .before .before .before .before .before .before .before .before .before .before .before .args .work .now) (c .before .before .before .before .before .before .before .before .before .before .before .args .schema .now) (c .before .before .before .before .before .before .before .before .before .before .before .args .out .now) _ (sliced-stops _ _ 513 (sliced-passes _ _ 4104 (sym (c .before .before .before .before .before .admit .ensures) ∙ c .before .before .before .m .given .1) (c .before .if1 .left)) (c .if2 .taken))
 
-cast-apply-bytes : tie.Need-cast-apply-bytes
-cast-apply-bytes c = let admits = admitted-passed (c .before .before .before .before .before .before .before .before .before .before .before .args .file .now) (c .before .before .before .before .before .before .before .before .before .before .before .args .node) (length (c .before .before .before .before .before .before .before .before .before .before .before .args .work .now)) (sym (c .before .before .before .before .before .admit .ensures) ∙ c .before .before .before .m .given .1) in let most = accepted-file (c .before .before .before .before .before .before .before .before .before .before .before .args .file .now) _ _ (admits .accepted) .counts .nodes .1 in let node = admits .node in omega arith
+cast-apply-sized : tie.Need-cast-apply-sized
+cast-apply-sized c = let admits = admitted-passed (c .before .before .before .before .before .before .before .before .before .before .before .args .file .now) (c .before .before .before .before .before .before .before .before .before .before .before .args .node) (length (c .before .before .before .before .before .before .before .before .before .before .before .args .work .now)) (sym (c .before .before .before .before .before .admit .ensures) ∙ c .before .before .before .m .given .1) in let most = accepted-file (c .before .before .before .before .before .before .before .before .before .before .before .args .file .now) _ _ (admits .accepted) .counts .nodes .1 in let node = admits .node in omega arith
 
-apply-bytes-requires : tie.Need-apply-bytes-requires
-apply-bytes-requires c κs = let admits = admitted-passed (c .before .before .before .before .before .before .before .before .before .before .before .before .before .before .args .file .now) (c .before .before .before .before .before .before .before .before .before .before .before .before .before .before .args .node) (length (c .before .before .before .before .before .before .before .before .before .before .before .before .before .before .args .work .now)) (sym (c .before .before .before .before .before .before .before .before .admit .ensures) ∙ c .before .before .before .before .before .before .m .given .1) in (admits .accepted, ((admits .node, admits .workSpace), (c .before .before .before .before .if1 .left, c .before .before .before .if2 .left)))
+apply-sized-requires : tie.Need-apply-sized-requires
+apply-sized-requires c κs = let admits = admitted-passed (c .before .before .before .before .before .before .before .before .before .before .before .before .before .before .args .file .now) (c .before .before .before .before .before .before .before .before .before .before .before .before .before .before .args .node) (length (c .before .before .before .before .before .before .before .before .before .before .before .before .before .before .args .work .now)) (sym (c .before .before .before .before .before .before .before .before .admit .ensures) ∙ c .before .before .before .before .before .before .m .given .1) in (admits .accepted, ((admits .node, admits .workSpace), (c .before .before .before .before .if1 .left, c .before .before .before .if2 .left)))
 
 returns-3 : tie.Need-returns-3
 returns-3 c = apply-stops (c .before .before .before .before .before .before .before .before .before .args .file .now) (c .before .before .before .before .before .before .before .before .before .args .node) (c .before .before .before .before .before .before .before .before .before .args .instantiation .now) (c .before .before .before .before .before .before .before .before .before .args .work .now) (c .before .before .before .before .before .before .before .before .before .args .schema .now) (c .before .before .before .before .before .before .before .before .before .args .out .now) _ (sliced-refused _ _ 513 (sliced-refused _ _ 4104 (sym (c .before .before .before .admit .ensures) ∙ c .before .r .given .1)))
@@ -43,7 +43,7 @@ same-length-3 : tie.Need-same-length-3
 same-length-3 c = search needs
 
 returns-4 : tie.Need-returns-4
-returns-4 c = apply-goes (c .before .before .before .before .before .before .before .before .before .before .before .before .before .before .before .before .before .before .before .before .before .args .file .now) (c .before .before .before .before .before .before .before .before .before .before .before .before .before .before .before .before .before .before .before .before .before .args .node) (c .before .before .before .before .before .before .before .before .before .before .before .before .before .before .before .before .before .before .before .before .before .args .instantiation .now) (c .before .before .before .before .before .before .before .before .before .before .before .before .before .before .before .before .before .before .before .before .before .args .work .now) (c .before .before .before .before .before .before .before .before .before .before .before .before .before .before .before .before .before .before .before .before .before .args .schema .now) (c .before .before .before .before .before .before .before .before .before .before .before .before .before .before .before .before .before .before .before .before .before .args .out .now) _ _ (sliced-passes _ _ 513 (sliced-passes _ _ 4104 (sym (c .before .before .before .before .before .before .before .before .before .before .before .before .before .before .before .admit .ensures) ∙ c .before .before .before .before .before .before .before .before .before .before .before .before .before .m .given .1) (c .before .before .before .before .before .before .before .before .before .before .before .if1 .left)) (c .before .before .before .before .before .before .before .before .before .before .if2 .left)) _ _ _ _ (c .before .before .before .before .before .before .apply-bytes .ensures .0) (c .before .before .before .before .before .before .apply-bytes .ensures .1 .0) (c .before .before .before .before .before .before .apply-bytes .ensures .1 .1 .0) (c .before .before .before .before .before .before .apply-bytes .ensures .1 .1 .1)
+returns-4 c = apply-goes (c .before .before .before .before .before .before .before .before .before .before .before .before .before .before .before .before .before .before .before .before .before .args .file .now) (c .before .before .before .before .before .before .before .before .before .before .before .before .before .before .before .before .before .before .before .before .before .args .node) (c .before .before .before .before .before .before .before .before .before .before .before .before .before .before .before .before .before .before .before .before .before .args .instantiation .now) (c .before .before .before .before .before .before .before .before .before .before .before .before .before .before .before .before .before .before .before .before .before .args .work .now) (c .before .before .before .before .before .before .before .before .before .before .before .before .before .before .before .before .before .before .before .before .before .args .schema .now) (c .before .before .before .before .before .before .before .before .before .before .before .before .before .before .before .before .before .before .before .before .before .args .out .now) _ _ (sliced-passes _ _ 513 (sliced-passes _ _ 4104 (sym (c .before .before .before .before .before .before .before .before .before .before .before .before .before .before .before .admit .ensures) ∙ c .before .before .before .before .before .before .before .before .before .before .before .before .before .m .given .1) (c .before .before .before .before .before .before .before .before .before .before .before .if1 .left)) (c .before .before .before .before .before .before .before .before .before .before .if2 .left)) _ _ _ _ (c .before .before .before .before .before .before .apply-sized .ensures .0) (c .before .before .before .before .before .before .apply-sized .ensures .1 .0) (c .before .before .before .before .before .before .apply-sized .ensures .1 .1 .0) (c .before .before .before .before .before .before .apply-sized .ensures .1 .1 .1)
 
 pub apply-spec : {M : Type 1} → statement M
 apply-spec =
@@ -54,8 +54,8 @@ apply-spec =
     enum-known-m
     returns
     returns-2
-    cast-apply-bytes
-    apply-bytes-requires
+    cast-apply-sized
+    apply-sized-requires
     returns-3
     same-length
     same-length-2

@@ -1,3 +1,8 @@
+use Rattle.application.specs.Fitting.{output-at}
+use Rattle.bits.specs.PackFrom.{bit-digit}
+use native.Mathlib.Omega.{arith}
+use mathlib.Core.Path.{sym, ap, _∙_}
+use mathlib.Core.Bool.{Bool, cond}
 use borrow.Author.Needs.{needs}
 use Rattle.application.proofs.fitting.output_digit.Statement.{statement}
 use Rattle.application.proofs.fitting.output_digit.Tie as tie
@@ -26,7 +31,7 @@ shr-result : tie.Need-shr-result
 shr-result c = search needs
 
 returns : tie.Need-returns
-returns c = search needs
+returns c = sym (ap (λ (b : Bool). cond b 1 0) (output-at (c .before .args .work .now) (c .before .args .node) (c .before .args .c) (c .before .args .s) (let h = c .before .fits .s in omega arith)) ∙ bit-digit _ _)
 
 pub output-digit-spec : {M : Type 1} → statement M
 output-digit-spec =

@@ -1,3 +1,10 @@
+use Rattle.application.specs.Fitting.{mapFrom, map-first, map-lower, map-below, map-all, digit-small}
+use Rattle.formula.specs.Storage.{columnAt}
+use Rattle.column.specs.Column.{outputIn}
+use lib.ListN.{getD}
+use native.Mathlib.Omega.{arith}
+use mathlib.Core.Path.{_≡_, sym, ap, _∙_}
+use Prim.Native.Nat.{_-_, _≤_}
 use borrow.Author.Needs.{needs}
 use Rattle.application.proofs.fitting.output_map.Statement.{statement}
 use Rattle.application.proofs.fitting.output_map.Tie as tie
@@ -6,19 +13,22 @@ use Rattle.application.proofs.fitting.output_map.Lts as lts
 use Rattle.application.proofs.fitting.output_digit.Reads as output-digit-reads
 
 abbrev Inv-loop : tie.InvT-loop
-Inv-loop work node subsets x₀ i₀ x i = ?
+Inv-loop work node subsets x₀ i₀ x i = (i ≤ 16) × (x ≡ mapFrom work node subsets i)
 
 abbrev μ-loop : tie.MeasureT-loop
-μ-loop work node subsets x₀ i₀ x i = ?
+μ-loop work node subsets x₀ i₀ x i = i
 
 loop-holds : tie.Need-loop-holds Inv-loop μ-loop
-loop-holds c = search needs
+loop-holds c = (omega arith, map-first (c .before .before .args .work .now) (c .before .before .args .node) (c .before .before .args .subsets .now))
 
 sub-i : tie.Need-sub-i Inv-loop μ-loop
 sub-i c = search needs
 
 mul-x : tie.Need-mul-x Inv-loop μ-loop
-mul-x c = search needs
+mul-x c =
+    let below = map-below (c .before .before .before .before .args .work .now) (c .before .before .before .before .args .node) (c .before .before .before .before .args .subsets .now) (c .before .loop .i) (c .loop-test .taken) in
+    let is = c .before .loop .inv .1 in
+    omega arith
 
 cast-output-digit : tie.Need-cast-output-digit Inv-loop μ-loop
 cast-output-digit c = search needs
@@ -33,16 +43,22 @@ cast-x : tie.Need-cast-x Inv-loop μ-loop
 cast-x c = search needs
 
 add-x : tie.Need-add-x Inv-loop μ-loop
-add-x c = search needs
+add-x c =
+    let below = map-below (c .before .before .before .before .before .before .args .work .now) (c .before .before .before .before .before .before .args .node) (c .before .before .before .before .before .before .args .subsets .now) (c .before .before .before .loop .i) (c .before .before .loop-test .taken) in
+    let is = c .before .before .before .loop .inv .1 in
+    let digit = digit-small (outputIn (columnAt (c .before .before .before .before .before .before .args .work .now) (c .before .before .before .before .before .before .args .node) (c .before .before .before .loop .i - 1)) (getD (c .before .before .before .before .before .before .args .subsets .now) (c .before .before .before .loop .i - 1) 0)) (c .output-digit .ensures) in
+    omega arith
 
 loop-less : tie.Need-loop-less Inv-loop μ-loop
 loop-less c = search needs
 
 loop-again : tie.Need-loop-again Inv-loop μ-loop
-loop-again c = search needs
+loop-again c = (omega arith, rw (c .before .before .before .loop .inv .1, c .output-digit .ensures) (sym (map-lower (c .before .before .before .before .before .before .args .work .now) (c .before .before .before .before .before .before .args .node) (c .before .before .before .before .before .before .args .subsets .now) (c .before .before .before .loop .i) (c .before .before .loop-test .taken) (c .before .before .before .loop .inv .0))))
 
 returns : tie.Need-returns Inv-loop μ-loop
-returns c = search needs
+returns c =
+    let all : c .before .loop .i ≡ 0 = omega arith in
+    (rw all at (c .before .loop .inv .1)) ∙ map-all _ _ _
 
 pub output-map-spec : {M : Type 1} → statement M
 output-map-spec =

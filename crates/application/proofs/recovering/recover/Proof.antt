@@ -21,11 +21,11 @@ enum-known-m c = search needs
 returns : tie.Need-returns
 returns c = recover-stops (c .before .before .before .before .before .before .before .before .before .args .file .now) (c .before .before .before .before .before .before .before .before .before .args .node) (c .before .before .before .before .before .before .before .before .before .args .schema .now) (c .before .before .before .before .before .before .before .before .before .args .work .now) (c .before .before .before .before .before .before .before .before .before .args .out .now) _ (sliced-stops _ _ 812 (sym (c .before .before .before .before .admit .ensures) ∙ c .before .before .m .given .1) (c .if1 .taken))
 
-cast-recover-bytes : tie.Need-cast-recover-bytes
-cast-recover-bytes c = let admits = admitted-passed (c .before .before .before .before .before .before .before .before .before .args .file .now) (c .before .before .before .before .before .before .before .before .before .args .node) (length (c .before .before .before .before .before .before .before .before .before .args .work .now)) (sym (c .before .before .before .before .admit .ensures) ∙ c .before .before .m .given .1) in let most = accepted-file (c .before .before .before .before .before .before .before .before .before .args .file .now) _ _ (admits .accepted) .counts .nodes .1 in let node = admits .node in omega arith
+cast-recover-sized : tie.Need-cast-recover-sized
+cast-recover-sized c = let admits = admitted-passed (c .before .before .before .before .before .before .before .before .before .args .file .now) (c .before .before .before .before .before .before .before .before .before .args .node) (length (c .before .before .before .before .before .before .before .before .before .args .work .now)) (sym (c .before .before .before .before .admit .ensures) ∙ c .before .before .m .given .1) in let most = accepted-file (c .before .before .before .before .before .before .before .before .before .args .file .now) _ _ (admits .accepted) .counts .nodes .1 in let node = admits .node in omega arith
 
-recover-bytes-requires : tie.Need-recover-bytes-requires
-recover-bytes-requires c κs = let admits = admitted-passed (c .before .before .before .before .before .before .before .before .before .before .before .args .file .now) (c .before .before .before .before .before .before .before .before .before .before .before .args .node) (length (c .before .before .before .before .before .before .before .before .before .before .before .args .work .now)) (sym (c .before .before .before .before .before .before .admit .ensures) ∙ c .before .before .before .before .m .given .1) in (admits .accepted, ((admits .node, admits .workSpace), c .before .before .if1 .left))
+recover-sized-requires : tie.Need-recover-sized-requires
+recover-sized-requires c κs = let admits = admitted-passed (c .before .before .before .before .before .before .before .before .before .before .before .args .file .now) (c .before .before .before .before .before .before .before .before .before .before .before .args .node) (length (c .before .before .before .before .before .before .before .before .before .before .before .args .work .now)) (sym (c .before .before .before .before .before .before .admit .ensures) ∙ c .before .before .before .before .m .given .1) in (admits .accepted, ((admits .node, admits .workSpace), c .before .before .if1 .left))
 
 returns-2 : tie.Need-returns-2
 returns-2 c = recover-stops (c .before .before .before .before .before .before .before .before .args .file .now) (c .before .before .before .before .before .before .before .before .args .node) (c .before .before .before .before .before .before .before .before .args .schema .now) (c .before .before .before .before .before .before .before .before .args .work .now) (c .before .before .before .before .before .before .before .before .args .out .now) _ (sliced-refused _ _ 812 (sym (c .before .before .before .admit .ensures) ∙ c .before .r .given .1))
@@ -37,7 +37,7 @@ same-length-2 : tie.Need-same-length-2
 same-length-2 c = search needs
 
 returns-3 : tie.Need-returns-3
-returns-3 c = recover-goes (c .before .before .before .before .before .before .before .before .before .before .before .before .before .before .before .before .args .file .now) (c .before .before .before .before .before .before .before .before .before .before .before .before .before .before .before .before .args .node) (c .before .before .before .before .before .before .before .before .before .before .before .before .before .before .before .before .args .schema .now) (c .before .before .before .before .before .before .before .before .before .before .before .before .before .before .before .before .args .work .now) (c .before .before .before .before .before .before .before .before .before .before .before .before .before .before .before .before .args .out .now) _ _ (sliced-passes _ _ 812 (sym (c .before .before .before .before .before .before .before .before .before .before .before .admit .ensures) ∙ c .before .before .before .before .before .before .before .before .before .m .given .1) (c .before .before .before .before .before .before .before .if1 .left)) _ _ _ (c .before .before .before .before .recover-bytes .ensures .0) (c .before .before .before .before .recover-bytes .ensures .1 .0) (c .before .before .before .before .recover-bytes .ensures .1 .1)
+returns-3 c = recover-goes (c .before .before .before .before .before .before .before .before .before .before .before .before .before .before .before .before .args .file .now) (c .before .before .before .before .before .before .before .before .before .before .before .before .before .before .before .before .args .node) (c .before .before .before .before .before .before .before .before .before .before .before .before .before .before .before .before .args .schema .now) (c .before .before .before .before .before .before .before .before .before .before .before .before .before .before .before .before .args .work .now) (c .before .before .before .before .before .before .before .before .before .before .before .before .before .before .before .before .args .out .now) _ _ (sliced-passes _ _ 812 (sym (c .before .before .before .before .before .before .before .before .before .before .before .admit .ensures) ∙ c .before .before .before .before .before .before .before .before .before .m .given .1) (c .before .before .before .before .before .before .before .if1 .left)) _ _ _ (c .before .before .before .before .recover-sized .ensures .0) (c .before .before .before .before .recover-sized .ensures .1 .0) (c .before .before .before .before .recover-sized .ensures .1 .1)
 
 pub recover-spec : {M : Type 1} → statement M
 recover-spec =
@@ -47,8 +47,8 @@ recover-spec =
     enum-known-r
     enum-known-m
     returns
-    cast-recover-bytes
-    recover-bytes-requires
+    cast-recover-sized
+    recover-sized-requires
     returns-2
     same-length
     same-length-2

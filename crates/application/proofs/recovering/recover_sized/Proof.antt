@@ -1,3 +1,4 @@
+use native.Mathlib.Omega.{arith}
 use borrow.Author.Needs.{needs}
 use Rattle.application.proofs.recovering.recover_sized.Statement.{statement}
 use Rattle.application.proofs.recovering.recover_sized.Tie as tie
@@ -12,7 +13,9 @@ slice-aggregate-recover-bytes-2 : tie.Need-slice-aggregate-recover-bytes-2
 slice-aggregate-recover-bytes-2 c = search needs
 
 recover-bytes-requires : tie.Need-recover-bytes-requires
-recover-bytes-requires c κs = search needs
+recover-bytes-requires c κs =
+    let short = c .before .before .before .before .if1 .taken in
+    (c .before .before .before .before .before .before .before .before .before .pre .0, (c .before .before .before .before .before .before .before .before .before .pre .1 .0, (((λ k few fits. omega arith), (λ k few fits. omega arith)), c .before .before .before .before .before .before .before .before .before .pre .1 .1)))
 
 same-length : tie.Need-same-length
 same-length c = search needs
@@ -30,7 +33,7 @@ slice-aggregate-recover-bytes-4 : tie.Need-slice-aggregate-recover-bytes-4
 slice-aggregate-recover-bytes-4 c = search needs
 
 recover-bytes-requires-2 : tie.Need-recover-bytes-requires-2
-recover-bytes-requires-2 c κs = search needs
+recover-bytes-requires-2 c κs = (c .before .before .before .before .before .before .before .before .before .pre .0, (c .before .before .before .before .before .before .before .before .before .pre .1 .0, (((λ k few fits. omega arith), (λ k few fits. omega arith)), c .before .before .before .before .before .before .before .before .before .pre .1 .1)))
 
 same-length-3 : tie.Need-same-length-3
 same-length-3 c = search needs
