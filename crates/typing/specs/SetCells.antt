@@ -251,7 +251,7 @@ module _ (special entries : List ℕ) (width : ℕ) (wide : 2 ≤ width) where
 -- ---- each kind of node
 
 -- a word of a relation has the bits of its entries, and none past the last
-relation-bit : (items : List ℕ) (count r v i : ℕ) → count ≤ length items → 2 ≤ v → i < 64 → bit (relationWord items count r v) i ≡ bit (getD (take count items) ((v - 2) * 64 + i) 0) r
+pub relation-bit : (items : List ℕ) (count r v i : ℕ) → count ≤ length items → 2 ≤ v → i < 64 → bit (relationWord items count r v) i ≡ bit (getD (take count items) ((v - 2) * 64 + i) 0) r
 unfolding relationWord entriesHeld
 relation-bit items count r v i fits some h = go (decLt i (min count (from + 64) - from))
   where
@@ -268,6 +268,13 @@ relation-bit items count r v i fits some h = go (decLt i (min count (from + 64) 
         let below = pack-below (min count (from + 64) - from) f in
         let power = pow-mono {i = min count (from + 64) - from} {j = i} (omega arith) in
         bit-above (pack (min count (from + 64) - from) f) i (omega arith) ∙ sym (ap (λ (x : ℕ). bit x r) (List·getD-eq-default (take count items) 0 {n = from + i} (omega arith)) ∙ bit-none r)
+
+pub relation-below : (items : List ℕ) (count r v : ℕ) → relationWord items count r v < 2 ^ 64
+unfolding relationWord entriesHeld
+relation-below items count r v =
+    let below = pack-below (min count ((v - 2) * 64 + 64) - (v - 2) * 64) (λ i. bit (getD items ((v - 2) * 64 + i) 0) r) in
+    let power = pow-mono {i = min count ((v - 2) * 64 + 64) - (v - 2) * 64} {j = 64} (omega arith) in
+    omega arith
 
 module _ (special items : List ℕ) (count width : ℕ) (wide : 2 ≤ width) where
   abbrev entries : List ℕ

@@ -21,23 +21,23 @@ mul-map c = search needs
 
 shared-slice-read-map : tie.Need-shared-slice-read-map
 shared-slice-read-map c =
-    let args = c .before .before .before .before .before .before .before .args in
-    let legal = subst (LegalNode (args .m) (args .k)) (c .before .before .node .given .1) (c .before .before .before .before .before .before .before .pre .0 .1) in
-    let few = c .before .before .before .before .before .before .before .pre .0 .0 in
-    let size = c .before .before .before .before .before .before .before .pre .1 .0 .0 in
+    let args = c .before .before .before .before .before .before .before .before .args in
+    let legal = subst (LegalNode (args .m) (args .k)) (c .before .before .node .given .1) (c .before .before .before .before .before .before .before .before .pre .0 .1) in
+    let few = c .before .before .before .before .before .before .before .before .pre .0 .0 in
+    let size = c .before .before .before .before .before .before .before .before .pre .1 .0 .0 in
     omega arith
 
 cast-map-2 : tie.Need-cast-map-2
-cast-map-2 c = omega (arith, c .before .before .before .before .before .before .shared-slice-known .given (c .before .before .node .given .0 .0))
+cast-map-2 c = omega (arith, c .before .before .before .before .before .before .before .shared-slice-known .given (c .before .before .node .given .0 .0))
 
 lay-relation-requires : tie.Need-lay-relation-requires
 lay-relation-requires c κs =
-    let args = c .before .before .before .before .before .before .before .before .args in
-    let legal = subst (LegalNode (args .m) (args .k)) (c .before .before .before .node .given .1) (c .before .before .before .before .before .before .before .before .pre .0 .1) in
-    let wide = c .before .before .before .before .before .before .before .before .pre .1 .1 .0 in
-    let fits = c .before .before .before .before .before .before .before .before .pre .1 .1 .1 in
-    let few = c .before .before .before .before .before .before .before .before .pre .0 .0 in
-    ((omega arith, c .before .before .before .before .before .before .before .before .pre .1 .0 .1), (wide, fits))
+    let args = c .before .before .before .before .before .before .before .before .before .args in
+    let legal = subst (LegalNode (args .m) (args .k)) (c .before .before .before .node .given .1) (c .before .before .before .before .before .before .before .before .before .pre .0 .1) in
+    let wide = c .before .before .before .before .before .before .before .before .before .pre .1 .1 .1 .0 in
+    let fits = c .before .before .before .before .before .before .before .before .before .pre .1 .1 .1 .1 in
+    let few = c .before .before .before .before .before .before .before .before .before .pre .0 .0 in
+    ((omega arith, c .before .before .before .before .before .before .before .before .before .pre .1 .0 .1), (c .before .before .before .before .before .before .before .before .before .pre .1 .1 .0, (wide, fits)))
 
 enum-known-node-2 : tie.Need-enum-known-node-2
 enum-known-node-2 c = search needs
@@ -47,10 +47,10 @@ cast-combine c = search needs
 
 mul-combine : tie.Need-mul-combine
 mul-combine c =
-    let args = c .before .before .before .before .before .before .before .args in
-    let legal = subst (LegalNode (args .m) (args .k)) (c .before .before .node2 .given .1) (c .before .before .before .before .before .before .before .pre .0 .1) in
-    let wide = c .before .before .before .before .before .before .before .pre .1 .1 .0 in
-    let fits = c .before .before .before .before .before .before .before .pre .1 .1 .1 in
+    let args = c .before .before .before .before .before .before .before .before .args in
+    let legal = subst (LegalNode (args .m) (args .k)) (c .before .before .node2 .given .1) (c .before .before .before .before .before .before .before .before .pre .0 .1) in
+    let wide = c .before .before .before .before .before .before .before .before .pre .1 .1 .1 .0 in
+    let fits = c .before .before .before .before .before .before .before .before .pre .1 .1 .1 .1 in
     let low = node-below (c .before .before .node2 .given .0 .1 .0) (args .k) (args .width) (legal .0) in
     omega arith
 
@@ -59,19 +59,19 @@ cast-combine-2 c = search needs
 
 mul-combine-2 : tie.Need-mul-combine-2
 mul-combine-2 c =
-    let args = c .before .before .before .before .before .before .before .args in
-    let legal = subst (LegalNode (args .m) (args .k)) (c .before .before .node2 .given .1) (c .before .before .before .before .before .before .before .pre .0 .1) in
-    let wide = c .before .before .before .before .before .before .before .pre .1 .1 .0 in
-    let fits = c .before .before .before .before .before .before .before .pre .1 .1 .1 in
+    let args = c .before .before .before .before .before .before .before .before .args in
+    let legal = subst (LegalNode (args .m) (args .k)) (c .before .before .node2 .given .1) (c .before .before .before .before .before .before .before .before .pre .0 .1) in
+    let wide = c .before .before .before .before .before .before .before .before .pre .1 .1 .1 .0 in
+    let fits = c .before .before .before .before .before .before .before .before .pre .1 .1 .1 .1 in
     let low = node-below (c .before .before .node2 .given .0 .1 .1 .0) (args .k) (args .width) (legal .1) in
     omega arith
 
 combine-requires : tie.Need-combine-requires
 combine-requires c κs =
-    let args = c .before .before .before .before .before .before .before .args in
-    let legal = subst (LegalNode (args .m) (args .k)) (c .before .before .node2 .given .1) (c .before .before .before .before .before .before .before .pre .0 .1) in
-    let wide = c .before .before .before .before .before .before .before .pre .1 .1 .0 in
-    let fits = c .before .before .before .before .before .before .before .pre .1 .1 .1 in
+    let args = c .before .before .before .before .before .before .before .before .args in
+    let legal = subst (LegalNode (args .m) (args .k)) (c .before .before .node2 .given .1) (c .before .before .before .before .before .before .before .before .pre .0 .1) in
+    let wide = c .before .before .before .before .before .before .before .before .pre .1 .1 .1 .0 in
+    let fits = c .before .before .before .before .before .before .before .before .pre .1 .1 .1 .1 in
     let low = node-below (c .before .before .node2 .given .0 .1 .0) (args .k) (args .width) (legal .0) in
     let high = node-below (c .before .before .node2 .given .0 .1 .1 .0) (args .k) (args .width) (legal .1) in
     ((omega arith, omega arith), (omega arith, fits))
@@ -90,19 +90,19 @@ cast-lay-with-set c = search needs
 
 mul-lay-with-set : tie.Need-mul-lay-with-set
 mul-lay-with-set c =
-    let args = c .before .before .before .before .before .before .before .before .args in
-    let legal = subst (LegalNode (args .m) (args .k)) (c .before .before .before .node3 .given .1) (c .before .before .before .before .before .before .before .before .pre .0 .1) in
-    let wide = c .before .before .before .before .before .before .before .before .pre .1 .1 .0 in
-    let fits = c .before .before .before .before .before .before .before .before .pre .1 .1 .1 in
+    let args = c .before .before .before .before .before .before .before .before .before .args in
+    let legal = subst (LegalNode (args .m) (args .k)) (c .before .before .before .node3 .given .1) (c .before .before .before .before .before .before .before .before .before .pre .0 .1) in
+    let wide = c .before .before .before .before .before .before .before .before .before .pre .1 .1 .1 .0 in
+    let fits = c .before .before .before .before .before .before .before .before .before .pre .1 .1 .1 .1 in
     let low = node-below (c .before .before .before .node3 .given .0 .1 .0) (args .k) (args .width) (legal .0) in
     omega arith
 
 lay-with-set-requires : tie.Need-lay-with-set-requires
 lay-with-set-requires c κs =
-    let args = c .before .before .before .before .before .before .before .before .args in
-    let legal = subst (LegalNode (args .m) (args .k)) (c .before .before .before .node3 .given .1) (c .before .before .before .before .before .before .before .before .pre .0 .1) in
-    let wide = c .before .before .before .before .before .before .before .before .pre .1 .1 .0 in
-    let fits = c .before .before .before .before .before .before .before .before .pre .1 .1 .1 in
+    let args = c .before .before .before .before .before .before .before .before .before .args in
+    let legal = subst (LegalNode (args .m) (args .k)) (c .before .before .before .node3 .given .1) (c .before .before .before .before .before .before .before .before .before .pre .0 .1) in
+    let wide = c .before .before .before .before .before .before .before .before .before .pre .1 .1 .1 .0 in
+    let fits = c .before .before .before .before .before .before .before .before .before .pre .1 .1 .1 .1 in
     let low = node-below (c .before .before .before .node3 .given .0 .1 .0) (args .k) (args .width) (legal .0) in
     ((omega arith, omega arith), fits)
 
@@ -114,19 +114,19 @@ cast-lay-renaming c = search needs
 
 mul-lay-renaming : tie.Need-mul-lay-renaming
 mul-lay-renaming c =
-    let args = c .before .before .before .before .before .before .before .args in
-    let legal = subst (LegalNode (args .m) (args .k)) (c .before .before .node4 .given .1) (c .before .before .before .before .before .before .before .pre .0 .1) in
-    let wide = c .before .before .before .before .before .before .before .pre .1 .1 .0 in
-    let fits = c .before .before .before .before .before .before .before .pre .1 .1 .1 in
+    let args = c .before .before .before .before .before .before .before .before .args in
+    let legal = subst (LegalNode (args .m) (args .k)) (c .before .before .node4 .given .1) (c .before .before .before .before .before .before .before .before .pre .0 .1) in
+    let wide = c .before .before .before .before .before .before .before .before .pre .1 .1 .1 .0 in
+    let fits = c .before .before .before .before .before .before .before .before .pre .1 .1 .1 .1 in
     let low = node-below (c .before .before .node4 .given .0 .0) (args .k) (args .width) (legal .0) in
     omega arith
 
 lay-renaming-requires : tie.Need-lay-renaming-requires
 lay-renaming-requires c κs =
-    let args = c .before .before .before .before .before .before .before .args in
-    let legal = subst (LegalNode (args .m) (args .k)) (c .before .before .node4 .given .1) (c .before .before .before .before .before .before .before .pre .0 .1) in
-    let wide = c .before .before .before .before .before .before .before .pre .1 .1 .0 in
-    let fits = c .before .before .before .before .before .before .before .pre .1 .1 .1 in
+    let args = c .before .before .before .before .before .before .before .before .args in
+    let legal = subst (LegalNode (args .m) (args .k)) (c .before .before .node4 .given .1) (c .before .before .before .before .before .before .before .before .pre .0 .1) in
+    let wide = c .before .before .before .before .before .before .before .before .pre .1 .1 .1 .0 in
+    let fits = c .before .before .before .before .before .before .before .before .pre .1 .1 .1 .1 in
     let low = node-below (c .before .before .node4 .given .0 .0) (args .k) (args .width) (legal .0) in
     let old = special-range _ (legal .1) in
     let new = special-range _ (legal .2) in
@@ -140,19 +140,19 @@ cast-lay-projecting-out c = search needs
 
 mul-lay-projecting-out : tie.Need-mul-lay-projecting-out
 mul-lay-projecting-out c =
-    let args = c .before .before .before .before .before .before .before .args in
-    let legal = subst (LegalNode (args .m) (args .k)) (c .before .before .node5 .given .1) (c .before .before .before .before .before .before .before .pre .0 .1) in
-    let wide = c .before .before .before .before .before .before .before .pre .1 .1 .0 in
-    let fits = c .before .before .before .before .before .before .before .pre .1 .1 .1 in
+    let args = c .before .before .before .before .before .before .before .before .args in
+    let legal = subst (LegalNode (args .m) (args .k)) (c .before .before .node5 .given .1) (c .before .before .before .before .before .before .before .before .pre .0 .1) in
+    let wide = c .before .before .before .before .before .before .before .before .pre .1 .1 .1 .0 in
+    let fits = c .before .before .before .before .before .before .before .before .pre .1 .1 .1 .1 in
     let low = node-below (c .before .before .node5 .given .0 .0) (args .k) (args .width) (legal .0) in
     omega arith
 
 lay-projecting-out-requires : tie.Need-lay-projecting-out-requires
 lay-projecting-out-requires c κs =
-    let args = c .before .before .before .before .before .before .before .args in
-    let legal = subst (LegalNode (args .m) (args .k)) (c .before .before .node5 .given .1) (c .before .before .before .before .before .before .before .pre .0 .1) in
-    let wide = c .before .before .before .before .before .before .before .pre .1 .1 .0 in
-    let fits = c .before .before .before .before .before .before .before .pre .1 .1 .1 in
+    let args = c .before .before .before .before .before .before .before .before .args in
+    let legal = subst (LegalNode (args .m) (args .k)) (c .before .before .node5 .given .1) (c .before .before .before .before .before .before .before .before .pre .0 .1) in
+    let wide = c .before .before .before .before .before .before .before .before .pre .1 .1 .1 .0 in
+    let fits = c .before .before .before .before .before .before .before .before .pre .1 .1 .1 .1 in
     let low = node-below (c .before .before .node5 .given .0 .0) (args .k) (args .width) (legal .0) in
     let old = special-range _ (legal .1) in
     (omega arith, ((omega arith, omega arith), fits))
