@@ -159,7 +159,7 @@ module _ (list : List ℕ) (s from n : ℕ) (fits : from + n ≤ length list) wh
 pub record Group (entries : List ℕ) (from x : ℕ) : Type 0 where
   pub bits : (k : ℕ) → k < 64 → bit x k ≡ bit (getD entries (from + k % 8) 0) (k / 8)
 
-pub group-is : (items : List ℕ) (count from n x y : ℕ) → count ≤ length items → from < count → n ≡ min 8 (count - from) → Stacking items 0 from n 0 x → y ≡ transposed x → Group (take count items) from y
+group-is : (items : List ℕ) (count from n x y : ℕ) → count ≤ length items → from < count → n ≡ min 8 (count - from) → Stacking items 0 from n 0 x → y ≡ transposed x → Group (take count items) from y
 group-is items count from n x y fits some n-is so is = record { bits = λ k h. ap (λ (y : ℕ). bit y k) is ∙ transposed-bit x k h ∙ so .bits (k % 8 * 8 + k / 8) (omega arith) ∙ go k h (decLt (k % 8) n) }
   where
     go : (k : ℕ) → k < 64 → Dec (k % 8 < n) → stacked items 0 from n (0 * 8 + (k % 8 * 8 + k / 8)) ≡ bit (getD (take count items) (from + k % 8) 0) (k / 8)
@@ -184,16 +184,19 @@ Groups items count groups = ((count + 7) / 8 ≤ length groups) × Gathering (ta
 pub gathering-first : (entries groups : List ℕ) → Gathering entries 0 (length groups) groups
 gathering-first entries groups = record { same = refl; group = λ g h. absurd (omega arith) }
 
-pub gathering-next : (entries : List ℕ) (made size : ℕ) (groups : List ℕ) (x : ℕ) → made < size → Group entries (made * 8) x → Gathering entries made size groups → Gathering entries (made + 1) size (set groups made x)
-gathering-next entries made size groups x inside new so =
-    record { same = length-set groups made x ∙ so .same; group = λ g h. go g (eq-or-lt-of-le (most g h)) }
+pub gathering-next : (items : List ℕ) (count made size n : ℕ) (groups : List ℕ) (x y : ℕ) → count ≤ length items → made * 8 < count → made < size → n ≡ min 8 (count - made * 8) → Stacking items 0 (made * 8) n 0 x → y ≡ transposed x → Gathering (take count items) made size groups → Gathering (take count items) (made + 1) size (set groups made y)
+gathering-next items count made size n groups x y fits some inside n-is stacked y-is so =
+    record { same = length-set groups made y ∙ so .same; group = λ g h. go g (eq-or-lt-of-le (most g h)) }
   where
     most : (g : ℕ) → g < made + 1 → g ≤ made
     most g h = omega arith
 
-    go : (g : ℕ) → (g ≡ made) ⊎ (g < made) → Group entries (g * 8) (getD (set groups made x) g 0)
-    go g (inl e) = let size = so .same in rw (e, getD-set-same groups made x 0 (omega arith)) new
-    go g (inr below) = rw (getD-set-other groups made g x 0 (λ e. omega arith)) (so .group g below)
+    go : (g : ℕ) → (g ≡ made) ⊎ (g < made) → Group (take count items) (g * 8) (getD (set groups made y) g 0)
+    go g (inl e) = let size = so .same in rw (e, getD-set-same groups made y 0 (omega arith)) (group-is items count (made * 8) n x y fits some n-is stacked y-is)
+    go g (inr below) = rw (getD-set-other groups made g y 0 (λ e. omega arith)) (so .group g below)
+
+pub gathering-all : (items : List ℕ) (count made size : ℕ) (groups : List ℕ) → made ≡ (count + 7) / 8 → (count + 7) / 8 ≤ size → Gathering (take count items) made size groups → Groups items count groups
+gathering-all items count made size groups all fits so = let same = so .same in rw same (fits, rw all at so)
 
 -- ---- a relation's word from the groups
 

@@ -1,8 +1,8 @@
 // Columns: the entries of a table eight at a time, and a relation's word from them.
 ghost use mathlib.Core.Path.{_≡_};
 ghost use Prim.Native.Nat.{_+_, _-_, _*_, _/_, _≤_, _<_, min};
-ghost use lib.ListN.{length, take};
-ghost use Rattle.typing.specs.Columns.{transposed, Stacking, Group, Groups};
+ghost use lib.ListN.{length};
+ghost use Rattle.typing.specs.Columns.{transposed, Stacking, Groups};
 
 // Rows and columns of eight by eight bits exchanged: bit 8 r + j comes from bit 8 j + r.
 fn transpose(x: u64) -> u64
@@ -30,28 +30,22 @@ fn subsets(items: &[u32], from: usize, n: usize) -> u64
     x
 }
 
-// Up to eight entries from `from` on: byte r has a bit for each that relation r holds. The number eight stands in a
-// call of its own, so that the compiler can unroll that loop.
-fn group_at(items: &[u32], count: usize, from: usize) -> u64
-    requires { ⌜ (from < count) × (count ≤ length (now items)) ⌝ }
-    ensures { λ x. ⌜ Group (take count (now (items .entry))) from x ⌝ }
-{
-    if from + 8 <= count {
-        return transpose(subsets(items, from, 8));
-    }
-    transpose(subsets(items, from, count - from))
-}
-
-// All entries, eight to a group.
+// All entries, eight to a group: byte r of group g has a bit for each of entries 8 g to 8 g + 7 that relation r holds.
+// The number eight stands in a call of its own, so that the compiler can unroll that loop.
 pub fn gather_subsets(items: &[u32], count: usize, groups: &mut [u64])
     requires { ⌜ (count ≤ length (now items)) × ((count + 7) / 8 ≤ length (now groups)) ⌝ }
     ensures { λ _. ⌜ Groups (now (items .entry)) count (now (groups .exit)) ⌝ }
 {
+    let full = count / 8;
     let mut g = 0;
-    while g * 8 < count {
-        groups[g] = group_at(items, count, g * 8);
+    while g < full {
+        groups[g] = transpose(subsets(items, g * 8, 8));
         g += 1;
     }
+    if full * 8 == count {
+        return;
+    }
+    groups[full] = transpose(subsets(items, full * 8, count - full * 8));
 }
 
 // Byte r of n groups from `from` on, the first as the lowest.
