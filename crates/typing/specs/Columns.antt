@@ -18,6 +18,7 @@ use Rattle.bits.specs.Bit.{bit, differs, bit-above, bit-none, bit-or, bit-and, 
 use Rattle.bits.specs.Booleans.{and-left, and-right}
 use Rattle.bits.specs.Pack.{bits-once}
 use Rattle.typing.specs.Sets.{relationWord}
+use Rattle.typing.specs.SetLaws.{one-table}
 use Rattle.typing.specs.SetCells.{relation-bit, relation-below}
 
 -- ---- the bits of a word under shifts
@@ -71,27 +72,20 @@ exchanged-bit x mask s k h apart =
     place h = omega arith
 
     higher : (p u : Bool) → differs (differs p (differs p u)) false ≡ u
-    higher true true = refl
-    higher true false = refl
-    higher false true = refl
-    higher false false = refl
+    higher = one-table (λ p u. differs (differs p (differs p u)) false) (λ p u. u) refl refl refl refl
 
-    lower : (p d q : Bool) → q ≡ p → differs (differs p false) (differs d q) ≡ d
-    lower true true q e = rw e
-    lower true false q e = rw e
-    lower false true q e = rw e
-    lower false false q e = rw e
+    lower : (p d : Bool) → differs (differs p false) (differs d p) ≡ d
+    lower = one-table (λ p d. differs (differs p false) (differs d p)) (λ p d. d) refl refl refl refl
 
     none : (p : Bool) → differs (differs p false) false ≡ p
-    none true = refl
-    none false = refl
+    none p = one-table (λ p d. differs (differs p false) false) (λ p d. p) refl refl refl refl p p
 
     go : (a b l : Bool) → (l ≡ false → bit x (s + (k - s)) ≡ bit x k) → not (a && cond l false b) ≡ true → differs (differs (bit x k) (a && differs (bit x k) (bit x (s + k)))) (cond l false (b && differs (bit x (k - s)) (bit x (s + (k - s))))) ≡ bit x (cond a (s + k) (cond (cond l false b) (k - s) k))
     go true b true same apart = higher (bit x k) (bit x (s + k))
     go true true false same apart = absurd (true≢false (sym apart))
     go true false false same apart = higher (bit x k) (bit x (s + k))
     go false b true same apart = none (bit x k)
-    go false true false same apart = lower (bit x k) (bit x (k - s)) _ (same refl)
+    go false true false same apart = rw (same refl) (lower (bit x k) (bit x (k - s)))
     go false false false same apart = none (bit x k)
 
 exchanged-sound : (x mask s : ℕ) → allBelow 64 (sound mask s) ≡ true → (k : ℕ) → k < 64 → (bit (exchanged x mask s) k ≡ bit x (partner mask s k)) × (partner mask s k < 64)
