@@ -89,10 +89,11 @@ module _ {entry : ℕ → ℕ} {at : ℕ} {old : List ℕ} where
         entries = next-words entry at 2 v x sets inside e (so .entries);
       }
 
-  pub laying-end : (width : ℕ) (sets : List ℕ) (broken given : ℕ) → at + 1 < length sets → Laying entry at width old sets → Laid broken given entry at width old (set (set sets at broken) (at + 1) given)
-  laying-end width sets broken given inside so =
+  pub laying-end : (width : ℕ) (sets out : List ℕ) (broken given : ℕ) → at + 1 < length sets → out ≡ set (set sets at broken) (at + 1) given → Laying entry at width old sets → Laid broken given entry at width old out
+  laying-end width sets out broken given inside is so =
       let size = length-set sets at broken in
-      record {
+      rw is
+      (record {
         rest = record {
           size = simp length-set (so .size);
           before = λ p h. other p (λ same. omega arith) (λ same. omega arith) ∙ so .before p h;
@@ -100,7 +101,7 @@ module _ {entry : ℕ → ℕ} {at : ℕ} {old : List ℕ} where
         };
         first = getD-set-other (set sets at broken) (at + 1) at given 0 (λ same. omega arith) ∙ getD-set-same sets at broken 0 (omega arith);
         second = getD-set-same (set sets at broken) (at + 1) given 0 (omega arith);
-      }
+      })
     where
       other : (p : ℕ) → (p ≡ at → ⊥) → (p ≡ at + 1 → ⊥) → getD (set (set sets at broken) (at + 1) given) p 0 ≡ getD sets p 0
       other p a b = getD-set-other (set sets at broken) (at + 1) p given 0 b ∙ getD-set-other sets at p broken 0 a

@@ -2,7 +2,7 @@
 ghost use mathlib.Core.Path.{_≡_};
 ghost use Prim.Native.Nat.{_+_, _^_, _≤_, _<_};
 ghost use lib.Bits.{bitOr};
-ghost use lib.ListN.{length, getD};
+ghost use lib.ListN.{length, getD, set};
 ghost use Rattle.typing.specs.Columns.{Groups};
 ghost use Rattle.typing.specs.Sets.{widthOf, wordsAt, breaking, comingOut, relationWord, Laid, Combined, SetLaid, RenamingLaid, OutLaid};
 use crate::columns::held_word;
@@ -51,6 +51,15 @@ pub fn combine(sets: &mut [u64], op: BinaryOp, left: usize, right: usize, at: us
     sets[at] = broken;
 }
 
+// The first two words of a node.
+fn lay_front(sets: &mut [u64], at: usize, broken: u64, given: u64)
+    requires { ⌜ at + 2 ≤ length (now sets) ⌝ }
+    ensures { λ _. ⌜ now (sets .exit) ≡ set (set (now (sets .entry)) at broken) (at + 1) given ⌝ }
+{
+    sets[at] = broken;
+    sets[at + 1] = given;
+}
+
 // The words of a node with its operand's entries.
 pub fn keep_entries(sets: &mut [u64], from: usize, at: usize, width: usize, broken: u64, given: u64)
     requires { ⌜ (from + width ≤ at) × (2 ≤ width) ⌝ }
@@ -64,8 +73,7 @@ pub fn keep_entries(sets: &mut [u64], from: usize, at: usize, width: usize, brok
         sets[at + v] = word;
         v += 1;
     }
-    sets[at] = whole;
-    sets[at + 1] = given;
+    lay_front(sets, at, whole, given);
 }
 
 // The words of a node without entries.
@@ -80,8 +88,7 @@ pub fn drop_entries(sets: &mut [u64], from: usize, at: usize, width: usize, brok
         sets[at + v] = 0;
         v += 1;
     }
-    sets[at] = whole;
-    sets[at + 1] = given;
+    lay_front(sets, at, whole, given);
 }
 
 // The words of a relation with these special attributes, from the groups of the entries.
@@ -106,8 +113,7 @@ pub fn lay_relation(
         sets[at + v] = held_word(groups, made, r, (v - 2) * 8);
         v += 1;
     }
-    sets[at] = 0;
-    sets[at + 1] = special;
+    lay_front(sets, at, 0, special);
 }
 
 // The words of a selection or a projection by the set with these bits.

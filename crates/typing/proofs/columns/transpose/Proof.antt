@@ -1,6 +1,5 @@
 use mathlib.Core.Path.{refl}
 use Rattle.typing.specs.Columns.{unlike, exchanged, transposed}
-use borrow.Author.Needs.{needs}
 use Rattle.typing.proofs.columns.transpose.Statement.{statement}
 use Rattle.typing.proofs.columns.transpose.Tie as tie
 
