@@ -3,6 +3,7 @@ pub mod OutputLaws
 pub mod Sets
 pub mod SetLaws
 pub mod SetCells
+pub mod Columns
 pub mod Filling
 pub mod Judged
 pub mod Typing

@@ -1,7 +1,7 @@
 -- Over the types of its operands, the words of a node are its type.
 use Prim.Native.Nat.{ℕ, zero, suc, _+_, _-_, _*_, _/_, _%_, _^_, _≤_, _<_, min}
 use mathlib.Core.Path.{_≡_, refl, sym, ap, ap₂, _∙_}
-use mathlib.Core.Bool.{Bool, true, false, cond, not, _&&_, _||_, and-comm, or-comm}
+use mathlib.Core.Bool.{Bool, true, false, cond, not, _&&_, _||_, and-comm}
 use mathlib.Core.List.{List}
 use native.Mathlib.Decide.{decLt}
 use native.Mathlib.Nat.{add-zero, mod-lt}
@@ -29,7 +29,7 @@ use Rattle.node.specs.Legal.{LegalNode}
 use Rattle.formula.specs.Expressions.{operatorOf, named, ofNode}
 use Rattle.formula.specs.StepCells.{named-is}
 use Rattle.typing.specs.Sets.{placeColumn, okAt, outAt, placeBit, TypeIn, wordsAt, breaking, comingOut, lacking, without, renamingBreaks, renamed, entriesHeld, relationWord, Laid, Breaks, SetLaid, RenamingLaid, OutLaid, NodeSets}
-use Rattle.typing.specs.SetLaws.{or-clear, or-none}
+use Rattle.typing.specs.SetLaws.{one-table, or-clear, or-none}
 
 -- the words of a list of words
 abbrev pub Words : List ℕ → Type 0
@@ -43,38 +43,17 @@ word-clear x below clear = bits-once 64 x 0 below (lit< tt) (λ i h. clear i h �
 
 breaking-bit : (op : BinaryOp) (x y i : ℕ) → bit (breaking op x y) i ≡ breaks plain (operatorOf op) (bit x i) (bit y i)
 unfolding breaking
-breaking-bit op x y i = go op
-  where
-    unlike : (a b : Bool) → differs a b ≡ breaks plain (operatorOf Union) a b
-    unlike true true = refl
-    unlike true false = refl
-    unlike false true = refl
-    unlike false false = refl
-
-    none : (a b : Bool) → false ≡ breaks plain (operatorOf Join) a b
-    none true true = refl
-    none true false = refl
-    none false b = refl
-
-    go : (op : BinaryOp) → bit (breaking op x y) i ≡ breaks plain (operatorOf op) (bit x i) (bit y i)
-    go Union = bit-xor x y i ∙ unlike (bit x i) (bit y i)
-    go Difference = bit-xor x y i ∙ unlike (bit x i) (bit y i)
-    go Join = bit-none i ∙ none (bit x i) (bit y i)
-    go Product = bit-and x y i
+breaking-bit Union x y i = bit-xor x y i ∙ one-table differs (breaks plain (operatorOf Union)) refl refl refl refl (bit x i) (bit y i)
+breaking-bit Difference x y i = bit-xor x y i ∙ one-table differs (breaks plain (operatorOf Difference)) refl refl refl refl (bit x i) (bit y i)
+breaking-bit Join x y i = bit-none i ∙ one-table (λ a b. false) (breaks plain (operatorOf Join)) refl refl refl refl (bit x i) (bit y i)
+breaking-bit Product x y i = bit-and x y i
 
 coming-bit : (op : BinaryOp) (x y i : ℕ) → bit (comingOut op x y) i ≡ yields plain (operatorOf op) (bit x i) (bit y i)
 unfolding comingOut
-coming-bit op x y i = go op
-  where
-    either : (a b : Bool) → a || b ≡ cond a a b
-    either true b = refl
-    either false b = refl
-
-    go : (op : BinaryOp) → bit (comingOut op x y) i ≡ yields plain (operatorOf op) (bit x i) (bit y i)
-    go Union = refl
-    go Difference = refl
-    go Join = bit-or x y i ∙ either (bit x i) (bit y i)
-    go Product = bit-or x y i ∙ either (bit x i) (bit y i)
+coming-bit Union x y i = refl
+coming-bit Difference x y i = refl
+coming-bit Join x y i = bit-or x y i ∙ one-table _||_ (yields plain (operatorOf Join)) refl refl refl refl (bit x i) (bit y i)
+coming-bit Product x y i = bit-or x y i ∙ one-table _||_ (yields plain (operatorOf Product)) refl refl refl refl (bit x i) (bit y i)
 
 breaking-below : (op : BinaryOp) (x y : ℕ) → x < 2 ^ 64 → y < 2 ^ 64 → breaking op x y < 2 ^ 64
 unfolding breaking
@@ -85,23 +64,11 @@ breaking-below Product x y hx hy = and-lt 64 x y hx hy
 
 lacking-bit : (x s i : ℕ) → bit (lacking x s) i ≡ bit s i && not (bit x i)
 unfolding lacking
-lacking-bit x s i = bit-xor (bitOr x s) x i ∙ ap (λ (b : Bool). differs b (bit x i)) (bit-or x s i) ∙ go (bit x i) (bit s i)
-  where
-    go : (a b : Bool) → differs (a || b) a ≡ b && not a
-    go true true = refl
-    go true false = refl
-    go false true = refl
-    go false false = refl
+lacking-bit x s i = bit-xor (bitOr x s) x i ∙ ap (λ (b : Bool). differs b (bit x i)) (bit-or x s i) ∙ one-table (λ a b. differs (a || b) a) (λ a b. b && not a) refl refl refl refl (bit x i) (bit s i)
 
 without-bit : (x s i : ℕ) → bit (without x s) i ≡ cond (bit s i) false (bit x i)
 unfolding without
-without-bit x s i = bit-xor (bitOr x s) s i ∙ ap (λ (b : Bool). differs b (bit s i)) (bit-or x s i) ∙ go (bit x i) (bit s i)
-  where
-    go : (a b : Bool) → differs (a || b) b ≡ cond b false a
-    go true true = refl
-    go true false = refl
-    go false true = refl
-    go false false = refl
+without-bit x s i = bit-xor (bitOr x s) s i ∙ ap (λ (b : Bool). differs b (bit s i)) (bit-or x s i) ∙ one-table (λ a b. differs (a || b) b) (λ a b. cond b false a) refl refl refl refl (bit x i) (bit s i)
 
 lacking-below : (x s : ℕ) → x < 2 ^ 64 → s < 2 ^ 64 → lacking x s < 2 ^ 64
 unfolding lacking
@@ -251,7 +218,7 @@ module _ (special entries : List ℕ) (width : ℕ) (wide : 2 ≤ width) where
 -- ---- each kind of node
 
 -- a word of a relation has the bits of its entries, and none past the last
-relation-bit : (items : List ℕ) (count r v i : ℕ) → count ≤ length items → 2 ≤ v → i < 64 → bit (relationWord items count r v) i ≡ bit (getD (take count items) ((v - 2) * 64 + i) 0) r
+pub relation-bit : (items : List ℕ) (count r v i : ℕ) → count ≤ length items → 2 ≤ v → i < 64 → bit (relationWord items count r v) i ≡ bit (getD (take count items) ((v - 2) * 64 + i) 0) r
 unfolding relationWord entriesHeld
 relation-bit items count r v i fits some h = go (decLt i (min count (from + 64) - from))
   where
@@ -268,6 +235,13 @@ relation-bit items count r v i fits some h = go (decLt i (min count (from + 64) 
         let below = pack-below (min count (from + 64) - from) f in
         let power = pow-mono {i = min count (from + 64) - from} {j = i} (omega arith) in
         bit-above (pack (min count (from + 64) - from) f) i (omega arith) ∙ sym (ap (λ (x : ℕ). bit x r) (List·getD-eq-default (take count items) 0 {n = from + i} (omega arith)) ∙ bit-none r)
+
+pub relation-below : (items : List ℕ) (count r v : ℕ) → relationWord items count r v < 2 ^ 64
+unfolding relationWord entriesHeld
+relation-below items count r v =
+    let below = pack-below (min count ((v - 2) * 64 + 64) - (v - 2) * 64) (λ i. bit (getD items ((v - 2) * 64 + i) 0) r) in
+    let power = pow-mono {i = min count ((v - 2) * 64 + 64) - (v - 2) * 64} {j = 64} (omega arith) in
+    omega arith
 
 module _ (special items : List ℕ) (count width : ℕ) (wide : 2 ≤ width) where
   abbrev entries : List ℕ
@@ -358,12 +332,7 @@ module _ (special items : List ℕ) (count width : ℕ) (wide : 2 ≤ width) whe
         renamed-bit i =
             bit-or (without x (2 ^ o)) (2 ^ n) i
             ∙ ap (λ (b : Bool). b || bit (2 ^ n) i) (without-bit x (2 ^ o) i)
-            ∙ or-comm (cond (bit (2 ^ o) i) false (bit x i)) (bit (2 ^ n) i)
-            ∙ go (bit (2 ^ n) i) (cond (bit (2 ^ o) i) false (bit x i))
-          where
-            go : (new v : Bool) → new || v ≡ cond new true v
-            go true v = refl
-            go false v = refl
+            ∙ one-table _||_ (λ v new. cond new true v) refl refl refl refl (cond (bit (2 ^ o) i) false (bit x i)) (bit (2 ^ n) i)
 
         breaks-below : renamingBreaks x (2 ^ o) (2 ^ n) < 2 ^ 64
         unfolding renamingBreaks

@@ -1,18 +1,16 @@
 -- Laws of sets for the code: the loops that lay down a node's words.
-use Prim.Native.Nat.{ℕ, _+_, _-_, _*_, _/_, _%_, _^_, _≤_, _<_, min}
+use Prim.Native.Nat.{ℕ, _+_, _*_, _/_, _≤_, _<_}
 use mathlib.Core.Path.{_≡_, refl, sym, ap₂, _∙_}
+use mathlib.Core.Bool.{Bool, true, false}
 use mathlib.Core.List.{List}
 use mathlib.Core.Logic.{_⊎_, inl, inr}
 use native.Mathlib.Nat.{eq-or-lt-of-le, add-zero, add-mul, one-mul, mul-le-mul-right}
 use native.Mathlib.Omega.{arith}
 use lib.Bits.{bitOr, and-le-l, and-le-r, or-add-and, or-zero-l}
 use lib.ListN.{length, getD, set, length-set}
-use lib.Pow.{pow-mono}
 use lib.Seq.{getD-set-same, getD-set-other}
-use Rattle.bits.specs.Bit.{bit}
-use Rattle.bits.specs.PackFrom.{packFrom, from-none, from-lower, from-below, from-all, bit-digit}
 use Rattle.node.specs.declared.nodes.BinaryOp.{BinaryOp}
-use Rattle.typing.specs.Sets.{wordsAt, breaking, comingOut, entriesHeld, relationWord, Laying, Laid, Combining, Combined}
+use Rattle.typing.specs.Sets.{wordsAt, breaking, comingOut, Laying, Laid, Combining, Combined}
 
 -- a node's words end where a later node's begin
 pub node-below : (l k width : ℕ) → l < k → l * width + width ≤ k * width
@@ -40,6 +38,14 @@ node-words k width size h =
     let step = add-mul k 1 width in
     let one = one-mul width in
     omega arith
+
+-- ---- two functions of two Booleans that have one table
+
+pub one-table : (f g : Bool → Bool → Bool) → f true true ≡ g true true → f true false ≡ g true false → f false true ≡ g false true → f false false ≡ g false false → (a b : Bool) → f a b ≡ g a b
+one-table f g tt tf ft ff true true = tt
+one-table f g tt tf ft ff true false = tf
+one-table f g tt tf ft ff false true = ft
+one-table f g tt tf ft ff false false = ff
 
 -- ---- words that are 0
 
@@ -83,10 +89,11 @@ module _ {entry : ℕ → ℕ} {at : ℕ} {old : List ℕ} where
         entries = next-words entry at 2 v x sets inside e (so .entries);
       }
 
-  pub laying-end : (width : ℕ) (sets : List ℕ) (broken given : ℕ) → at + 1 < length sets → Laying entry at width old sets → Laid broken given entry at width old (set (set sets at broken) (at + 1) given)
-  laying-end width sets broken given inside so =
+  pub laying-end : (width : ℕ) (sets out : List ℕ) (broken given : ℕ) → at + 1 < length sets → out ≡ set (set sets at broken) (at + 1) given → Laying entry at width old sets → Laid broken given entry at width old out
+  laying-end width sets out broken given inside is so =
       let size = length-set sets at broken in
-      record {
+      rw is
+      (record {
         rest = record {
           size = simp length-set (so .size);
           before = λ p h. other p (λ same. omega arith) (λ same. omega arith) ∙ so .before p h;
@@ -94,7 +101,7 @@ module _ {entry : ℕ → ℕ} {at : ℕ} {old : List ℕ} where
         };
         first = getD-set-other (set sets at broken) (at + 1) at given 0 (λ same. omega arith) ∙ getD-set-same sets at broken 0 (omega arith);
         second = getD-set-same (set sets at broken) (at + 1) given 0 (omega arith);
-      }
+      })
     where
       other : (p : ℕ) → (p ≡ at → ⊥) → (p ≡ at + 1 → ⊥) → getD (set (set sets at broken) (at + 1) given) p 0 ≡ getD sets p 0
       other p a b = getD-set-other (set sets at broken) (at + 1) p given 0 b ∙ getD-set-other sets at p broken 0 a
@@ -147,36 +154,3 @@ module _ {op : BinaryOp} {left right at : ℕ} {old : List ℕ} where
         words = λ v some h. getD-set-other sets at (at + v) broken 0 (λ same. omega arith) ∙ so .words v some h;
         rule = rw (getD-set-same sets at broken 0 inside) (so .rule);
       }
-
--- ---- the entries of a relation, from the highest down
-
--- entries `at` to `end` - 1 of those from `from` on
-abbrev pub heldFrom : List ℕ → ℕ → ℕ → ℕ → ℕ → ℕ
-heldFrom items r from end at = packFrom (end - from) (λ i. bit (getD items (from + i) 0) r) (at - from)
-
-module _ (items : List ℕ) (r from end : ℕ) where
-  pub held-none : from ≤ end → heldFrom items r from end end ≡ 0
-  held-none h = from-none (end - from) (λ i. bit (getD items (from + i) 0) r)
-
-  pub held-lower : (at : ℕ) → from < at → at ≤ end → heldFrom items r from end (at - 1) ≡ heldFrom items r from end at * 2 + getD items (at - 1) 0 / 2 ^ r % 2
-  held-lower at some most =
-      let place : from + (at - from - 1) ≡ at - 1 = omega arith in
-      let below : at - 1 - from ≡ at - from - 1 = omega arith in
-      let digit = bit-digit (getD items (at - 1) 0) r in
-      let lower = from-lower (end - from) (λ i. bit (getD items (from + i) 0) r) (at - from) (omega arith) (omega arith) in
-      rw (below, lower, place, digit)
-
-  pub held-below : (at : ℕ) → from < at → end ≤ from + 64 → heldFrom items r from end at < 9223372036854775808
-  held-below at some most =
-      let below = from-below (end - from) (λ i. bit (getD items (from + i) 0) r) (at - from) in
-      let power = pow-mono {i = end - from - (at - from)} {j = 63} (omega arith) in
-      omega arith
-
-  pub held-all : heldFrom items r from end from ≡ entriesHeld items r from end
-  unfolding entriesHeld
-  held-all = let none : from - from ≡ 0 = omega arith in rw none (from-all (end - from) (λ i. bit (getD items (from + i) 0) r))
-
--- a relation's word, and how many entries it has
-pub relation-word : (items : List ℕ) (count r v from end word : ℕ) → from ≡ (v - 2) * 64 → end ≡ min count (from + 64) → word ≡ entriesHeld items r from end → word ≡ relationWord items count r v
-unfolding relationWord
-relation-word items count r v from end word from-is end-is is = is ∙ rw (end-is, from-is)

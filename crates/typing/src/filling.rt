@@ -6,8 +6,10 @@ ghost use Rattle.expression.specs.declared.files.Acceptance.the-variants.{Accep
 ghost use Rattle.expression.specs.ReadFile.{acceptance, sizeAt};
 ghost use Rattle.formula.specs.Filling.{Here};
 ghost use Rattle.node.specs.Legal.{LegalNode};
+ghost use Rattle.typing.specs.Columns.{Groups};
 ghost use Rattle.typing.specs.Sets.{widthOf, NodeSets};
 ghost use Rattle.typing.specs.Filling.{Filled};
+use crate::columns::gather_subsets;
 use crate::sets::combine;
 use crate::sets::lay_projecting_out;
 use crate::sets::lay_relation;
@@ -25,11 +27,13 @@ fn lay_node(
     special: &[u16],
     items: &[u32],
     count: usize,
+    groups: &[u64],
     width: usize,
     sets: &mut [u64],
 )
     requires { ⌜ (m ≤ 8) × LegalNode m k node ⌝ }
     requires { ⌜ (length (now special) ≡ 8) × (count ≤ length (now items)) ⌝ }
+    requires { ⌜ Groups (now items) count (now groups) ⌝ }
     requires { ⌜ (width ≡ widthOf count) × (k * width + width ≤ length (now sets)) ⌝ }
     ensures { λ _. ⌜ NodeSets (now (special .entry)) (now (items .entry)) count width k (now (sets .entry)) (now (sets .exit)) node ⌝ }
 {
@@ -37,7 +41,7 @@ fn lay_node(
     match node {
         Node::Relation(r) => {
             let map = special[r as usize] as u64;
-            lay_relation(sets, map, items, count, r, at, width);
+            lay_relation(sets, map, items, count, groups, r, at, width);
         }
         Node::Binary(op, l, r) => {
             combine(sets, op, l as usize * width, r as usize * width, at, width);
@@ -64,18 +68,20 @@ fn fill_node(
     special: &[u16],
     items: &[u32],
     count: usize,
+    groups: &[u64],
     width: usize,
     sets: &mut [u64],
 ) -> usize
     requires { ⌜ Here (now file) m k at ⌝ }
     requires { ⌜ (length (now special) ≡ 8) × (count ≤ length (now items)) ⌝ }
+    requires { ⌜ Groups (now items) count (now groups) ⌝ }
     requires { ⌜ (width ≡ widthOf count) × (k * width + width ≤ length (now sets)) ⌝ }
     requires { ⌜ Filled (now file) (now special) (take count (now items)) width k (now sets) ⌝ }
     ensures { λ r. ⌜ r ≡ at + sizeAt (now (file .entry)) k ⌝ }
     ensures { λ _. ⌜ Filled (now (file .entry)) (now (special .entry)) (take count (now (items .entry))) width (k + 1) (now (sets .exit)) ⌝ }
 {
     let node = decode(&file[at..]);
-    lay_node(node, m, k, special, items, count, width, sets);
+    lay_node(node, m, k, special, items, count, groups, width, sets);
     at + size_of(file[at])
 }
 
@@ -97,10 +103,12 @@ pub fn fill_sets(
     requires { ⌜ (width ≡ widthOf count) × ((node + 1) * width ≤ length (now sets)) ⌝ }
     ensures { λ _. ⌜ Filled (now (file .entry)) (now (special .entry)) (take count (now (items .entry))) width (node + 1) (now (sets .exit)) ⌝ }
 {
+    let mut groups = [0u64; 32];
+    gather_subsets(items, count, &mut groups);
     let mut at = 2;
     let mut k = 0;
     while k <= node {
-        at = fill_node(file, m, k, at, special, items, count, width, sets);
+        at = fill_node(file, m, k, at, special, items, count, &groups, width, sets);
         k += 1;
     }
 }

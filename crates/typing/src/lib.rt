@@ -1,4 +1,5 @@
 // Typing: whether a schema types a node, and the output record.
+mod columns;
 mod filling;
 mod operation;
 mod output;

@@ -1,9 +1,11 @@
 // Sets: the type of a node as words of 64 bits, from the words of its operands.
 ghost use mathlib.Core.Path.{_≡_};
-ghost use Prim.Native.Nat.{_+_, _-_, _*_, _^_, _≤_, _<_, min};
+ghost use Prim.Native.Nat.{_+_, _^_, _≤_, _<_};
 ghost use lib.Bits.{bitOr};
-ghost use lib.ListN.{length, getD};
-ghost use Rattle.typing.specs.Sets.{widthOf, wordsAt, breaking, comingOut, entriesHeld, relationWord, Laid, Combined, SetLaid, RenamingLaid, OutLaid};
+ghost use lib.ListN.{length, getD, set};
+ghost use Rattle.typing.specs.Columns.{Groups};
+ghost use Rattle.typing.specs.Sets.{widthOf, wordsAt, breaking, comingOut, relationWord, Laid, Combined, SetLaid, RenamingLaid, OutLaid};
+use crate::columns::held_word;
 use node::BinaryOp;
 use node::SetOp;
 
@@ -49,6 +51,15 @@ pub fn combine(sets: &mut [u64], op: BinaryOp, left: usize, right: usize, at: us
     sets[at] = broken;
 }
 
+// The first two words of a node.
+fn lay_front(sets: &mut [u64], at: usize, broken: u64, given: u64)
+    requires { ⌜ at + 2 ≤ length (now sets) ⌝ }
+    ensures { λ _. ⌜ now (sets .exit) ≡ set (set (now (sets .entry)) at broken) (at + 1) given ⌝ }
+{
+    sets[at] = broken;
+    sets[at + 1] = given;
+}
+
 // The words of a node with its operand's entries.
 pub fn keep_entries(sets: &mut [u64], from: usize, at: usize, width: usize, broken: u64, given: u64)
     requires { ⌜ (from + width ≤ at) × (2 ≤ width) ⌝ }
@@ -62,8 +73,7 @@ pub fn keep_entries(sets: &mut [u64], from: usize, at: usize, width: usize, brok
         sets[at + v] = word;
         v += 1;
     }
-    sets[at] = whole;
-    sets[at + 1] = given;
+    lay_front(sets, at, whole, given);
 }
 
 // The words of a node without entries.
@@ -78,55 +88,32 @@ pub fn drop_entries(sets: &mut [u64], from: usize, at: usize, width: usize, brok
         sets[at + v] = 0;
         v += 1;
     }
-    sets[at] = whole;
-    sets[at + 1] = given;
+    lay_front(sets, at, whole, given);
 }
 
-// The entries `from` to `end` - 1 that relation r holds, a bit for each.
-fn entries_held(items: &[u32], r: u8, from: usize, end: usize) -> u64
-    requires { ⌜ (r < 8) × (from ≤ end) ⌝ }
-    requires { ⌜ (end ≤ from + 64) × (end ≤ length (now items)) ⌝ }
-    ensures { λ x. ⌜ x ≡ entriesHeld (now (items .entry)) r from end ⌝ }
-{
-    let mut x = 0u64;
-    let mut i = end;
-    while from < i {
-        i -= 1;
-        x = x * 2 + ((items[i] >> r) % 2) as u64;
-    }
-    x
-}
-
-// The smaller of two numbers.
-fn lesser(a: usize, b: usize) -> usize
-    ensures { λ r. ⌜ r ≡ min a b ⌝ }
-{
-    if a < b { a } else { b }
-}
-
-// The words of a relation with these special attributes.
+// The words of a relation with these special attributes, from the groups of the entries.
 pub fn lay_relation(
     sets: &mut [u64],
     special: u64,
     items: &[u32],
     count: usize,
+    groups: &[u64],
     r: u8,
     at: usize,
     width: usize,
 )
     requires { ⌜ (r < 8) × (count ≤ length (now items)) ⌝ }
+    requires { ⌜ Groups (now items) count (now groups) ⌝ }
     requires { ⌜ (width ≡ widthOf count) × (at + width ≤ length (now sets)) ⌝ }
     ensures { λ _. ⌜ Laid 0 special (relationWord (now (items .entry)) count r) at width (now (sets .entry)) (now (sets .exit)) ⌝ }
 {
+    let made = (count + 7) / 8;
     let mut v = 2;
     while v < width {
-        let from = (v - 2) * 64;
-        let end = lesser(count, from + 64);
-        sets[at + v] = entries_held(items, r, from, end);
+        sets[at + v] = held_word(groups, made, r, (v - 2) * 8);
         v += 1;
     }
-    sets[at] = 0;
-    sets[at + 1] = special;
+    lay_front(sets, at, 0, special);
 }
 
 // The words of a selection or a projection by the set with these bits.

@@ -18,40 +18,24 @@ part-decode-end : tie.Need-part-decode-end
 part-decode-end c = search needs
 
 decode-requires : tie.Need-decode-requires
-decode-requires c κs =
-    let args = c .before .before .before .before .before .args in
-    let pre = c .before .before .before .before .before .pre in
-    let here = here-decoded (args .file .now) (args .m) (args .k) (args .at) (pre .0) in
-    here .checked
+decode-requires c κs = here-decoded _ _ _ _ (c .before .before .before .before .before .before .pre .0) .checked
 
 lay-node-requires : tie.Need-lay-node-requires
 lay-node-requires c κs =
-    let args = c .before .before .before .before .before .before .before .args in
-    let pre = c .before .before .before .before .before .before .before .pre in
-    let here = here-decoded (args .file .now) (args .m) (args .k) (args .at) (pre .0) in
-    ((pre .0 .relations, subst (LegalNode (args .m) (args .k)) (sym (c .before .decode .ensures ∙ here .node-is)) (pre .0 .legal)), (pre .1 .0, pre .1 .1 .0))
+    let pre = c .before .before .before .before .before .before .before .before .pre in
+    let here = here-decoded _ _ _ _ (pre .0) in
+    ((pre .0 .relations, subst (LegalNode _ _) (sym (c .before .decode .ensures ∙ here .node-is)) (pre .0 .legal)), (pre .1 .0, (pre .1 .1 .0, pre .1 .1 .1 .0)))
 
 shared-slice-read-size-of : tie.Need-shared-slice-read-size-of
-shared-slice-read-size-of c =
-    let args = c .before .before .before .before .before .before .before .before .before .before .before .args in
-    let pre = c .before .before .before .before .before .before .before .before .before .before .before .pre in
-    let here = here-decoded (args .file .now) (args .m) (args .k) (args .at) (pre .0) in
-    here .below
+shared-slice-read-size-of c = here-decoded _ _ _ _ (c .before .before .before .before .before .before .before .before .before .before .before .before .pre .0) .below
 
 size-of-requires : tie.Need-size-of-requires
-size-of-requires c κs =
-    let args = c .before .before .before .before .before .before .before .before .before .before .before .args in
-    let pre = c .before .before .before .before .before .before .before .before .before .before .before .pre in
-    let here = here-decoded (args .file .now) (args .m) (args .k) (args .at) (pre .0) in
-    here .map-legal
+size-of-requires c κs = here-decoded _ _ _ _ (c .before .before .before .before .before .before .before .before .before .before .before .before .pre .0) .map-legal
 
 add-result : tie.Need-add-result
 add-result c =
-    let args = c .before .before .before .before .before .before .before .before .before .before .before .before .args in
-    let pre = c .before .before .before .before .before .before .before .before .before .before .before .before .pre in
-    let here = here-decoded (args .file .now) (args .m) (args .k) (args .at) (pre .0) in
-    let size = c .size-of .ensures ∙ here .size-is in
-    let fits = pre .0 .fits in
+    let fits = c .before .before .before .before .before .before .before .before .before .before .before .before .before .pre .0 .fits in
+    let size = c .size-of .ensures ∙ here-decoded _ _ _ _ (c .before .before .before .before .before .before .before .before .before .before .before .before .before .pre .0) .size-is in
     omega arith
 
 same-length : tie.Need-same-length
@@ -59,12 +43,12 @@ same-length c = search needs
 
 returns : tie.Need-returns
 returns c =
-    let args = c .before .before .before .before .before .before .before .before .before .before .before .before .args in
-    let pre = c .before .before .before .before .before .before .before .before .before .before .before .before .pre in
+    let args = c .before .before .before .before .before .before .before .before .before .before .before .before .before .args in
+    let pre = c .before .before .before .before .before .before .before .before .before .before .before .before .before .pre in
     let here = here-decoded (args .file .now) (args .m) (args .k) (args .at) (pre .0) in
     let size = c .size-of .ensures ∙ here .size-is in
-    let wide = pre .1 .1 .0 .0 in
-    (ap (λ (n : ℕ). args .at + n) size, filled-node (args .file .now) (args .special .now) (args .items .now) (args .count) (args .width) (args .m) (args .k) (args .sets .now) _ _ (omega arith) (pre .1 .0 .1) (c .before .before .before .before .before .before .decode .ensures ∙ here .node-is) (pre .0 .legal) (λ p. omega (arith, c .before .before .before .before .before .before .before .before .slice-known .given p)) (pre .1 .1 .1) (c .before .before .before .before .lay-node .ensures))
+    let wide = pre .1 .1 .1 .0 .0 in
+    (ap (λ (n : ℕ). args .at + n) size, filled-node (args .file .now) (args .special .now) (args .items .now) (args .count) (args .width) (args .m) (args .k) (args .sets .now) _ _ (omega arith) (pre .1 .0 .1) (c .before .before .before .before .before .before .decode .ensures ∙ here .node-is) (pre .0 .legal) (λ p. omega (arith, c .before .before .before .before .before .before .before .before .slice-known .given p)) (pre .1 .1 .1 .1) (c .before .before .before .before .lay-node .ensures))
 
 pub fill-node-spec : {M : Type 1} → statement M
 fill-node-spec =

@@ -21,23 +21,18 @@ mul-map c = search needs
 
 shared-slice-read-map : tie.Need-shared-slice-read-map
 shared-slice-read-map c =
-    let args = c .before .before .before .before .before .before .before .args in
-    let legal = subst (LegalNode (args .m) (args .k)) (c .before .before .node .given .1) (c .before .before .before .before .before .before .before .pre .0 .1) in
-    let few = c .before .before .before .before .before .before .before .pre .0 .0 in
-    let size = c .before .before .before .before .before .before .before .pre .1 .0 .0 in
+    let legal = subst (LegalNode _ _) (c .before .before .node .given .1) (c .before .before .before .before .before .before .before .before .pre .0 .1) in
+    let sizes = c .before .before .before .before .before .before .before .before .pre in
     omega arith
 
 cast-map-2 : tie.Need-cast-map-2
-cast-map-2 c = omega (arith, c .before .before .before .before .before .before .shared-slice-known .given (c .before .before .node .given .0 .0))
+cast-map-2 c = omega (arith, c .before .before .before .before .before .before .before .shared-slice-known .given (c .before .before .node .given .0 .0))
 
 lay-relation-requires : tie.Need-lay-relation-requires
 lay-relation-requires c κs =
-    let args = c .before .before .before .before .before .before .before .before .args in
-    let legal = subst (LegalNode (args .m) (args .k)) (c .before .before .before .node .given .1) (c .before .before .before .before .before .before .before .before .pre .0 .1) in
-    let wide = c .before .before .before .before .before .before .before .before .pre .1 .1 .0 in
-    let fits = c .before .before .before .before .before .before .before .before .pre .1 .1 .1 in
-    let few = c .before .before .before .before .before .before .before .before .pre .0 .0 in
-    ((omega arith, c .before .before .before .before .before .before .before .before .pre .1 .0 .1), (wide, fits))
+    let legal = subst (LegalNode _ _) (c .before .before .before .node .given .1) (c .before .before .before .before .before .before .before .before .before .pre .0 .1) in
+    let few = c .before .before .before .before .before .before .before .before .before .pre .0 .0 in
+    ((omega arith, c .before .before .before .before .before .before .before .before .before .pre .1 .0 .1), c .before .before .before .before .before .before .before .before .before .pre .1 .1)
 
 enum-known-node-2 : tie.Need-enum-known-node-2
 enum-known-node-2 c = search needs
@@ -47,11 +42,9 @@ cast-combine c = search needs
 
 mul-combine : tie.Need-mul-combine
 mul-combine c =
-    let args = c .before .before .before .before .before .before .before .args in
-    let legal = subst (LegalNode (args .m) (args .k)) (c .before .before .node2 .given .1) (c .before .before .before .before .before .before .before .pre .0 .1) in
-    let wide = c .before .before .before .before .before .before .before .pre .1 .1 .0 in
-    let fits = c .before .before .before .before .before .before .before .pre .1 .1 .1 in
-    let low = node-below (c .before .before .node2 .given .0 .1 .0) (args .k) (args .width) (legal .0) in
+    let legal = subst (LegalNode _ _) (c .before .before .node2 .given .1) (c .before .before .before .before .before .before .before .before .pre .0 .1) in
+    let low = node-below _ _ (c .before .before .before .before .before .before .before .before .args .width) (legal .0) in
+    let fits = c .before .before .before .before .before .before .before .before .pre .1 .1 .1 in
     omega arith
 
 cast-combine-2 : tie.Need-cast-combine-2
@@ -59,22 +52,18 @@ cast-combine-2 c = search needs
 
 mul-combine-2 : tie.Need-mul-combine-2
 mul-combine-2 c =
-    let args = c .before .before .before .before .before .before .before .args in
-    let legal = subst (LegalNode (args .m) (args .k)) (c .before .before .node2 .given .1) (c .before .before .before .before .before .before .before .pre .0 .1) in
-    let wide = c .before .before .before .before .before .before .before .pre .1 .1 .0 in
-    let fits = c .before .before .before .before .before .before .before .pre .1 .1 .1 in
-    let low = node-below (c .before .before .node2 .given .0 .1 .1 .0) (args .k) (args .width) (legal .1) in
+    let legal = subst (LegalNode _ _) (c .before .before .node2 .given .1) (c .before .before .before .before .before .before .before .before .pre .0 .1) in
+    let low = node-below _ _ (c .before .before .before .before .before .before .before .before .args .width) (legal .1) in
+    let fits = c .before .before .before .before .before .before .before .before .pre .1 .1 .1 in
     omega arith
 
 combine-requires : tie.Need-combine-requires
 combine-requires c κs =
-    let args = c .before .before .before .before .before .before .before .args in
-    let legal = subst (LegalNode (args .m) (args .k)) (c .before .before .node2 .given .1) (c .before .before .before .before .before .before .before .pre .0 .1) in
-    let wide = c .before .before .before .before .before .before .before .pre .1 .1 .0 in
-    let fits = c .before .before .before .before .before .before .before .pre .1 .1 .1 in
-    let low = node-below (c .before .before .node2 .given .0 .1 .0) (args .k) (args .width) (legal .0) in
-    let high = node-below (c .before .before .node2 .given .0 .1 .1 .0) (args .k) (args .width) (legal .1) in
-    ((omega arith, omega arith), (omega arith, fits))
+    let legal = subst (LegalNode _ _) (c .before .before .node2 .given .1) (c .before .before .before .before .before .before .before .before .pre .0 .1) in
+    let low = node-below _ _ (c .before .before .before .before .before .before .before .before .args .width) (legal .0) in
+    let high = node-below _ _ (c .before .before .before .before .before .before .before .before .args .width) (legal .1) in
+    let fits = c .before .before .before .before .before .before .before .before .pre .1 .1 .1 in
+    ((omega arith, omega arith), (omega arith, fits .1))
 
 enum-known-node-3 : tie.Need-enum-known-node-3
 enum-known-node-3 c = search needs
@@ -90,21 +79,17 @@ cast-lay-with-set c = search needs
 
 mul-lay-with-set : tie.Need-mul-lay-with-set
 mul-lay-with-set c =
-    let args = c .before .before .before .before .before .before .before .before .args in
-    let legal = subst (LegalNode (args .m) (args .k)) (c .before .before .before .node3 .given .1) (c .before .before .before .before .before .before .before .before .pre .0 .1) in
-    let wide = c .before .before .before .before .before .before .before .before .pre .1 .1 .0 in
-    let fits = c .before .before .before .before .before .before .before .before .pre .1 .1 .1 in
-    let low = node-below (c .before .before .before .node3 .given .0 .1 .0) (args .k) (args .width) (legal .0) in
+    let legal = subst (LegalNode _ _) (c .before .before .before .node3 .given .1) (c .before .before .before .before .before .before .before .before .before .pre .0 .1) in
+    let low = node-below _ _ (c .before .before .before .before .before .before .before .before .before .args .width) (legal .0) in
+    let fits = c .before .before .before .before .before .before .before .before .before .pre .1 .1 .1 in
     omega arith
 
 lay-with-set-requires : tie.Need-lay-with-set-requires
 lay-with-set-requires c κs =
-    let args = c .before .before .before .before .before .before .before .before .args in
-    let legal = subst (LegalNode (args .m) (args .k)) (c .before .before .before .node3 .given .1) (c .before .before .before .before .before .before .before .before .pre .0 .1) in
-    let wide = c .before .before .before .before .before .before .before .before .pre .1 .1 .0 in
-    let fits = c .before .before .before .before .before .before .before .before .pre .1 .1 .1 in
-    let low = node-below (c .before .before .before .node3 .given .0 .1 .0) (args .k) (args .width) (legal .0) in
-    ((omega arith, omega arith), fits)
+    let legal = subst (LegalNode _ _) (c .before .before .before .node3 .given .1) (c .before .before .before .before .before .before .before .before .before .pre .0 .1) in
+    let low = node-below _ _ (c .before .before .before .before .before .before .before .before .before .args .width) (legal .0) in
+    let fits = c .before .before .before .before .before .before .before .before .before .pre .1 .1 .1 in
+    ((omega arith, omega arith), fits .1)
 
 enum-known-node-4 : tie.Need-enum-known-node-4
 enum-known-node-4 c = search needs
@@ -114,23 +99,19 @@ cast-lay-renaming c = search needs
 
 mul-lay-renaming : tie.Need-mul-lay-renaming
 mul-lay-renaming c =
-    let args = c .before .before .before .before .before .before .before .args in
-    let legal = subst (LegalNode (args .m) (args .k)) (c .before .before .node4 .given .1) (c .before .before .before .before .before .before .before .pre .0 .1) in
-    let wide = c .before .before .before .before .before .before .before .pre .1 .1 .0 in
-    let fits = c .before .before .before .before .before .before .before .pre .1 .1 .1 in
-    let low = node-below (c .before .before .node4 .given .0 .0) (args .k) (args .width) (legal .0) in
+    let legal = subst (LegalNode _ _) (c .before .before .node4 .given .1) (c .before .before .before .before .before .before .before .before .pre .0 .1) in
+    let low = node-below _ _ (c .before .before .before .before .before .before .before .before .args .width) (legal .0) in
+    let fits = c .before .before .before .before .before .before .before .before .pre .1 .1 .1 in
     omega arith
 
 lay-renaming-requires : tie.Need-lay-renaming-requires
 lay-renaming-requires c κs =
-    let args = c .before .before .before .before .before .before .before .args in
-    let legal = subst (LegalNode (args .m) (args .k)) (c .before .before .node4 .given .1) (c .before .before .before .before .before .before .before .pre .0 .1) in
-    let wide = c .before .before .before .before .before .before .before .pre .1 .1 .0 in
-    let fits = c .before .before .before .before .before .before .before .pre .1 .1 .1 in
-    let low = node-below (c .before .before .node4 .given .0 .0) (args .k) (args .width) (legal .0) in
+    let legal = subst (LegalNode _ _) (c .before .before .node4 .given .1) (c .before .before .before .before .before .before .before .before .pre .0 .1) in
+    let low = node-below _ _ (c .before .before .before .before .before .before .before .before .args .width) (legal .0) in
+    let fits = c .before .before .before .before .before .before .before .before .pre .1 .1 .1 in
     let old = special-range _ (legal .1) in
     let new = special-range _ (legal .2) in
-    ((omega arith, omega arith), ((omega arith, omega arith), fits))
+    ((omega arith, omega arith), ((omega arith, omega arith), fits .1))
 
 enum-known-node-5 : tie.Need-enum-known-node-5
 enum-known-node-5 c = search needs
@@ -140,22 +121,18 @@ cast-lay-projecting-out c = search needs
 
 mul-lay-projecting-out : tie.Need-mul-lay-projecting-out
 mul-lay-projecting-out c =
-    let args = c .before .before .before .before .before .before .before .args in
-    let legal = subst (LegalNode (args .m) (args .k)) (c .before .before .node5 .given .1) (c .before .before .before .before .before .before .before .pre .0 .1) in
-    let wide = c .before .before .before .before .before .before .before .pre .1 .1 .0 in
-    let fits = c .before .before .before .before .before .before .before .pre .1 .1 .1 in
-    let low = node-below (c .before .before .node5 .given .0 .0) (args .k) (args .width) (legal .0) in
+    let legal = subst (LegalNode _ _) (c .before .before .node5 .given .1) (c .before .before .before .before .before .before .before .before .pre .0 .1) in
+    let low = node-below _ _ (c .before .before .before .before .before .before .before .before .args .width) (legal .0) in
+    let fits = c .before .before .before .before .before .before .before .before .pre .1 .1 .1 in
     omega arith
 
 lay-projecting-out-requires : tie.Need-lay-projecting-out-requires
 lay-projecting-out-requires c κs =
-    let args = c .before .before .before .before .before .before .before .args in
-    let legal = subst (LegalNode (args .m) (args .k)) (c .before .before .node5 .given .1) (c .before .before .before .before .before .before .before .pre .0 .1) in
-    let wide = c .before .before .before .before .before .before .before .pre .1 .1 .0 in
-    let fits = c .before .before .before .before .before .before .before .pre .1 .1 .1 in
-    let low = node-below (c .before .before .node5 .given .0 .0) (args .k) (args .width) (legal .0) in
+    let legal = subst (LegalNode _ _) (c .before .before .node5 .given .1) (c .before .before .before .before .before .before .before .before .pre .0 .1) in
+    let low = node-below _ _ (c .before .before .before .before .before .before .before .before .args .width) (legal .0) in
+    let fits = c .before .before .before .before .before .before .before .before .pre .1 .1 .1 in
     let old = special-range _ (legal .1) in
-    (omega arith, ((omega arith, omega arith), fits))
+    (omega arith, ((omega arith, omega arith), fits .1))
 
 same-length : tie.Need-same-length
 same-length c = search needs

@@ -1,7 +1,6 @@
 use Prim.Native.Nat.{_-_, _≤_}
-use mathlib.Core.Path.{_≡_, refl}
+use mathlib.Core.Path.{_≡_, refl, _∙_}
 use native.Mathlib.Omega.{arith}
-use lib.ListN.{length-set}
 use Rattle.typing.specs.Sets.{Laying}
 use Rattle.typing.specs.SetLaws.{laying-first, laying-next, laying-end}
 use borrow.Author.Needs.{needs}
@@ -40,36 +39,23 @@ loop-less c = search needs
 
 loop-again : tie.Need-loop-again Inv-loop μ-loop
 loop-again c =
-    let args = c .before .before .before .args in
+    let args = c .before .before .before .before .args in
     let loop = c .before .loop in
     let size = loop .inv .2 .size in
     (omega arith, omega arith, laying-next (loop .v) (loop .sets) 0 (omega arith) refl (loop .inv .2))
 
-mul-sets-2 : tie.Need-mul-sets-2 Inv-loop μ-loop
-mul-sets-2 c = search needs
-
-slice-write-sets-2 : tie.Need-slice-write-sets-2 Inv-loop μ-loop
-slice-write-sets-2 c = search needs
-
-add-sets-2 : tie.Need-add-sets-2 Inv-loop μ-loop
-add-sets-2 c = search needs
-
-mul-sets-3 : tie.Need-mul-sets-3 Inv-loop μ-loop
-mul-sets-3 c = search needs
-
-slice-write-sets-3 : tie.Need-slice-write-sets-3 Inv-loop μ-loop
-slice-write-sets-3 c = let size = c .before .loop .inv .2 .size in simp length-set (omega arith)
+lay-front-requires : tie.Need-lay-front-requires Inv-loop μ-loop
+lay-front-requires c κs = let size = c .before .before .loop .inv .2 .size in omega arith
 
 same-length : tie.Need-same-length Inv-loop μ-loop
-same-length c = let size = c .before .loop .inv .2 .size in simp length-set size
+same-length c = c .before .before .lay-front .kept .0 ∙ c .before .before .before .before .before .loop .inv .2 .size
 
 returns : tie.Need-returns Inv-loop μ-loop
 returns c =
-    let args = c .before .before .before .args in
-    let loop = c .before .loop in
+    let loop = c .before .before .before .before .before .loop in
     let size = loop .inv .2 .size in
-    let all : loop .v ≡ args .width = omega arith in
-    laying-end (args .width) (loop .sets) _ _ (omega arith) (rw all at (loop .inv .2))
+    let all : loop .v ≡ c .before .before .before .before .before .before .before .before .args .width = omega arith in
+    laying-end (c .before .before .before .before .before .before .before .before .args .width) (loop .sets) _ _ _ (omega arith) (c .before .before .lay-front .ensures) (rw all at (loop .inv .2))
 
 pub drop-entries-spec : {M : Type 1} → statement M
 drop-entries-spec =
@@ -86,10 +72,6 @@ drop-entries-spec =
     add-v
     loop-less
     loop-again
-    mul-sets-2
-    slice-write-sets-2
-    add-sets-2
-    mul-sets-3
-    slice-write-sets-3
+    lay-front-requires
     same-length
     returns)

@@ -1,39 +1,36 @@
 use Prim.Native.Nat.{_-_, _≤_}
-use mathlib.Core.Path.{_≡_, refl}
+use mathlib.Core.Path.{_≡_, refl, _∙_}
 use native.Mathlib.Omega.{arith}
-use lib.ListN.{length-set}
 use Rattle.typing.specs.Sets.{relationWord, Laying}
-use Rattle.typing.specs.SetLaws.{laying-first, laying-next, laying-end, relation-word}
+use Rattle.typing.specs.SetLaws.{laying-first, laying-next, laying-end}
+use Rattle.typing.specs.Columns.{word-is}
 use borrow.Author.Needs.{needs}
 use Rattle.typing.proofs.sets.lay_relation.Statement.{statement}
 use Rattle.typing.proofs.sets.lay_relation.Tie as tie
 
 abbrev Inv-loop : tie.InvT-loop
-Inv-loop sets₀ special items count r at width v₀ sets v = (2 ≤ v) × (v ≤ width) × Laying (relationWord items count r) at v sets₀ sets
+Inv-loop sets₀ special items count groups r at width made v₀ sets v = (2 ≤ v) × (v ≤ width) × Laying (relationWord items count r) at v sets₀ sets
 
 abbrev μ-loop : tie.MeasureT-loop
-μ-loop sets₀ special items count r at width v₀ sets v = width - v
+μ-loop sets₀ special items count groups r at width made v₀ sets v = width - v
+
+add-made : tie.Need-add-made Inv-loop μ-loop
+add-made c = search needs
 
 loop-holds : tie.Need-loop-holds Inv-loop μ-loop
 loop-holds c = (omega arith, omega arith, laying-first)
 
-sub-from : tie.Need-sub-from Inv-loop μ-loop
-sub-from c = search needs
+sub-held-word : tie.Need-sub-held-word Inv-loop μ-loop
+sub-held-word c = search needs
 
-mul-from : tie.Need-mul-from Inv-loop μ-loop
-mul-from c = search needs
+mul-held-word : tie.Need-mul-held-word Inv-loop μ-loop
+mul-held-word c = search needs
 
-add-lesser : tie.Need-add-lesser Inv-loop μ-loop
-add-lesser c = search needs
-
-lesser-requires : tie.Need-lesser-requires Inv-loop μ-loop
-lesser-requires c κs = search needs
-
-entries-held-requires : tie.Need-entries-held-requires Inv-loop μ-loop
-entries-held-requires c κs =
-    let end = c .lesser .ensures in
-    let wide = c .before .before .before .before .before .pre .1 .0 in
-    ((c .before .before .before .before .before .pre .0 .0, omega arith), (omega arith, omega arith))
+held-word-requires : tie.Need-held-word-requires Inv-loop μ-loop
+held-word-requires c κs =
+    let pre = c .before .before .before .before .before .pre in
+    let wide = pre .1 .1 .0 in
+    ((pre .0 .0, omega arith), pre .1 .0 .0)
 
 add-sets : tie.Need-add-sets Inv-loop μ-loop
 add-sets c = search needs
@@ -42,7 +39,7 @@ mul-sets : tie.Need-mul-sets Inv-loop μ-loop
 mul-sets c = search needs
 
 slice-write-sets : tie.Need-slice-write-sets Inv-loop μ-loop
-slice-write-sets c = let size = c .before .before .before .loop .inv .2 .size in omega arith
+slice-write-sets c = let size = c .before .before .loop .inv .2 .size in omega arith
 
 add-v : tie.Need-add-v Inv-loop μ-loop
 add-v c = search needs
@@ -53,35 +50,25 @@ loop-less c = search needs
 loop-again : tie.Need-loop-again Inv-loop μ-loop
 loop-again c =
     let args = c .before .before .before .before .before .before .args in
-    let loop = c .before .before .before .loop in
+    let pre = c .before .before .before .before .before .before .pre in
+    let loop = c .before .before .loop in
     let size = loop .inv .2 .size in
-    (omega arith, omega arith, laying-next (loop .v) (loop .sets) _ (omega arith) (relation-word (args .items .now) (args .count) (args .r) (loop .v) _ _ _ refl (c .before .lesser .ensures) (c .entries-held .ensures)) (loop .inv .2))
+    let wide = pre .1 .1 .0 in
+    let word = word-is (args .items .now) (args .groups .now) (args .count) (args .r) (loop .v) _ _ (pre .0 .1) (pre .1 .0) (pre .0 .0) (loop .inv .0) (omega arith) refl (c .held-word .ok) (c .held-word .ensures) in
+    (omega arith, omega arith, laying-next (loop .v) (loop .sets) _ (omega arith) word (loop .inv .2))
 
-mul-sets-2 : tie.Need-mul-sets-2 Inv-loop μ-loop
-mul-sets-2 c = search needs
-
-slice-write-sets-2 : tie.Need-slice-write-sets-2 Inv-loop μ-loop
-slice-write-sets-2 c = search needs
-
-add-sets-2 : tie.Need-add-sets-2 Inv-loop μ-loop
-add-sets-2 c = search needs
-
-mul-sets-3 : tie.Need-mul-sets-3 Inv-loop μ-loop
-mul-sets-3 c = search needs
-
-slice-write-sets-3 : tie.Need-slice-write-sets-3 Inv-loop μ-loop
-slice-write-sets-3 c = let size = c .before .loop .inv .2 .size in simp length-set (omega arith)
+lay-front-requires : tie.Need-lay-front-requires Inv-loop μ-loop
+lay-front-requires c κs = let size = c .before .before .loop .inv .2 .size in omega arith
 
 same-length : tie.Need-same-length Inv-loop μ-loop
-same-length c = let size = c .before .loop .inv .2 .size in simp length-set size
+same-length c = c .before .before .lay-front .kept .0 ∙ c .before .before .before .before .before .loop .inv .2 .size
 
 returns : tie.Need-returns Inv-loop μ-loop
 returns c =
-    let args = c .before .before .before .before .args in
-    let loop = c .before .loop in
+    let loop = c .before .before .before .before .before .loop in
     let size = loop .inv .2 .size in
-    let all : loop .v ≡ args .width = omega arith in
-    laying-end (args .width) (loop .sets) _ _ (omega arith) (rw all at (loop .inv .2))
+    let all : loop .v ≡ c .before .before .before .before .before .before .before .before .before .args .width = omega arith in
+    laying-end (c .before .before .before .before .before .before .before .before .before .args .width) (loop .sets) _ _ _ (omega arith) (c .before .before .lay-front .ensures) (rw all at (loop .inv .2))
 
 pub lay-relation-spec : {M : Type 1} → statement M
 lay-relation-spec =
@@ -89,22 +76,17 @@ lay-relation-spec =
     (tie.spec
     Inv-loop
     μ-loop
+    add-made
     loop-holds
-    sub-from
-    mul-from
-    add-lesser
-    lesser-requires
-    entries-held-requires
+    sub-held-word
+    mul-held-word
+    held-word-requires
     add-sets
     mul-sets
     slice-write-sets
     add-v
     loop-less
     loop-again
-    mul-sets-2
-    slice-write-sets-2
-    add-sets-2
-    mul-sets-3
-    slice-write-sets-3
+    lay-front-requires
     same-length
     returns)
