@@ -10,6 +10,7 @@
 //! words, copy or copyloop.
 
 mod calls;
+mod checks;
 mod measure;
 mod once;
 mod settings;

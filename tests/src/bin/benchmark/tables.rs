@@ -1,14 +1,11 @@
 //! The tables.
 
-use type_formula_tests::random::Random;
-use type_formula_tests::reference::{self, FORMULA_LENGTH};
-
 use crate::calls::{call, check, By, Call, Operation, ALL, OPERATIONS};
+use crate::checks::check_words;
 use crate::measure::{medians, BATCHES};
 use crate::settings::{
     e1_with_10_columns, of_attributes, of_nodes, random_of_64_nodes, Lists, Setting,
 };
-use crate::words;
 
 /// Prints a row of a markdown table.
 fn print_row(cells: &[String]) {
@@ -20,22 +17,6 @@ fn print_head(title: &str, cells: &[String]) {
     println!("\n{title}\n");
     print_row(cells);
     println!("|{}", "---|".repeat(cells.len()));
-}
-
-/// Asserts that the words give the bytes of the reference on random files.
-fn check_words() {
-    let mut random = Random::new(51);
-    let (mut work, mut wanted) = (vec![0; 64 * FORMULA_LENGTH], vec![0; 64 * FORMULA_LENGTH]);
-    for round in 0..500 {
-        let (relations, count) = (random.between(1, 8), random.between(1, 64));
-        let bytes = match round % 2 {
-            0 => random.accepted_file(relations, count),
-            _ => random.mild_file(relations, count),
-        };
-        let answer = words::formula(&bytes, &mut work);
-        assert_eq!(answer, reference::formula(&bytes, &mut wanted));
-        assert!(work == wanted, "words differ from the reference");
-    }
 }
 
 /// The cells of an operation: the engine's time, and each other time with the engine's

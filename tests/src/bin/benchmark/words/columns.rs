@@ -26,8 +26,9 @@ fn column_of(word: impl Fn(usize) -> (u64, u64)) -> Column {
     column
 }
 
+/// The words of 32 bytes.
 #[inline]
-fn read_bits(bytes: &[u8]) -> Bits {
+pub fn read_bits(bytes: &[u8]) -> Bits {
     let mut bits = [0; 4];
     for (word, bytes) in bits.iter_mut().zip(bytes.chunks_exact(8)) {
         *word = u64::from_le_bytes(bytes.try_into().expect("eight bytes"));
@@ -42,14 +43,27 @@ fn write_bits(bytes: &mut [u8], bits: &Bits) {
     }
 }
 
+/// The bytes of a column in the work space: those of the allowed subsets and those of the
+/// output.
+#[inline]
+pub fn stored_column(work: &[u8], node: usize, column: usize) -> (&[u8], &[u8]) {
+    let start = FORMULA_LENGTH * node + COLUMN_LENGTH * column;
+    work[start..start + COLUMN_LENGTH].split_at(OUTPUT_START)
+}
+
 #[inline]
 pub fn read_column(work: &[u8], node: u8, column: usize) -> Column {
-    let start = FORMULA_LENGTH * usize::from(node) + COLUMN_LENGTH * column;
-    let bytes = &work[start..start + COLUMN_LENGTH];
+    let (allowed, output) = stored_column(work, node.into(), column);
     Column {
-        allowed: read_bits(&bytes[..OUTPUT_START]),
-        output: read_bits(&bytes[OUTPUT_START..]),
+        allowed: read_bits(allowed),
+        output: read_bits(output),
     }
+}
+
+/// Whether bit s of the bytes stands.
+#[inline]
+pub fn bit(bytes: &[u8], s: u8) -> bool {
+    bytes[usize::from(s / 8)] >> (s % 8) & 1 == 1
 }
 
 #[inline]

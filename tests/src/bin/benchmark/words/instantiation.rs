@@ -1,0 +1,172 @@
+//! Instantiations: reading one into a table, and writing one from a table.
+
+use type_formula_tests::reference::{
+    ATTRIBUTE_IN_TWO_LISTS, LISTS_START, TOO_MANY_ORDINARY_ATTRIBUTES,
+};
+
+use super::columns::{read_bits, Bits};
+use super::lists::{attribute, List, Reader, MOST_ORDINARY};
+use super::reader::refuse_if;
+use super::schema::{Entries, Schema};
+use super::sets::transpose;
+use super::sort::sort;
+
+/// An instantiation as a table.
+pub struct Instantiation<'a> {
+    /// The subset of each special attribute; at 0 that of none.
+    pub subsets: [u8; 16],
+    /// The subsets that have a list.
+    pub map: Bits,
+    pub entries: &'a [u32],
+}
+
+/// Reads the list of each subset of the map and hands it on.
+#[inline(always)]
+fn each_list(
+    map: &Bits,
+    reader: &mut Reader,
+    mut take: impl FnMut(u32, List) -> Result<(), u8>,
+) -> Result<(), u8> {
+    for (number, &word) in (0..).zip(map) {
+        let mut rest = word;
+        while rest != 0 {
+            take(64 * number + rest.trailing_zeros(), reader.list()?)?;
+            rest &= rest - 1;
+        }
+    }
+    Ok(())
+}
+
+/// The refusal of more than 255 attributes: that of one in two lists comes first.
+#[cold]
+#[inline(never)]
+fn refusal_of_many(map: &Bits, lists: &[u8]) -> u8 {
+    let mut marks = [0_u64; 1 << 10];
+    let marked = each_list(map, &mut Reader::new(lists), |_, list| {
+        for new in list {
+            let attribute = attribute(new);
+            let (word, bit) = (&mut marks[attribute as usize / 64], 1 << (attribute % 64));
+            refuse_if(*word & bit != 0, ATTRIBUTE_IN_TWO_LISTS)?;
+            *word |= bit;
+        }
+        Ok(())
+    });
+    marked.err().unwrap_or(TOO_MANY_ORDINARY_ATTRIBUTES)
+}
+
+/// Reads an instantiation with all tests of its bytes.
+#[inline(always)]
+pub fn read_instantiation<'a>(
+    bytes: &[u8],
+    [entries, other]: &'a mut [Entries; 2],
+) -> Result<Instantiation<'a>, u8> {
+    let mut reader = Reader::new(bytes);
+    let mut subsets = [0; 16];
+    subsets[1..].copy_from_slice(reader.take::<15>()?);
+    let map = read_bits(reader.take::<32>()?);
+    let mut count = 0;
+    each_list(&map, &mut reader, |s, list| {
+        count += list.len();
+        if count <= MOST_ORDINARY {
+            list.iter()
+                .for_each(|new| entries.push(attribute(new) << 8 | s));
+        }
+        Ok(())
+    })?;
+    reader.end()?;
+    if count > MOST_ORDINARY {
+        return Err(refusal_of_many(&map, &bytes[LISTS_START..]));
+    }
+    sort(entries, other);
+    let is_twice = entries.windows(2).any(|two| two[0] >> 8 == two[1] >> 8);
+    refuse_if(is_twice, ATTRIBUTE_IN_TWO_LISTS)?;
+    Ok(Instantiation {
+        subsets,
+        map,
+        entries,
+    })
+}
+
+/// The special attributes of each relation, from the subset of each.
+#[inline(always)]
+pub fn maps_of(subsets: &[u8; 16]) -> [u16; 8] {
+    let (low, high) = subsets.split_at(8);
+    let bytes = |half: &[u8]| {
+        let bits = u64::from_le_bytes(half.try_into().expect("eight bytes"));
+        transpose(bits).to_le_bytes()
+    };
+    let (low, high) = (bytes(low), bytes(high));
+    std::array::from_fn(|relation| u16::from_le_bytes([low[relation], high[relation]]))
+}
+
+/// The subset of each special attribute, from the special attributes of each relation.
+#[inline(always)]
+pub fn subsets_of(maps: &[u16; 8]) -> [u8; 16] {
+    let half = |byte: usize| {
+        let bytes = maps.map(|map| map.to_le_bytes()[byte]);
+        transpose(u64::from_le_bytes(bytes))
+    };
+    (u128::from(half(0)) | u128::from(half(1)) << 64).to_le_bytes()
+}
+
+/// The lists of an instantiation, before they are written.
+pub struct Lists {
+    /// Bit s stands if there is a list of s.
+    pub map: [u8; 32],
+    /// How many attributes the list of each s has.
+    counts: [u16; 256],
+}
+
+impl Lists {
+    #[inline(always)]
+    pub fn of(entries: &[u32]) -> Self {
+        let (mut map, mut counts) = ([0; 32], [0; 256]);
+        for &entry in entries {
+            let s = entry as u8;
+            map[usize::from(s / 8)] |= 1 << (s % 8);
+            counts[usize::from(s)] += 1;
+        }
+        Lists { map, counts }
+    }
+
+    /// Writes the count bytes, each where its list begins, and then the attributes of the
+    /// same entries, each at the place of its list that comes next. Gives the length of the
+    /// instantiation.
+    #[inline(always)]
+    fn write(&mut self, entries: &[u32], out: &mut [u8]) -> usize {
+        let places = &mut self.counts;
+        let mut end = LISTS_START;
+        for (number, &word) in read_bits(&self.map).iter().enumerate() {
+            let mut rest = word;
+            while rest != 0 {
+                let place = &mut places[64 * number + rest.trailing_zeros() as usize];
+                let count = *place;
+                out[end] = count as u8;
+                *place = end as u16 + 1;
+                end += 1 + 2 * usize::from(count);
+                rest &= rest - 1;
+            }
+        }
+        for &entry in entries {
+            let place = &mut places[usize::from(entry as u8)];
+            let start = usize::from(*place);
+            out[start..start + 2].copy_from_slice(&((entry >> 8) as u16).to_le_bytes());
+            *place += 2;
+        }
+        end
+    }
+}
+
+/// Writes the instantiation whose image is the schema, given the subsets of its special
+/// attributes and its lists, and gives its length.
+#[inline(always)]
+pub fn write_instantiation(
+    schema: &Schema,
+    subsets: &[u8; 16],
+    lists: &mut Lists,
+    out: &mut [u8],
+) -> usize {
+    out[..15].copy_from_slice(&subsets[1..]);
+    out[15..LISTS_START].copy_from_slice(&lists.map);
+    lists.write(schema.entries, out)
+}

@@ -1,0 +1,48 @@
+//! Recover: the subsets of a schema, tested by the stored formula.
+
+use type_formula_tests::reference::{Recover, INSTANTIATION_LENGTH};
+
+use super::columns::read_bits;
+use super::instantiation::{subsets_of, write_instantiation, Lists};
+use super::reader::accept;
+use super::schema::{read_schema, Entries};
+use super::{check_node, check_result, check_subsets, check_work_space, fill};
+
+/// The length of the instantiation, none if the node has no type, or the first refusal.
+#[inline(always)]
+fn write(
+    bytes: &[u8],
+    node: usize,
+    schema: &[u8],
+    work: &mut [u8],
+    out: &mut [u8],
+) -> Result<Option<usize>, u8> {
+    let file = accept(bytes)?;
+    check_node(&file, node)?;
+    check_work_space(&file, work)?;
+    check_result(out, INSTANTIATION_LENGTH)?;
+    let mut buffers = [Entries::new(), Entries::new()];
+    let schema = read_schema(file.relations, schema, &mut buffers)?;
+    fill(file, work);
+    let (subsets, mut lists) = (subsets_of(&schema.maps), Lists::of(schema.entries));
+    if check_subsets(work, node, &read_bits(&lists.map), &subsets).is_err() {
+        return Ok(None);
+    }
+    let length = write_instantiation(&schema, &subsets, &mut lists, out);
+    Ok(Some(length))
+}
+
+/// Recover.
+pub fn recover(
+    bytes: &[u8],
+    node: usize,
+    schema: &[u8],
+    work: &mut [u8],
+    instantiation: &mut [u8],
+) -> Recover {
+    match write(bytes, node, schema, work, instantiation) {
+        Ok(Some(length)) => Recover::Recovered { length },
+        Ok(None) => Recover::Untyped,
+        Err(number) => Recover::Refused { number },
+    }
+}

@@ -1,0 +1,79 @@
+//! Types as bit sets.
+
+use super::schema::Schema;
+
+/// A type as a bit set: bit i for special attribute i, and from bit 16 on a bit for each
+/// entry of the table.
+pub type Set<const WORDS: usize> = [u64; WORDS];
+
+/// The bit of the table's first entry.
+const FIRST_ENTRY: usize = 16;
+
+/// The number of words for a table of so many entries.
+#[inline(always)]
+pub fn words_for(entries: usize) -> usize {
+    (FIRST_ENTRY + entries).div_ceil(64)
+}
+
+/// Whether the entry at this place of the table is in the set.
+#[inline(always)]
+pub fn has_entry<const WORDS: usize>(set: &Set<WORDS>, place: usize) -> bool {
+    let bit = FIRST_ENTRY + place;
+    set[bit / 64] >> (bit % 64) & 1 == 1
+}
+
+#[inline(always)]
+pub fn union<const WORDS: usize>(left: &Set<WORDS>, right: &Set<WORDS>) -> Set<WORDS> {
+    std::array::from_fn(|i| left[i] | right[i])
+}
+
+#[inline(always)]
+pub fn are_disjoint<const WORDS: usize>(left: &Set<WORDS>, right: &Set<WORDS>) -> bool {
+    (0..WORDS).fold(0, |both, i| both | left[i] & right[i]) == 0
+}
+
+#[inline(always)]
+pub fn are_equal<const WORDS: usize>(left: &Set<WORDS>, right: &Set<WORDS>) -> bool {
+    (0..WORDS).fold(0, |differ, i| differ | left[i] ^ right[i]) == 0
+}
+
+/// Bit i of byte j becomes bit j of byte i.
+#[inline(always)]
+pub fn transpose(mut bits: u64) -> u64 {
+    for (distance, mask) in [
+        (7, 0x00aa_00aa_00aa_00aa),
+        (14, 0x0000_cccc_0000_cccc),
+        (28, 0x0000_0000_f0f0_f0f0),
+    ] {
+        let changed = (bits ^ bits >> distance) & mask;
+        bits ^= changed ^ changed << distance;
+    }
+    bits
+}
+
+/// The lowest eight bits of up to eight entries, one byte each.
+#[inline(always)]
+fn subsets(entries: &[u32]) -> u64 {
+    let mut bytes = [0; 8];
+    for (byte, &entry) in bytes.iter_mut().zip(entries) {
+        *byte = entry as u8;
+    }
+    u64::from_le_bytes(bytes)
+}
+
+/// The set of each relation.
+#[inline(always)]
+pub fn relation_sets<const WORDS: usize>(schema: &Schema) -> [Set<WORDS>; 8] {
+    let mut sets = [[0; WORDS]; 8];
+    for (set, map) in sets.iter_mut().zip(schema.maps) {
+        set[0] = map.into();
+    }
+    for (number, entries) in schema.entries.chunks(8).enumerate() {
+        let bit = FIRST_ENTRY + 8 * number;
+        let bytes = transpose(subsets(entries)).to_le_bytes();
+        for (set, byte) in sets.iter_mut().zip(bytes) {
+            set[bit / 64] |= u64::from(byte) << (bit % 64);
+        }
+    }
+    sets
+}
