@@ -47,8 +47,8 @@ fn write(
     check_work_space(&file, work)?;
     check_result(schema, SCHEMA_LENGTH)?;
     check_result(out, OUTPUT_LENGTH)?;
-    let mut buffers = [Entries::new(), Entries::new()];
-    let read = read_instantiation(instantiation, &mut buffers)?;
+    let (mut first, mut second) = (Entries::new(), Entries::new());
+    let read = read_instantiation(instantiation, [&mut first, &mut second])?;
     fill(file, work);
     check_subsets(work, node, &read.map, &read.subsets)?;
     let schema = write_image(file.relations, &read, schema);

@@ -25,15 +25,15 @@ impl<T: Copy, const N: usize> Buffer<T, N> {
         self.length += 1;
     }
 
-    /// Replaces all values by others, up to N.
     #[inline(always)]
-    pub fn assign(&mut self, values: impl Iterator<Item = T>) {
-        let mut length = 0;
-        for (place, value) in self.values.iter_mut().zip(values) {
-            place.write(value);
-            length += 1;
-        }
-        self.length = length;
+    pub fn clear(&mut self) {
+        self.length = 0;
+    }
+
+    #[inline(always)]
+    pub fn extend(&mut self, values: &[T]) {
+        self.values[self.length..][..values.len()].write_copy_of_slice(values);
+        self.length += values.len();
     }
 }
 

@@ -58,7 +58,7 @@ fn refusal_of_many(map: &Bits, lists: &[u8]) -> u8 {
 #[inline(always)]
 pub fn read_instantiation<'a>(
     bytes: &[u8],
-    [entries, other]: &'a mut [Entries; 2],
+    [entries, other]: [&'a mut Entries; 2],
 ) -> Result<Instantiation<'a>, u8> {
     let mut reader = Reader::new(bytes);
     let mut subsets = [0; 16];

@@ -21,8 +21,8 @@ fn write(
     check_node(&file, node)?;
     check_work_space(&file, work)?;
     check_result(out, INSTANTIATION_LENGTH)?;
-    let mut buffers = [Entries::new(), Entries::new()];
-    let schema = read_schema(file.relations, schema, &mut buffers)?;
+    let (mut first, mut second) = (Entries::new(), Entries::new());
+    let schema = read_schema(file.relations, schema, [&mut first, &mut second])?;
     fill(file, work);
     let (subsets, mut lists) = (subsets_of(&schema.maps), Lists::of(schema.entries));
     if check_subsets(work, node, &read_bits(&lists.map), &subsets).is_err() {

@@ -19,32 +19,43 @@ pub struct Schema<'a> {
     pub entries: &'a [u32],
 }
 
+/// Marks the attributes of a relation's list in the table up to the first that it lacks.
+/// Gives the place of the first entry that is not below that one, and the rest of the list.
 #[inline(always)]
-fn key(entry: u32) -> u32 {
-    entry & !0xff
+fn mark<'a>(table: &mut [u32], list: List<'a>, relation: u32) -> (usize, List<'a>) {
+    let mut place = 0;
+    for (marked, new) in list.iter().enumerate() {
+        let new = attribute(new) << 8;
+        while place < table.len() && table[place] < new {
+            place += 1;
+        }
+        if place == table.len() || table[place] >> 8 != new >> 8 {
+            return (place, &list[marked..]);
+        }
+        table[place] |= relation;
+        place += 1;
+    }
+    (place, &[])
 }
 
-/// Adds the list of a relation to the table.
+/// Merges the entries of a table with a list of a relation and adds them to others.
 #[inline(always)]
 fn merge(table: &[u32], list: List, relation: u32, merged: &mut Entries) {
-    let (mut i, mut j) = (0, 0);
-    let step = || {
-        let (Some(&old), Some(new)) = (table.get(i), list.get(j)) else {
-            return None;
-        };
+    let mut place = 0;
+    for new in list {
         let new = attribute(new) << 8;
-        let (is_old, is_new) = (key(old) <= new, new <= key(old));
-        i += usize::from(is_old);
-        j += usize::from(is_new);
-        Some(if is_old { old } else { new } | if is_new { relation } else { 0 })
-    };
-    merged.assign(std::iter::from_fn(step));
-    for &old in &table[i..] {
-        merged.push(old);
+        while place < table.len() && table[place] < new {
+            merged.push(table[place]);
+            place += 1;
+        }
+        if place < table.len() && table[place] >> 8 == new >> 8 {
+            merged.push(table[place] | relation);
+            place += 1;
+        } else {
+            merged.push(new | relation);
+        }
     }
-    for new in &list[j..] {
-        merged.push(attribute(new) << 8 | relation);
-    }
+    merged.extend(&table[place..]);
 }
 
 /// Reads a schema with all tests of its bytes. Relation by relation the list is merged with
@@ -53,7 +64,7 @@ fn merge(table: &[u32], list: List, relation: u32, merged: &mut Entries) {
 pub fn read_schema<'a>(
     relations: u8,
     bytes: &[u8],
-    [first, second]: &'a mut [Entries; 2],
+    [first, second]: [&'a mut Entries; 2],
 ) -> Result<Schema<'a>, u8> {
     let (mut table, mut merged) = (first, second);
     let (mut reader, mut maps) = (Reader::new(bytes), [0; 8]);
@@ -63,8 +74,13 @@ pub fn read_schema<'a>(
         if map & 1 == 1 {
             let list = reader.list()?;
             if table.len() <= MOST_ORDINARY {
-                merge(table, list, 1 << relation, merged);
-                swap(&mut table, &mut merged);
+                let (place, rest) = mark(table, list, 1 << relation);
+                if !rest.is_empty() {
+                    merged.clear();
+                    merged.extend(&table[..place]);
+                    merge(&table[place..], rest, 1 << relation, merged);
+                    swap(&mut table, &mut merged);
+                }
             }
         }
     }

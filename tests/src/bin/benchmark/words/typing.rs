@@ -121,8 +121,8 @@ fn output(bytes: &[u8], node: usize, schema: &[u8], out: &mut [u8]) -> Result<Op
     let file = accept_with(bytes, |node| nodes.push(node))?;
     check_node(&file, node)?;
     check_result(out, OUTPUT_LENGTH)?;
-    let mut buffers = [Entries::new(), Entries::new()];
-    let schema = read_schema(file.relations, schema, &mut buffers)?;
+    let (mut first, mut second) = (Entries::new(), Entries::new());
+    let schema = read_schema(file.relations, schema, [&mut first, &mut second])?;
     let nodes = &nodes[..=node];
     Ok(match words_for(schema.entries.len()) {
         1 => typed::<1>(nodes, &schema, out),
