@@ -6,16 +6,16 @@ use super::columns::{bit, read_column};
 use super::instantiation::{maps_of, read_instantiation, Instantiation};
 use super::reader::accept;
 use super::schema::{write_record, Entries};
+use super::sets::{relation_sets, set_of, MostWords};
 use super::{check_node, check_result, check_subsets, check_work_space, fill, stored_column};
 
 /// Writes the record of each relation, one after another, and gives the length of all.
 #[inline(always)]
 fn write_image(relations: u8, of: &Instantiation, schema: &mut [u8]) -> usize {
-    let maps = maps_of(&of.subsets);
+    let sets: [MostWords; 8] = relation_sets(&maps_of(&of.subsets), of.entries);
     let mut length = 0;
-    for (relation, &map) in maps[..usize::from(relations)].iter().enumerate() {
-        let is_held = |_, entry: u32| entry >> relation & 1 == 1;
-        length += write_record(&mut schema[length..], map, of.entries, is_held);
+    for set in &sets[..usize::from(relations)] {
+        length += write_record(set, of.entries, &mut schema[length..]);
     }
     length
 }
@@ -29,8 +29,9 @@ fn write_output(work: &[u8], node: usize, of: &Instantiation, out: &mut [u8]) ->
         map |= u16::from(is_output) << column;
     }
     let output = read_column(work, node as u8, 0).output;
-    let is_output = |_, entry: u32| output[entry as usize / 64 % 4] >> (entry % 64) & 1 == 1;
-    write_record(out, map, of.entries, is_output)
+    let is_output = |entry: u32| output[entry as usize / 64 % 4] >> (entry % 64) & 1 == 1;
+    let set: MostWords = set_of(map, of.entries, is_output);
+    write_record(&set, of.entries, out)
 }
 
 /// The lengths of schema and output record, or the first refusal.

@@ -35,6 +35,48 @@ impl<T: Copy, const N: usize> Buffer<T, N> {
         self.values[self.length..][..values.len()].write_copy_of_slice(values);
         self.length += values.len();
     }
+
+    /// Adds what the iterator gives, as long as there is room.
+    #[inline(always)]
+    pub fn extend_with(&mut self, values: impl Iterator<Item = T>) {
+        let mut length = self.length;
+        for (place, value) in self.values[length..].iter_mut().zip(values) {
+            place.write(value);
+            length += 1;
+        }
+        self.length = length;
+    }
+
+    /// Adds values one by one, with the length in a register.
+    #[inline(always)]
+    pub fn append(&mut self) -> Append<'_, T, N> {
+        let length = self.length;
+        Append {
+            buffer: self,
+            length,
+        }
+    }
+}
+
+/// Values that are added to a buffer and count when it is dropped.
+pub struct Append<'a, T, const N: usize> {
+    buffer: &'a mut Buffer<T, N>,
+    length: usize,
+}
+
+impl<T: Copy, const N: usize> Append<'_, T, N> {
+    #[inline(always)]
+    pub fn push(&mut self, value: T) {
+        self.buffer.values[self.length].write(value);
+        self.length += 1;
+    }
+}
+
+impl<T, const N: usize> Drop for Append<'_, T, N> {
+    #[inline(always)]
+    fn drop(&mut self) {
+        self.buffer.length = self.length;
+    }
 }
 
 impl<T, const N: usize> Deref for Buffer<T, N> {

@@ -54,6 +54,16 @@ fn refusal_of_many(map: &Bits, lists: &[u8]) -> u8 {
     marked.err().unwrap_or(TOO_MANY_ORDINARY_ATTRIBUTES)
 }
 
+/// Whether two entries, one after the other, have the same attribute.
+#[inline(always)]
+fn has_equal_neighbours(entries: &[u32]) -> bool {
+    let mut has = false;
+    for (entry, next) in entries.iter().zip(entries.iter().skip(1)) {
+        has |= entry >> 8 == next >> 8;
+    }
+    has
+}
+
 /// Reads an instantiation with all tests of its bytes.
 #[inline(always)]
 pub fn read_instantiation<'a>(
@@ -78,8 +88,7 @@ pub fn read_instantiation<'a>(
         return Err(refusal_of_many(&map, &bytes[LISTS_START..]));
     }
     sort(entries, other);
-    let is_twice = entries.windows(2).any(|two| two[0] >> 8 == two[1] >> 8);
-    refuse_if(is_twice, ATTRIBUTE_IN_TWO_LISTS)?;
+    refuse_if(has_equal_neighbours(entries), ATTRIBUTE_IN_TWO_LISTS)?;
     Ok(Instantiation {
         subsets,
         map,

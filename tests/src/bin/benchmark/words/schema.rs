@@ -7,6 +7,7 @@ use type_formula_tests::reference::TOO_MANY_ORDINARY_ATTRIBUTES;
 use super::buffer::Buffer;
 use super::lists::{attribute, List, Reader, MOST_ORDINARY};
 use super::reader::refuse_if;
+use super::sets::{each_entry, Set};
 
 /// Entries of a table, rising: an ordinary attribute, above the subset of the relations that
 /// hold it in the lowest eight bits. There is room for one list more than a table may have.
@@ -41,21 +42,40 @@ fn mark<'a>(table: &mut [u32], list: List<'a>, relation: u32) -> (usize, List<'a
 /// Merges the entries of a table with a list of a relation and adds them to others.
 #[inline(always)]
 fn merge(table: &[u32], list: List, relation: u32, merged: &mut Entries) {
-    let mut place = 0;
-    for new in list {
-        let new = attribute(new) << 8;
-        while place < table.len() && table[place] < new {
-            merged.push(table[place]);
+    let (mut place, mut taken) = (0, 0);
+    let mut append = merged.append();
+    while place < table.len() && taken < list.len() {
+        let (old, new) = (table[place], attribute(&list[taken]));
+        if old >> 8 < new {
+            append.push(old);
             place += 1;
-        }
-        if place < table.len() && table[place] >> 8 == new >> 8 {
-            merged.push(table[place] | relation);
+        } else if old >> 8 == new {
+            append.push(old | relation);
             place += 1;
+            taken += 1;
         } else {
-            merged.push(new | relation);
+            append.push(new << 8 | relation);
+            taken += 1;
         }
     }
+    drop(append);
     merged.extend(&table[place..]);
+    let rest = list[taken..].iter();
+    merged.extend_with(rest.map(|new| attribute(new) << 8 | relation));
+}
+
+/// Adds the list of a relation to the table: in place as long as the table has its
+/// attributes, else by merging to the other buffer. Gives whether that has the table now.
+#[inline(never)]
+fn add_list(table: &mut Entries, list: List, relation: u32, merged: &mut Entries) -> bool {
+    let (place, rest) = mark(table, list, relation);
+    if rest.is_empty() {
+        return false;
+    }
+    merged.clear();
+    merged.extend(&table[..place]);
+    merge(&table[place..], rest, relation, merged);
+    true
 }
 
 /// Reads a schema with all tests of its bytes. Relation by relation the list is merged with
@@ -73,14 +93,9 @@ pub fn read_schema<'a>(
         maps[relation & 7] = map & !1;
         if map & 1 == 1 {
             let list = reader.list()?;
-            if table.len() <= MOST_ORDINARY {
-                let (place, rest) = mark(table, list, 1 << relation);
-                if !rest.is_empty() {
-                    merged.clear();
-                    merged.extend(&table[..place]);
-                    merge(&table[place..], rest, 1 << relation, merged);
-                    swap(&mut table, &mut merged);
-                }
+            let has_room = table.len() <= MOST_ORDINARY;
+            if has_room && add_list(table, list, 1 << relation, merged) {
+                swap(&mut table, &mut merged);
             }
         }
     }
@@ -92,28 +107,24 @@ pub fn read_schema<'a>(
     })
 }
 
-/// Writes the record of these special attributes and of the entries chosen by their place
-/// and value, and gives its length. Every entry up to the last chosen one is written, and
-/// the next one in its place unless it is chosen, so that no bytes after the record change.
+/// Writes the record of the set and gives its length.
 #[inline(always)]
-pub fn write_record(
-    out: &mut [u8],
-    map: u16,
+pub fn write_record<const WORDS: usize>(
+    set: &Set<WORDS>,
     entries: &[u32],
-    is_chosen: impl Fn(usize, u32) -> bool,
+    out: &mut [u8],
 ) -> usize {
-    let last = (0..entries.len()).rfind(|&place| is_chosen(place, entries[place]));
-    let Some(last) = last else {
-        out[..2].copy_from_slice(&map.to_le_bytes());
-        return 2;
-    };
-    let mut count = 0;
+    let [low, high] = (set[0] as u16).to_le_bytes();
     let places = out[3..].as_chunks_mut().0;
-    for (place, &entry) in entries[..=last].iter().enumerate() {
-        places[count] = ((entry >> 8) as u16).to_le_bytes();
-        count += usize::from(is_chosen(place, entry));
+    let mut count = 0;
+    each_entry(set, |place| {
+        places[count] = ((entries[place] >> 8) as u16).to_le_bytes();
+        count += 1;
+    });
+    if count == 0 {
+        out[..2].copy_from_slice(&[low, high]);
+        return 2;
     }
-    let [low, high] = (map | 1).to_le_bytes();
-    out[..3].copy_from_slice(&[low, high, count as u8]);
+    out[..3].copy_from_slice(&[low | 1, high, count as u8]);
     3 + 2 * count
 }

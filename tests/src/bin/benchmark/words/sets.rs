@@ -1,10 +1,11 @@
 //! Types as bit sets.
 
-use super::schema::Schema;
-
 /// A type as a bit set: bit i for special attribute i, and from bit 16 on a bit for each
 /// entry of the table.
 pub type Set<const WORDS: usize> = [u64; WORDS];
+
+/// A set for a table of any length.
+pub type MostWords = Set<5>;
 
 /// The bit of the table's first entry.
 const FIRST_ENTRY: usize = 16;
@@ -15,11 +16,32 @@ pub fn words_for(entries: usize) -> usize {
     (FIRST_ENTRY + entries).div_ceil(64)
 }
 
-/// Whether the entry at this place of the table is in the set.
+/// Hands on the place of each entry of the set, rising.
 #[inline(always)]
-pub fn has_entry<const WORDS: usize>(set: &Set<WORDS>, place: usize) -> bool {
-    let bit = FIRST_ENTRY + place;
-    set[bit / 64] >> (bit % 64) & 1 == 1
+pub fn each_entry<const WORDS: usize>(set: &Set<WORDS>, mut take: impl FnMut(usize)) {
+    let mut rest = set[0] >> FIRST_ENTRY << FIRST_ENTRY;
+    for number in 0..WORDS {
+        while rest != 0 {
+            take(64 * number + rest.trailing_zeros() as usize - FIRST_ENTRY);
+            rest &= rest - 1;
+        }
+        rest = set.get(number + 1).copied().unwrap_or(0);
+    }
+}
+
+/// The set of these special attributes and of the entries chosen.
+#[inline(always)]
+pub fn set_of<const WORDS: usize>(
+    map: u16,
+    entries: &[u32],
+    is_chosen: impl Fn(u32) -> bool,
+) -> Set<WORDS> {
+    let mut set = [0; WORDS];
+    set[0] = map.into();
+    for (bit, &entry) in (FIRST_ENTRY..).zip(entries) {
+        set[bit / 64] |= u64::from(is_chosen(entry)) << (bit % 64);
+    }
+    set
 }
 
 #[inline(always)]
@@ -63,12 +85,12 @@ fn subsets(entries: &[u32]) -> u64 {
 
 /// The set of each relation.
 #[inline(always)]
-pub fn relation_sets<const WORDS: usize>(schema: &Schema) -> [Set<WORDS>; 8] {
+pub fn relation_sets<const WORDS: usize>(maps: &[u16; 8], entries: &[u32]) -> [Set<WORDS>; 8] {
     let mut sets = [[0; WORDS]; 8];
-    for (set, map) in sets.iter_mut().zip(schema.maps) {
+    for (set, &map) in sets.iter_mut().zip(maps) {
         set[0] = map.into();
     }
-    for (number, entries) in schema.entries.chunks(8).enumerate() {
+    for (number, entries) in entries.chunks(8).enumerate() {
         let bit = FIRST_ENTRY + 8 * number;
         let bytes = transpose(subsets(entries)).to_le_bytes();
         for (set, byte) in sets.iter_mut().zip(bytes) {

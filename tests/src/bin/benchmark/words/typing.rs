@@ -5,7 +5,7 @@ use type_formula_tests::reference::{Node, Typing, OUTPUT_LENGTH};
 use super::buffer::Buffer;
 use super::reader::accept_with;
 use super::schema::{read_schema, write_record, Entries, Schema};
-use super::sets::{are_disjoint, are_equal, has_entry, relation_sets, union, words_for, Set};
+use super::sets::{are_disjoint, are_equal, relation_sets, union, words_for, Set};
 use super::{check_node, check_result};
 
 /// The types of the nodes so far.
@@ -109,9 +109,9 @@ fn type_of<const WORDS: usize>(nodes: &[Node], relations: &[Set<WORDS>; 8]) -> O
 /// Writes the output record of the last of the nodes and gives its length, if it has a
 /// type. A type takes so many words.
 fn typed<const WORDS: usize>(nodes: &[Node], schema: &Schema, out: &mut [u8]) -> Option<usize> {
-    let set = type_of::<WORDS>(nodes, &relation_sets(schema))?;
-    let is_chosen = |place, _| has_entry(&set, place);
-    Some(write_record(out, set[0] as u16, schema.entries, is_chosen))
+    let relations = relation_sets::<WORDS>(&schema.maps, schema.entries);
+    let set = type_of(nodes, &relations)?;
+    Some(write_record(&set, schema.entries, out))
 }
 
 /// The length of the output record, none if the node has no type, or the first refusal.
