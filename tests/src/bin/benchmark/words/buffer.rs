@@ -20,12 +20,6 @@ impl<T: Copy, const N: usize> Buffer<T, N> {
     }
 
     #[inline(always)]
-    pub fn push(&mut self, value: T) {
-        self.values[self.length].write(value);
-        self.length += 1;
-    }
-
-    #[inline(always)]
     pub fn clear(&mut self) {
         self.length = 0;
     }
@@ -47,7 +41,7 @@ impl<T: Copy, const N: usize> Buffer<T, N> {
         self.length = length;
     }
 
-    /// Adds values one by one, with the length in a register.
+    /// To add values one by one.
     #[inline(always)]
     pub fn append(&mut self) -> Append<'_, T, N> {
         let length = self.length;
@@ -58,7 +52,26 @@ impl<T: Copy, const N: usize> Buffer<T, N> {
     }
 }
 
-/// Values that are added to a buffer and count when it is dropped.
+impl<T, const N: usize> Deref for Buffer<T, N> {
+    type Target = [T];
+
+    #[inline(always)]
+    fn deref(&self) -> &[T] {
+        // The first `length` places are written.
+        unsafe { slice::from_raw_parts(self.values.as_ptr().cast(), self.length) }
+    }
+}
+
+impl<T, const N: usize> DerefMut for Buffer<T, N> {
+    #[inline(always)]
+    fn deref_mut(&mut self) -> &mut [T] {
+        // The first `length` places are written.
+        unsafe { slice::from_raw_parts_mut(self.values.as_mut_ptr().cast(), self.length) }
+    }
+}
+
+/// A buffer to which values are added. The length is apart from it, so that the compiler
+/// keeps it in a register, and goes there at the end.
 pub struct Append<'a, T, const N: usize> {
     buffer: &'a mut Buffer<T, N>,
     length: usize,
@@ -72,27 +85,19 @@ impl<T: Copy, const N: usize> Append<'_, T, N> {
     }
 }
 
-impl<T, const N: usize> Drop for Append<'_, T, N> {
-    #[inline(always)]
-    fn drop(&mut self) {
-        self.buffer.length = self.length;
-    }
-}
-
-impl<T, const N: usize> Deref for Buffer<T, N> {
+impl<T, const N: usize> Deref for Append<'_, T, N> {
     type Target = [T];
 
     #[inline(always)]
     fn deref(&self) -> &[T] {
-        // The first `length` places are written and stay so.
-        unsafe { slice::from_raw_parts(self.values.as_ptr().cast(), self.length) }
+        // The first `length` places are written.
+        unsafe { slice::from_raw_parts(self.buffer.values.as_ptr().cast(), self.length) }
     }
 }
 
-impl<T, const N: usize> DerefMut for Buffer<T, N> {
+impl<T, const N: usize> Drop for Append<'_, T, N> {
     #[inline(always)]
-    fn deref_mut(&mut self) -> &mut [T] {
-        // The first `length` places are written and stay so.
-        unsafe { slice::from_raw_parts_mut(self.values.as_mut_ptr().cast(), self.length) }
+    fn drop(&mut self) {
+        self.buffer.length = self.length;
     }
 }

@@ -74,15 +74,16 @@ pub fn read_instantiation<'a>(
     let mut subsets = [0; 16];
     subsets[1..].copy_from_slice(reader.take::<15>()?);
     let map = read_bits(reader.take::<32>()?);
-    let mut count = 0;
+    let (mut append, mut count) = (entries.append(), 0);
     each_list(&map, &mut reader, |s, list| {
         count += list.len();
         if count <= MOST_ORDINARY {
             list.iter()
-                .for_each(|new| entries.push(attribute(new) << 8 | s));
+                .for_each(|new| append.push(attribute(new) << 8 | s));
         }
         Ok(())
     })?;
+    drop(append);
     reader.end()?;
     if count > MOST_ORDINARY {
         return Err(refusal_of_many(&map, &bytes[LISTS_START..]));

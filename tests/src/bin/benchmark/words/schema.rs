@@ -20,23 +20,24 @@ pub struct Schema<'a> {
     pub entries: &'a [u32],
 }
 
-/// Marks the attributes of a relation's list in the table up to the first that it lacks.
-/// Gives the place of the first entry that is not below that one, and the rest of the list.
+/// Marks the attributes of a relation's list in the table, up to the first that it lacks.
+/// Gives the place of the first entry above those marked, and how many are marked.
 #[inline(always)]
-fn mark<'a>(table: &mut [u32], list: List<'a>, relation: u32) -> (usize, List<'a>) {
-    let mut place = 0;
-    for (marked, new) in list.iter().enumerate() {
-        let new = attribute(new) << 8;
-        while place < table.len() && table[place] < new {
+fn mark(table: &mut [u32], list: List, relation: u32) -> (usize, usize) {
+    let (mut place, mut marked) = (0, 0);
+    while marked < list.len() {
+        let new = attribute(&list[marked]);
+        while place < table.len() && table[place] < new << 8 {
             place += 1;
         }
-        if place == table.len() || table[place] >> 8 != new >> 8 {
-            return (place, &list[marked..]);
+        if place == table.len() || table[place] >> 8 != new {
+            break;
         }
         table[place] |= relation;
         place += 1;
+        marked += 1;
     }
-    (place, &[])
+    (place, marked)
 }
 
 /// Merges the entries of a table with a list of a relation and adds them to others.
@@ -68,13 +69,13 @@ fn merge(table: &[u32], list: List, relation: u32, merged: &mut Entries) {
 /// attributes, else by merging to the other buffer. Gives whether that has the table now.
 #[inline(never)]
 fn add_list(table: &mut Entries, list: List, relation: u32, merged: &mut Entries) -> bool {
-    let (place, rest) = mark(table, list, relation);
-    if rest.is_empty() {
+    let (place, marked) = mark(table, list, relation);
+    if marked == list.len() {
         return false;
     }
     merged.clear();
     merged.extend(&table[..place]);
-    merge(&table[place..], rest, relation, merged);
+    merge(&table[place..], &list[marked..], relation, merged);
     true
 }
 

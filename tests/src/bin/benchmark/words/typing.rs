@@ -2,21 +2,21 @@
 
 use type_formula_tests::reference::{Node, Typing, OUTPUT_LENGTH};
 
-use super::buffer::Buffer;
+use super::buffer::{Append, Buffer};
 use super::reader::accept_with;
 use super::schema::{read_schema, write_record, Entries, Schema};
 use super::sets::{are_disjoint, are_equal, relation_sets, union, words_for, Set};
 use super::{check_node, check_result};
 
 /// The types of the nodes so far.
-struct Types<const WORDS: usize> {
+struct Types<'a, const WORDS: usize> {
     /// The type of each node; of no meaning where it has none.
-    sets: Buffer<Set<WORDS>, 64>,
+    sets: Append<'a, Set<WORDS>, 64>,
     /// Bit i stands if node i has a type.
     typed: u64,
 }
 
-impl<const WORDS: usize> Types<WORDS> {
+impl<const WORDS: usize> Types<'_, WORDS> {
     #[inline(always)]
     fn operand(&self, operand: u8) -> (&Set<WORDS>, bool) {
         let is_typed = self.typed >> operand & 1 == 1;
@@ -92,18 +92,18 @@ fn with_special<const WORDS: usize>(set: &Set<WORDS>, first: u64) -> Set<WORDS> 
 /// The type of the last of the nodes, if it has one.
 #[inline(always)]
 fn type_of<const WORDS: usize>(nodes: &[Node], relations: &[Set<WORDS>; 8]) -> Option<Set<WORDS>> {
+    let mut buffer = Buffer::new();
     let mut types = Types {
-        sets: Buffer::new(),
+        sets: buffer.append(),
         typed: 0,
     };
-    let mut last_is_typed = false;
     for (number, &node) in nodes.iter().enumerate() {
         let (set, is_typed) = types.by_rule(node, relations);
         types.sets.push(set);
         types.typed |= u64::from(is_typed) << number;
-        last_is_typed = is_typed;
     }
-    types.sets.last().copied().filter(|_| last_is_typed)
+    let last = nodes.len() - 1;
+    (types.typed >> last & 1 == 1).then(|| types.sets[last])
 }
 
 /// Writes the output record of the last of the nodes and gives its length, if it has a
@@ -117,7 +117,8 @@ fn typed<const WORDS: usize>(nodes: &[Node], schema: &Schema, out: &mut [u8]) ->
 /// The length of the output record, none if the node has no type, or the first refusal.
 #[inline(always)]
 fn output(bytes: &[u8], node: usize, schema: &[u8], out: &mut [u8]) -> Result<Option<usize>, u8> {
-    let mut nodes: Buffer<Node, 64> = Buffer::new();
+    let mut buffer: Buffer<Node, 64> = Buffer::new();
+    let mut nodes = buffer.append();
     let file = accept_with(bytes, |node| nodes.push(node))?;
     check_node(&file, node)?;
     check_result(out, OUTPUT_LENGTH)?;
