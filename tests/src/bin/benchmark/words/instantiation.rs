@@ -58,8 +58,8 @@ fn refusal_of_many(map: &Bits, lists: &[u8]) -> u8 {
 #[inline(always)]
 fn has_equal_neighbours(entries: &[u32]) -> bool {
     let mut has = false;
-    for (entry, next) in entries.iter().zip(entries.iter().skip(1)) {
-        has |= entry >> 8 == next >> 8;
+    for two in entries.windows(2) {
+        has |= two[0] >> 8 == two[1] >> 8;
     }
     has
 }
@@ -77,9 +77,12 @@ pub fn read_instantiation<'a>(
     let (mut append, mut count) = (entries.append(), 0);
     each_list(&map, &mut reader, |s, list| {
         count += list.len();
-        if count <= MOST_ORDINARY {
-            list.iter()
-                .for_each(|new| append.push(attribute(new) << 8 | s));
+        match list {
+            _ if count > MOST_ORDINARY => {}
+            [new] => append.push(attribute(new) << 8 | s),
+            _ => list
+                .iter()
+                .for_each(|new| append.push(attribute(new) << 8 | s)),
         }
         Ok(())
     })?;

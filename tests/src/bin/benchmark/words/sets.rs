@@ -36,10 +36,15 @@ pub fn set_of<const WORDS: usize>(
     entries: &[u32],
     is_chosen: impl Fn(u32) -> bool,
 ) -> Set<WORDS> {
+    let (mut rest, mut first) = (entries, FIRST_ENTRY);
     let mut set = [0; WORDS];
     set[0] = map.into();
-    for (bit, &entry) in (FIRST_ENTRY..).zip(entries) {
-        set[bit / 64] |= u64::from(is_chosen(entry)) << (bit % 64);
+    for word in &mut set {
+        let (here, after) = rest.split_at(rest.len().min(64 - first));
+        for (bit, &entry) in (first..64).zip(here) {
+            *word |= u64::from(is_chosen(entry)) << bit;
+        }
+        (rest, first) = (after, 0);
     }
     set
 }
