@@ -27,8 +27,8 @@ pub const OPERATIONS: [Operation; 5] = [
     Operation::Recover,
 ];
 
-/// What makes a call: an implementation, or a copy of the bytes that it writes, by the C
-/// library or by a loop over 64-bit words.
+/// What makes a call: the engine, the reference, the code written by hand for speed, or a
+/// copy of the bytes that they write, by the C library or by a loop over 64-bit words.
 #[derive(Clone, Copy, Debug, PartialEq, Eq)]
 pub enum By {
     Engine,
@@ -231,7 +231,7 @@ pub fn check(operation: Operation, setting: &Setting) {
     let wanted = after(By::Reference).expect("has every operation");
     assert_eq!(wanted.0[0], 0, "{operation:?}, {}", setting.name);
     for by in [By::Engine, By::Words] {
-        let is_same = after(by).is_none_or(|given| given == wanted);
+        let is_same = after(by).is_some_and(|given| given == wanted);
         assert!(is_same, "{operation:?} by {by:?}, {}", setting.name);
     }
 }
