@@ -10,7 +10,7 @@ use super::{check_node, check_result, check_subsets, check_work_space, fill};
 
 /// The length of the instantiation, none if the node has no type, or the first refusal.
 #[inline(always)]
-fn write(
+fn length(
     bytes: &[u8],
     node: usize,
     schema: &[u8],
@@ -40,7 +40,7 @@ pub fn recover(
     work: &mut [u8],
     instantiation: &mut [u8],
 ) -> Recover {
-    match write(bytes, node, schema, work, instantiation) {
+    match length(bytes, node, schema, work, instantiation) {
         Ok(Some(length)) => Recover::Recovered { length },
         Ok(None) => Recover::Untyped,
         Err(number) => Recover::Refused { number },

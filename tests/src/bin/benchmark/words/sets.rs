@@ -4,9 +4,6 @@
 /// entry of the table.
 pub type Set<const WORDS: usize> = [u64; WORDS];
 
-/// A set for a table of any length.
-pub type MostWords = Set<5>;
-
 /// The bit of the table's first entry.
 const FIRST_ENTRY: usize = 16;
 
