@@ -13,14 +13,15 @@ program=${CARGO_TARGET_DIR:-target}/release/benchmark
 
 # The instructions of a run, given operation, size, number of calls and implementation.
 instructions() {
-    valgrind --tool=callgrind --callgrind-out-file=/dev/null "$program" once "$1" "$2" "$3" "$4" 2>&1 |
-        awk '/Collected/ { print $NF }'
+    valgrind --tool=callgrind --callgrind-out-file=/dev/null \
+        "$program" once "$1" "$2" "$3" "$4" 2>&1 | awk '/Collected/ { print $NF }'
 }
 
 # The instructions of one call, or - where there is no such call.
 per_call() {
     "$program" once "$1" "$2" 1 "$3" 2>/dev/null || { echo -; return; }
-    echo $((($(instructions "$1" "$2" $many "$3") - $(instructions "$1" "$2" $few "$3")) / (many - few)))
+    of_many=$(instructions "$1" "$2" $many "$3") of_few=$(instructions "$1" "$2" $few "$3")
+    echo $(((of_many - of_few) / (many - few)))
 }
 
 # The sizes at which an operation is counted.
@@ -31,7 +32,8 @@ sizes() {
     esac
 }
 
-echo "| Operation | size | engine | other implementation | hand-written | copy | copy by a 64-bit loop |"
+echo "| Operation | size | engine | other implementation | hand-written | copy |" \
+    "copy by a 64-bit loop |"
 echo "|---|---|---|---|---|---|---|"
 for operation in formula verdict typing apply recover; do
     for size in $(sizes $operation); do

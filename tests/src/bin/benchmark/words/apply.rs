@@ -1,6 +1,6 @@
 //! Apply: the image of an instantiation, and the output by the stored formula.
 
-use type_formula_tests::reference::{Apply, COLUMNS, OUTPUT_LENGTH, SCHEMA_LENGTH};
+use type_formula_tests::reference::{Apply, OUTPUT_LENGTH, SCHEMA_LENGTH};
 
 use super::columns::{bit, read_column};
 use super::instantiation::{maps_of, read_instantiation, Instantiation};
@@ -24,8 +24,8 @@ fn write_image<const WORDS: usize>(relations: u8, of: &Instantiation, out: &mut 
 #[inline(always)]
 fn output_map(work: &[u8], node: usize, subsets: &[u8; 16]) -> u16 {
     let mut map = 0;
-    for column in 1..COLUMNS {
-        let is_output = bit(stored_column(work, node, column).1, subsets[column]);
+    for (column, &s) in subsets.iter().enumerate().skip(1) {
+        let is_output = bit(stored_column(work, node, column).1, s);
         map |= u16::from(is_output) << column;
     }
     map

@@ -50,8 +50,8 @@ fn check_subsets(work: &[u8], node: usize, map: &Bits, subsets: &[u8; 16]) -> Re
     let others = (0..4).fold(0, |others, i| others | map[i] & !variables[i]);
     refuse_if(others != 0, STANDING_BIT_NO_TYPE_VARIABLE)?;
     let mut are_allowed = true;
-    for column in 1..COLUMNS {
-        are_allowed &= bit(stored_column(work, node, column).0, subsets[column]);
+    for (column, &s) in subsets.iter().enumerate().skip(1) {
+        are_allowed &= bit(stored_column(work, node, column).0, s);
     }
     refuse_if(!are_allowed, SUBSET_NOT_ALLOWED)
 }

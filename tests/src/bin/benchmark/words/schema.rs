@@ -9,8 +9,9 @@ use super::lists::{attribute, List, Reader, MOST_ORDINARY};
 use super::reader::refuse_if;
 use super::sets::{each_entry, Set};
 
-/// Entries of a table, rising: an ordinary attribute, above the subset of the relations that
-/// hold it in the lowest eight bits. There is room for one list more than a table may have.
+/// Entries of a table, rising: each is an ordinary attribute shifted left by eight, with the
+/// subset of the relations that hold it in the lowest eight bits. There is room for the most
+/// entries and one list more.
 pub type Entries = Buffer<u32, { 2 * MOST_ORDINARY }>;
 
 /// A schema as a table.
@@ -66,7 +67,8 @@ fn merge(table: &[u32], list: List, relation: u32, merged: &mut Entries) {
 }
 
 /// Adds the list of a relation to the table: in place as long as the table has its
-/// attributes, else by merging to the other buffer. Gives whether that has the table now.
+/// attributes, and from there on by merging into the other buffer. Gives whether the other
+/// buffer is the table now. It is a function of its own for the sake of the registers.
 #[inline(never)]
 fn add_list(table: &mut Entries, list: List, relation: u32, merged: &mut Entries) -> bool {
     let (place, marked) = mark(table, list, relation);

@@ -31,6 +31,15 @@ impl<const WORDS: usize> Types<'_, WORDS> {
         (left, right, has_left & has_right)
     }
 
+    /// The type of a renaming, given the bits of both attributes, and whether it has one.
+    #[inline(always)]
+    fn renamed(&self, operand: u8, old: u64, new: u64) -> (Set<WORDS>, bool) {
+        let (operand, is_typed) = self.operand(operand);
+        let holds = (operand[0] & old != 0) & (operand[0] & new == 0);
+        let special = operand[0] & !old | new;
+        (with_special(operand, special), is_typed & holds)
+    }
+
     /// The type of a node by its rule, and whether it has one.
     #[inline(always)]
     fn by_rule(&self, node: Node, relations: &[Set<WORDS>; 8]) -> (Set<WORDS>, bool) {
@@ -57,15 +66,7 @@ impl<const WORDS: usize> Types<'_, WORDS> {
                 let set = u64::from(set);
                 (of_special(set), is_typed & (set & !operand[0] == 0))
             }
-            Node::Renaming { operand, old, new } => {
-                let (operand, is_typed) = self.operand(operand);
-                let (old, new) = (1 << old, 1 << new);
-                let holds = (operand[0] & old != 0) & (operand[0] & new == 0);
-                (
-                    with_special(operand, operand[0] & !old | new),
-                    is_typed & holds,
-                )
-            }
+            Node::Renaming { operand, old, new } => self.renamed(operand, 1 << old, 1 << new),
             Node::ProjectingOut { operand, old } => {
                 let (operand, is_typed) = self.operand(operand);
                 let rest = operand[0] & !(1 << old);
