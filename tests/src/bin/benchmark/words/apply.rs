@@ -1,13 +1,13 @@
 //! Apply: the image of an instantiation, and the output by the stored formula.
 
-use type_formula_tests::reference::{Apply, OUTPUT_LENGTH, SCHEMA_LENGTH};
+use type_formula_tests::reference::{Apply, Formula, COLUMNS, OUTPUT_LENGTH, SCHEMA_LENGTH};
 
-use super::columns::{bit, read_column};
+use super::columns::{is_output, stored};
 use super::instantiation::{maps_of, read_instantiation, Instantiation};
-use super::reader::{accept, File};
+use super::reader::accept;
 use super::schema::{write_record, Entries};
 use super::sets::{relation_sets, set_of, words_for};
-use super::{check_node, check_result, check_subsets, check_work_space, fill, stored_column};
+use super::{check_node, check_result, check_subsets, check_work_space, fill};
 
 /// Writes the record of each relation, one after another, and gives the length of all.
 #[inline(always)]
@@ -22,28 +22,23 @@ fn write_image<const WORDS: usize>(relations: u8, of: &Instantiation, out: &mut 
 
 /// The special attributes that have their output bit in the stored formula.
 #[inline(always)]
-fn output_map(work: &[u8], node: usize, subsets: &[u8; 16]) -> u16 {
-    let mut map = 0;
-    for (column, &s) in subsets.iter().enumerate().skip(1) {
-        let is_output = bit(stored_column(work, node, column).1, s);
-        map |= u16::from(is_output) << column;
-    }
-    map
+fn output_map(formula: &Formula, subsets: &[u8; 16]) -> u16 {
+    (1..COLUMNS).fold(0, |map, column| {
+        map | u16::from(is_output(formula, column, subsets[column])) << column
+    })
 }
 
 /// Writes schema and output record and gives their lengths. A type takes so many words.
 fn write<const WORDS: usize>(
-    file: File,
-    node: usize,
+    relations: u8,
+    formula: &Formula,
     of: &Instantiation,
-    work: &[u8],
     [schema, out]: [&mut [u8]; 2],
 ) -> (usize, usize) {
-    let output = read_column(work, node as u8, 0).output;
-    let is_output = |entry: u32| output[entry as usize / 64 % 4] >> (entry % 64) & 1 == 1;
-    let map = output_map(work, node, &of.subsets);
-    let set = set_of::<WORDS>(map, of.entries, is_output);
-    let length = write_image::<WORDS>(file.relations, of, schema);
+    let map = output_map(formula, &of.subsets);
+    let is_chosen = |entry| is_output(formula, 0, entry as u8);
+    let set = set_of::<WORDS>(map, of.entries, is_chosen);
+    let length = write_image::<WORDS>(relations, of, schema);
     (length, write_record(&set, of.entries, out))
 }
 
@@ -64,13 +59,14 @@ fn lengths(
     let (mut first, mut second) = (Entries::new(), Entries::new());
     let read = read_instantiation(instantiation, [&mut first, &mut second])?;
     fill(file, work);
-    check_subsets(work, node, &read.map, &read.subsets)?;
+    let (relations, formula) = (file.relations, stored(work, node));
+    check_subsets(formula, &read.map, &read.subsets)?;
     Ok(match words_for(read.entries.len()) {
-        1 => write::<1>(file, node, &read, work, results),
-        2 => write::<2>(file, node, &read, work, results),
-        3 => write::<3>(file, node, &read, work, results),
-        4 => write::<4>(file, node, &read, work, results),
-        _ => write::<5>(file, node, &read, work, results),
+        1 => write::<1>(relations, formula, &read, results),
+        2 => write::<2>(relations, formula, &read, results),
+        3 => write::<3>(relations, formula, &read, results),
+        4 => write::<4>(relations, formula, &read, results),
+        _ => write::<5>(relations, formula, &read, results),
     })
 }
 

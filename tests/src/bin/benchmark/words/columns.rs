@@ -1,7 +1,9 @@
 //! Columns as 64-bit words, and the step of each case of nodes. All is inline, so that the
 //! compiler sees the loop as a whole.
 
-use type_formula_tests::reference::{Node, COLUMNS, COLUMN_LENGTH, FORMULA_LENGTH, OUTPUT_START};
+use type_formula_tests::reference::{
+    Formula, Node, COLUMNS, COLUMN_LENGTH, FORMULA_LENGTH, OUTPUT_START,
+};
 
 /// 256 bits, one for each subset.
 pub type Bits = [u64; 4];
@@ -43,26 +45,38 @@ fn write_bits(bytes: &mut [u8], bits: &Bits) {
     }
 }
 
-/// The bytes of a column in the work space: those of the allowed subsets and those of the
-/// output.
+/// The stored formula of a node.
 #[inline]
-pub fn stored_column(work: &[u8], node: usize, column: usize) -> (&[u8], &[u8]) {
-    let start = FORMULA_LENGTH * node + COLUMN_LENGTH * column;
-    work[start..start + COLUMN_LENGTH].split_at(OUTPUT_START)
+pub fn stored(work: &[u8], node: usize) -> &Formula {
+    let start = FORMULA_LENGTH * node;
+    work[start..].first_chunk().expect("long enough")
+}
+
+/// Whether s is allowed in the column of a stored formula.
+#[inline]
+pub fn is_allowed(formula: &Formula, column: usize, s: u8) -> bool {
+    bit(&formula[COLUMN_LENGTH * column..], s)
+}
+
+/// Whether s puts an attribute of the column in the output.
+#[inline]
+pub fn is_output(formula: &Formula, column: usize, s: u8) -> bool {
+    bit(&formula[COLUMN_LENGTH * column + OUTPUT_START..], s)
 }
 
 #[inline]
 pub fn read_column(work: &[u8], node: u8, column: usize) -> Column {
-    let (allowed, output) = stored_column(work, node.into(), column);
+    let start = FORMULA_LENGTH * usize::from(node) + COLUMN_LENGTH * column;
+    let bytes = &work[start..start + COLUMN_LENGTH];
     Column {
-        allowed: read_bits(allowed),
-        output: read_bits(output),
+        allowed: read_bits(&bytes[..OUTPUT_START]),
+        output: read_bits(&bytes[OUTPUT_START..]),
     }
 }
 
 /// Whether bit s of the bytes stands.
 #[inline]
-pub fn bit(bytes: &[u8], s: u8) -> bool {
+fn bit(bytes: &[u8], s: u8) -> bool {
     bytes[usize::from(s / 8)] >> (s % 8) & 1 == 1
 }
 

@@ -18,11 +18,11 @@ pub use recover::recover;
 pub use typing::typing;
 
 use type_formula_tests::reference::{
-    Verdict, COLUMNS, FORMULA_LENGTH, NODE_NOT_BELOW_COUNT, RESULT_SLICE_TOO_SHORT, SCHEMA_LENGTH,
-    STANDING_BIT_NO_TYPE_VARIABLE, SUBSET_NOT_ALLOWED, WORK_SPACE_TOO_SHORT,
+    Formula, Verdict, COLUMNS, FORMULA_LENGTH, NODE_NOT_BELOW_COUNT, RESULT_SLICE_TOO_SHORT,
+    SCHEMA_LENGTH, STANDING_BIT_NO_TYPE_VARIABLE, SUBSET_NOT_ALLOWED, WORK_SPACE_TOO_SHORT,
 };
 
-use self::columns::{bit, lowest, read_column, stored_column, write_formula, Bits};
+use self::columns::{is_allowed, lowest, read_column, write_formula, Bits};
 use self::reader::{accept, refuse_if, File};
 
 #[inline(always)]
@@ -41,18 +41,17 @@ fn check_result(result: &[u8], least: usize) -> Result<(), u8> {
     refuse_if(result.len() < least, RESULT_SLICE_TOO_SHORT)
 }
 
-/// Tests by the stored formula of the node that each standing bit is a type variable and
-/// that the subset of each special attribute is allowed.
+/// Tests by a stored formula that each standing bit is a type variable and that the subset
+/// of each special attribute is allowed.
 #[inline(always)]
-fn check_subsets(work: &[u8], node: usize, map: &Bits, subsets: &[u8; 16]) -> Result<(), u8> {
-    let mut variables = read_column(work, node as u8, 0).allowed;
+fn check_subsets(formula: &Formula, map: &Bits, subsets: &[u8; 16]) -> Result<(), u8> {
+    let mut variables = read_column(formula, 0, 0).allowed;
     variables[0] &= !1;
     let others = (0..4).fold(0, |others, i| others | map[i] & !variables[i]);
     refuse_if(others != 0, STANDING_BIT_NO_TYPE_VARIABLE)?;
-    let mut are_allowed = true;
-    for (column, &s) in subsets.iter().enumerate().skip(1) {
-        are_allowed &= bit(stored_column(work, node, column).0, s);
-    }
+    let are_allowed = (1..COLUMNS).fold(true, |all, column| {
+        all & is_allowed(formula, column, subsets[column])
+    });
     refuse_if(!are_allowed, SUBSET_NOT_ALLOWED)
 }
 

@@ -2,7 +2,7 @@
 
 use type_formula_tests::reference::{Recover, INSTANTIATION_LENGTH};
 
-use super::columns::read_bits;
+use super::columns::{read_bits, stored};
 use super::instantiation::{subsets_of, write_instantiation, Lists};
 use super::reader::accept;
 use super::schema::{read_schema, Entries};
@@ -25,7 +25,7 @@ fn length(
     let schema = read_schema(file.relations, schema, [&mut first, &mut second])?;
     fill(file, work);
     let (subsets, mut lists) = (subsets_of(&schema.maps), Lists::of(schema.entries));
-    if check_subsets(work, node, &read_bits(&lists.map), &subsets).is_err() {
+    if check_subsets(stored(work, node), &read_bits(&lists.map), &subsets).is_err() {
         return Ok(None);
     }
     let length = write_instantiation(&schema, &subsets, &mut lists, out);
