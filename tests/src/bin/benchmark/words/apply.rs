@@ -2,10 +2,11 @@
 
 use type_formula_tests::reference::{Apply, Formula, COLUMNS, OUTPUT_LENGTH, SCHEMA_LENGTH};
 
+use super::buffer::room;
 use super::columns::{is_output, stored};
 use super::instantiation::{maps_of, read_instantiation, Instantiation};
 use super::reader::accept;
-use super::schema::{write_record, Entries};
+use super::schema::write_record;
 use super::sets::{relation_sets, set_of, words_for};
 use super::{check_node, check_result, check_subsets, check_work_space, fill};
 
@@ -23,9 +24,11 @@ fn write_image<const WORDS: usize>(relations: u8, of: &Instantiation, out: &mut 
 /// The special attributes that have their output bit in the stored formula.
 #[inline(always)]
 fn output_map(formula: &Formula, subsets: &[u8; 16]) -> u16 {
-    (1..COLUMNS).fold(0, |map, column| {
-        map | u16::from(is_output(formula, column, subsets[column])) << column
-    })
+    let mut map = 0;
+    for (column, &s) in (1..COLUMNS).zip(&subsets[1..]) {
+        map |= u16::from(is_output(formula, column, s)) << column;
+    }
+    map
 }
 
 /// Writes schema and output record and gives their lengths. A type takes so many words.
@@ -56,7 +59,7 @@ fn lengths(
     check_work_space(&file, work)?;
     check_result(results[0], SCHEMA_LENGTH)?;
     check_result(results[1], OUTPUT_LENGTH)?;
-    let (mut first, mut second) = (Entries::new(), Entries::new());
+    let (mut first, mut second) = (room(), room());
     let read = read_instantiation(instantiation, [&mut first, &mut second])?;
     fill(file, work);
     let (relations, formula) = (file.relations, stored(work, node));

@@ -39,7 +39,7 @@ pub fn read_bits(bytes: &[u8]) -> Bits {
 }
 
 #[inline]
-fn write_bits(bytes: &mut [u8], bits: &Bits) {
+pub fn write_bits(bytes: &mut [u8], bits: &Bits) {
     for (bytes, word) in bytes.chunks_exact_mut(8).zip(bits) {
         bytes.copy_from_slice(&word.to_le_bytes());
     }

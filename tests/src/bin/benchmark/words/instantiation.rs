@@ -4,10 +4,11 @@ use type_formula_tests::reference::{
     ATTRIBUTE_IN_TWO_LISTS, LISTS_START, TOO_MANY_ORDINARY_ATTRIBUTES,
 };
 
-use super::columns::{read_bits, Bits};
+use super::buffer::Buffer;
+use super::columns::{read_bits, write_bits, Bits};
 use super::lists::{attribute, List, Reader, MOST_ORDINARY};
 use super::reader::refuse_if;
-use super::schema::{Entries, Schema};
+use super::schema::{EntryRoom, Schema};
 use super::sets::transpose;
 use super::sort::sort;
 
@@ -68,35 +69,34 @@ fn has_equal_neighbours(entries: &[u32]) -> bool {
 #[inline(always)]
 pub fn read_instantiation<'a>(
     bytes: &[u8],
-    [entries, other]: [&'a mut Entries; 2],
+    [first, second]: [&'a mut EntryRoom; 2],
 ) -> Result<Instantiation<'a>, u8> {
     let mut reader = Reader::new(bytes);
     let mut subsets = [0; 16];
     subsets[1..].copy_from_slice(reader.take::<15>()?);
     let map = read_bits(reader.take::<32>()?);
-    let (mut append, mut count) = (entries.append(), 0);
+    let (mut entries, mut count) = (Buffer::new(first), 0);
     each_list(&map, &mut reader, |s, list| {
         count += list.len();
         match list {
             _ if count > MOST_ORDINARY => {}
-            [new] => append.push(attribute(new) << 8 | s),
+            [new] => entries.push(attribute(new) << 8 | s),
             _ => list
                 .iter()
-                .for_each(|new| append.push(attribute(new) << 8 | s)),
+                .for_each(|new| entries.push(attribute(new) << 8 | s)),
         }
         Ok(())
     })?;
-    drop(append);
     reader.end()?;
     if count > MOST_ORDINARY {
         return Err(refusal_of_many(&map, &bytes[LISTS_START..]));
     }
-    sort(entries, other);
-    refuse_if(has_equal_neighbours(entries), ATTRIBUTE_IN_TWO_LISTS)?;
+    sort(&mut entries, &mut Buffer::new(second));
+    refuse_if(has_equal_neighbours(&entries), ATTRIBUTE_IN_TWO_LISTS)?;
     Ok(Instantiation {
         subsets,
         map,
-        entries,
+        entries: entries.into_slice(),
     })
 }
 
@@ -115,31 +115,39 @@ pub fn maps_of(subsets: &[u8; 16]) -> [u16; 8] {
 /// The subset of each special attribute, from the special attributes of each relation.
 #[inline(always)]
 pub fn subsets_of(maps: &[u16; 8]) -> [u8; 16] {
-    let half = |byte: usize| {
-        let bytes = maps.map(|map| map.to_le_bytes()[byte]);
-        transpose(u64::from_le_bytes(bytes))
-    };
-    (u128::from(half(0)) | u128::from(half(1)) << 64).to_le_bytes()
+    let (mut low, mut high) = (0, 0);
+    for (relation, &map) in maps.iter().enumerate() {
+        low |= u64::from(map & 0xff) << (8 * relation);
+        high |= u64::from(map >> 8) << (8 * relation);
+    }
+    (u128::from(transpose(low)) | u128::from(transpose(high)) << 64).to_le_bytes()
 }
 
 /// The lists of an instantiation, before they are written.
 pub struct Lists {
     /// Bit s stands if there is a list of s.
-    pub map: [u8; 32],
+    pub map: Bits,
     /// How many attributes the list of each s has.
     counts: [u16; 256],
 }
 
 impl Lists {
     #[inline(always)]
-    pub fn of(entries: &[u32]) -> Self {
-        let (mut map, mut counts) = ([0; 32], [0; 256]);
+    pub fn new() -> Self {
+        Lists {
+            map: [0; 4],
+            counts: [0; 256],
+        }
+    }
+
+    /// Counts the entries, each in its list.
+    #[inline(always)]
+    pub fn count(&mut self, entries: &[u32]) {
         for &entry in entries {
             let s = entry as u8;
-            map[usize::from(s / 8)] |= 1 << (s % 8);
-            counts[usize::from(s)] += 1;
+            self.map[usize::from(s / 64)] |= 1 << (s % 64);
+            self.counts[usize::from(s)] += 1;
         }
-        Lists { map, counts }
     }
 
     /// Writes the count bytes, each where its list begins, and then the attributes of the
@@ -149,7 +157,7 @@ impl Lists {
     fn write(&mut self, entries: &[u32], out: &mut [u8]) -> usize {
         let places = &mut self.counts;
         let mut end = LISTS_START;
-        for (number, &word) in read_bits(&self.map).iter().enumerate() {
+        for (number, &word) in self.map.iter().enumerate() {
             let mut rest = word;
             while rest != 0 {
                 let place = &mut places[64 * number + rest.trailing_zeros() as usize];
@@ -180,6 +188,6 @@ pub fn write_instantiation(
     out: &mut [u8],
 ) -> usize {
     out[..15].copy_from_slice(&subsets[1..]);
-    out[15..LISTS_START].copy_from_slice(&lists.map);
+    write_bits(&mut out[15..LISTS_START], &lists.map);
     lists.write(schema.entries, out)
 }

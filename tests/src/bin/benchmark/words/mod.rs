@@ -49,9 +49,10 @@ fn check_subsets(formula: &Formula, map: &Bits, subsets: &[u8; 16]) -> Result<()
     variables[0] &= !1;
     let others = (0..4).fold(0, |others, i| others | map[i] & !variables[i]);
     refuse_if(others != 0, STANDING_BIT_NO_TYPE_VARIABLE)?;
-    let are_allowed = (1..COLUMNS).fold(true, |all, column| {
-        all & is_allowed(formula, column, subsets[column])
-    });
+    let mut are_allowed = true;
+    for (column, &s) in (1..COLUMNS).zip(&subsets[1..]) {
+        are_allowed &= is_allowed(formula, column, s);
+    }
     refuse_if(!are_allowed, SUBSET_NOT_ALLOWED)
 }
 

@@ -2,10 +2,11 @@
 
 use type_formula_tests::reference::{Recover, INSTANTIATION_LENGTH};
 
-use super::columns::{read_bits, stored};
+use super::buffer::room;
+use super::columns::stored;
 use super::instantiation::{subsets_of, write_instantiation, Lists};
 use super::reader::accept;
-use super::schema::{read_schema, Entries};
+use super::schema::read_schema;
 use super::{check_node, check_result, check_subsets, check_work_space, fill};
 
 /// The length of the instantiation, none if the node has no type, or the first refusal.
@@ -21,11 +22,13 @@ fn length(
     check_node(&file, node)?;
     check_work_space(&file, work)?;
     check_result(out, INSTANTIATION_LENGTH)?;
-    let (mut first, mut second) = (Entries::new(), Entries::new());
+    let (mut first, mut second) = (room(), room());
     let schema = read_schema(file.relations, schema, [&mut first, &mut second])?;
     fill(file, work);
-    let (subsets, mut lists) = (subsets_of(&schema.maps), Lists::of(schema.entries));
-    if check_subsets(stored(work, node), &read_bits(&lists.map), &subsets).is_err() {
+    let subsets = subsets_of(&schema.maps);
+    let mut lists = Lists::new();
+    lists.count(schema.entries);
+    if check_subsets(stored(work, node), &lists.map, &subsets).is_err() {
         return Ok(None);
     }
     let length = write_instantiation(&schema, &subsets, &mut lists, out);

@@ -1,18 +1,20 @@
 //! Schemas and type records: reading a schema into a table, and writing a record.
 
-use std::mem::swap;
+use std::mem::{replace, take};
 
 use type_formula_tests::reference::TOO_MANY_ORDINARY_ATTRIBUTES;
 
-use super::buffer::Buffer;
+use super::buffer::{Buffer, Room};
 use super::lists::{attribute, List, Reader, MOST_ORDINARY};
 use super::reader::refuse_if;
 use super::sets::{each_entry, Set};
 
 /// Entries of a table, rising: each is an ordinary attribute shifted left by eight, with the
-/// subset of the relations that hold it in the lowest eight bits. There is room for the most
-/// entries and one list more.
-pub type Entries = Buffer<u32, { 2 * MOST_ORDINARY }>;
+/// subset of the relations that hold it in the lowest eight bits.
+pub type Entries<'a> = Buffer<'a, u32>;
+
+/// Room for the most entries and one list more.
+pub type EntryRoom = Room<u32, { 2 * MOST_ORDINARY }>;
 
 /// A schema as a table.
 pub struct Schema<'a> {
@@ -43,42 +45,42 @@ fn mark(table: &mut [u32], list: List, relation: u32) -> (usize, usize) {
 
 /// Merges the entries of a table with a list of a relation and adds them to others.
 #[inline(always)]
-fn merge(table: &[u32], list: List, relation: u32, merged: &mut Entries) {
+fn merge<'a>(table: &[u32], list: List, relation: u32, mut merged: Entries<'a>) -> Entries<'a> {
     let (mut place, mut taken) = (0, 0);
-    let mut append = merged.append();
     while place < table.len() && taken < list.len() {
         let (old, new) = (table[place], attribute(&list[taken]));
         if old >> 8 < new {
-            append.push(old);
+            merged.push(old);
             place += 1;
         } else if old >> 8 == new {
-            append.push(old | relation);
+            merged.push(old | relation);
             place += 1;
             taken += 1;
         } else {
-            append.push(new << 8 | relation);
+            merged.push(new << 8 | relation);
             taken += 1;
         }
     }
-    drop(append);
     merged.extend(&table[place..]);
     let rest = list[taken..].iter();
     merged.extend_with(rest.map(|new| attribute(new) << 8 | relation));
+    merged
 }
 
 /// Adds the list of a relation to the table: in place as long as the table has its
-/// attributes, and from there on by merging into the other buffer. Gives whether the other
-/// buffer is the table now. It is a function of its own for the sake of the registers.
+/// attributes, and from there on by merging into the buffer that is free, which then is the
+/// table. It is a function of its own for the sake of the registers.
 #[inline(never)]
-fn add_list(table: &mut Entries, list: List, relation: u32, merged: &mut Entries) -> bool {
+fn add_list<'a>(table: &mut Entries<'a>, list: List, relation: u32, free: &mut Entries<'a>) {
     let (place, marked) = mark(table, list, relation);
     if marked == list.len() {
-        return false;
+        return;
     }
+    let mut merged = take(free);
     merged.clear();
     merged.extend(&table[..place]);
-    merge(&table[place..], &list[marked..], relation, merged);
-    true
+    let merged = merge(&table[place..], &list[marked..], relation, merged);
+    *free = replace(table, merged);
 }
 
 /// Reads a schema with all tests of its bytes. Relation by relation the list is merged with
@@ -87,18 +89,17 @@ fn add_list(table: &mut Entries, list: List, relation: u32, merged: &mut Entries
 pub fn read_schema<'a>(
     relations: u8,
     bytes: &[u8],
-    [first, second]: [&'a mut Entries; 2],
+    [first, second]: [&'a mut EntryRoom; 2],
 ) -> Result<Schema<'a>, u8> {
-    let (mut table, mut merged) = (first, second);
+    let [mut table, mut free] = [Buffer::new(first), Buffer::new(second)];
     let (mut reader, mut maps) = (Reader::new(bytes), [0; 8]);
     for relation in 0..usize::from(relations) {
         let map = u16::from_le_bytes(*reader.take()?);
         maps[relation & 7] = map & !1;
         if map & 1 == 1 {
             let list = reader.list()?;
-            let has_room = table.len() <= MOST_ORDINARY;
-            if has_room && add_list(table, list, 1 << relation, merged) {
-                swap(&mut table, &mut merged);
+            if table.len() <= MOST_ORDINARY {
+                add_list(&mut table, list, 1 << relation, &mut free);
             }
         }
     }
@@ -106,7 +107,7 @@ pub fn read_schema<'a>(
     refuse_if(table.len() > MOST_ORDINARY, TOO_MANY_ORDINARY_ATTRIBUTES)?;
     Ok(Schema {
         maps,
-        entries: table,
+        entries: table.into_slice(),
     })
 }
 

@@ -2,16 +2,16 @@
 
 use type_formula_tests::reference::{Node, Typing, OUTPUT_LENGTH};
 
-use super::buffer::{Append, Buffer};
+use super::buffer::{room, Buffer, Room};
 use super::reader::accept_with;
-use super::schema::{read_schema, write_record, Entries, Schema};
+use super::schema::{read_schema, write_record, Schema};
 use super::sets::{are_disjoint, are_equal, relation_sets, union, words_for, Set};
 use super::{check_node, check_result};
 
 /// The types of the nodes so far.
 struct Types<'a, const WORDS: usize> {
     /// The type of each node; of no meaning where it has none.
-    sets: Append<'a, Set<WORDS>, 64>,
+    sets: Buffer<'a, Set<WORDS>>,
     /// Bit i stands if node i has a type.
     typed: u64,
 }
@@ -93,9 +93,9 @@ fn with_special<const WORDS: usize>(set: &Set<WORDS>, first: u64) -> Set<WORDS> 
 /// The type of the last of the nodes, if it has one.
 #[inline(always)]
 fn type_of<const WORDS: usize>(nodes: &[Node], relations: &[Set<WORDS>; 8]) -> Option<Set<WORDS>> {
-    let mut buffer = Buffer::new();
+    let mut room: Room<_, 64> = room();
     let mut types = Types {
-        sets: buffer.append(),
+        sets: Buffer::new(&mut room),
         typed: 0,
     };
     for (number, &node) in nodes.iter().enumerate() {
@@ -118,12 +118,12 @@ fn typed<const WORDS: usize>(nodes: &[Node], schema: &Schema, out: &mut [u8]) ->
 /// The length of the output record, none if the node has no type, or the first refusal.
 #[inline(always)]
 fn output(bytes: &[u8], node: usize, schema: &[u8], out: &mut [u8]) -> Result<Option<usize>, u8> {
-    let mut buffer: Buffer<Node, 64> = Buffer::new();
-    let mut nodes = buffer.append();
+    let mut node_room: Room<Node, 64> = room();
+    let mut nodes = Buffer::new(&mut node_room);
     let file = accept_with(bytes, |node| nodes.push(node))?;
     check_node(&file, node)?;
     check_result(out, OUTPUT_LENGTH)?;
-    let (mut first, mut second) = (Entries::new(), Entries::new());
+    let (mut first, mut second) = (room(), room());
     let schema = read_schema(file.relations, schema, [&mut first, &mut second])?;
     let nodes = &nodes[..=node];
     Ok(match words_for(schema.entries.len()) {
