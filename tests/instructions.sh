@@ -1,6 +1,8 @@
 #!/bin/sh
 # Prints the instructions of one call of each operation and its alternatives as a markdown
-# table, and those of the engine as nodes double. Each is counted by callgrind for two numbers
+# table, and those of the engine and of the hand-written code as nodes double. Sizes are those
+# of the benchmark: a number of nodes, or 64 nodes with 255 ordinary attributes in three lists
+# (64x255) or with one in each list (64x255each). Each is counted by callgrind for two numbers
 # of calls; the difference divided by that of the calls leaves out what comes before them. A
 # copy by one repeated instruction counts as an instruction for each byte.
 set -eu
@@ -11,35 +13,51 @@ program=${CARGO_TARGET_DIR:-target}/release/benchmark
 
 # The instructions of a run, given operation, size, number of calls and implementation.
 instructions() {
-    valgrind --tool=callgrind --callgrind-out-file=/dev/null "$program" once "$1" "$2" "$3" "$4" 2>&1 |
-        awk '/Collected/ { print $NF }'
+    valgrind --tool=callgrind --callgrind-out-file=/dev/null \
+        "$program" once "$1" "$2" "$3" "$4" 2>&1 | awk '/Collected/ { print $NF }'
 }
 
 # The instructions of one call, or - where there is no such call.
 per_call() {
     "$program" once "$1" "$2" 1 "$3" 2>/dev/null || { echo -; return; }
-    echo $((($(instructions "$1" "$2" $many "$3") - $(instructions "$1" "$2" $few "$3")) / (many - few)))
+    of_many=$(instructions "$1" "$2" $many "$3") of_few=$(instructions "$1" "$2" $few "$3")
+    echo $(((of_many - of_few) / (many - few)))
 }
 
-echo "| Operation | n | engine | other implementation | 64-bit loop | copy | copy by a 64-bit loop |"
+# The sizes at which an operation is counted.
+sizes() {
+    case $1 in
+        formula | verdict) echo 7 64 ;;
+        *) echo 7 64 64x255 64x255each ;;
+    esac
+}
+
+echo "| Operation | size | engine | other implementation | hand-written | copy |" \
+    "copy by a 64-bit loop |"
 echo "|---|---|---|---|---|---|---|"
 for operation in formula verdict typing apply recover; do
-    for size in 7 64; do
+    for size in $(sizes $operation); do
         row="| $operation | $size |"
         for by in engine reference words copy copyloop; do
-            row="$row $(per_call $operation $size $by) |"
+            row="$row $(per_call $operation "$size" $by) |"
         done
         echo "$row"
     done
 done
 
 echo
-echo "| n | formula | verdict | typing | apply | recover |"
-echo "|---|---|---|---|---|---|"
+head="| n |" line="|---|"
+for operation in formula verdict typing apply recover; do
+    head="$head $operation, engine | $operation, hand-written |" line="$line---|---|"
+done
+echo "$head"
+echo "$line"
 for size in 8 16 32 64; do
     row="| $size |"
     for operation in formula verdict typing apply recover; do
-        row="$row $(per_call $operation $size engine) |"
+        for by in engine words; do
+            row="$row $(per_call $operation $size $by) |"
+        done
     done
     echo "$row"
 done

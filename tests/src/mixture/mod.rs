@@ -32,7 +32,7 @@ pub fn operation_of(number: u64) -> Operation {
 }
 
 /// Lengths of slices: three times in four enough, else near the least.
-fn lengths<const COUNT: usize>(random: &mut Random, least: [usize; COUNT]) -> [usize; COUNT] {
+pub fn lengths<const COUNT: usize>(random: &mut Random, least: [usize; COUNT]) -> [usize; COUNT] {
     match random.below(4) {
         0 => least.map(|least| random.near(least)),
         _ => least.map(|least| random.enough(least)),
@@ -122,7 +122,7 @@ impl Mixture {
     }
 
     /// A file with one of its nodes and a schema that is often near a typed one.
-    fn with_schema(&mut self, random: &mut Random) -> (Rc<Input>, usize, Vec<u8>) {
+    pub fn with_schema(&mut self, random: &mut Random) -> (Rc<Input>, usize, Vec<u8>) {
         let input = self.files.likely_input(random);
         self.count_greatest(&input);
         let likely = files::likely_node(random, &input);
@@ -137,12 +137,19 @@ impl Mixture {
         number(self.comparison.typing(&input.bytes, node, &schema, length))
     }
 
-    fn apply(&mut self, random: &mut Random) -> Result<u8, Difference> {
+    /// A file with one of its nodes and an instantiation that is often near one of the
+    /// node's formula.
+    pub fn with_instantiation(&mut self, random: &mut Random) -> (Rc<Input>, usize, Vec<u8>) {
         let input = self.files.likely_input(random);
         self.count_greatest(&input);
         let likely = files::likely_node(random, &input);
-        let bytes = instantiations::instantiation(random, &input, likely);
+        let instantiation = instantiations::instantiation(random, &input, likely);
         let node = asked_node(random, &input, likely);
+        (input, node, instantiation)
+    }
+
+    fn apply(&mut self, random: &mut Random) -> Result<u8, Difference> {
+        let (input, node, bytes) = self.with_instantiation(random);
         let lengths = lengths(random, least_for_apply(&input));
         number(self.comparison.apply(&input, node, &bytes, lengths))
     }

@@ -27,8 +27,8 @@ pub const OPERATIONS: [Operation; 5] = [
     Operation::Recover,
 ];
 
-/// What makes a call: an implementation, or a copy of the bytes that it writes, by the C
-/// library or by a loop over 64-bit words.
+/// What makes a call: the engine, the reference, the code written by hand for speed, or a
+/// copy of the bytes that they write, by the C library or by a loop over 64-bit words.
 #[derive(Clone, Copy, Debug, PartialEq, Eq)]
 pub enum By {
     Engine,
@@ -77,9 +77,13 @@ fn typing_by_engine(of: &Setting, slices: Parts) -> [usize; 3] {
     [answer.into(), value, 0]
 }
 
-fn typing(of: &Setting, slices: Parts) -> [usize; 3] {
+fn typing(
+    by: impl Fn(&[u8], usize, &[u8], &mut [u8]) -> Typing,
+    of: &Setting,
+    slices: Parts,
+) -> [usize; 3] {
     let (file, schema) = (black_box(&of.file), black_box(&of.schema));
-    let typing = reference::typing(file, of.last, schema, slices.out);
+    let typing = by(file, of.last, schema, slices.out);
     let length = match typing {
         Typing::Typed { length } => length,
         _ => 0,
@@ -105,12 +109,16 @@ fn apply_by_engine(of: &Setting, slices: Parts) -> [usize; 3] {
     [answer.into(), lengths.schema, lengths.output]
 }
 
-fn apply(of: &Setting, slices: Parts) -> [usize; 3] {
+fn apply(
+    by: impl Fn(&[u8], usize, &[u8], &mut [u8], &mut [u8], &mut [u8]) -> Apply,
+    of: &Setting,
+    slices: Parts,
+) -> [usize; 3] {
     let (file, instantiation) = (black_box(&of.file), black_box(&of.instantiation));
     let Parts {
         work, schema, out, ..
     } = slices;
-    let apply = reference::apply(file, of.last, instantiation, work, schema, out);
+    let apply = by(file, of.last, instantiation, work, schema, out);
     let (schema, output) = match apply {
         Apply::Applied { schema, output } => (schema, output),
         Apply::Refused { .. } => (0, 0),
@@ -125,10 +133,14 @@ fn recover_by_engine(of: &Setting, slices: Parts) -> [usize; 3] {
     [answer.into(), value, 0]
 }
 
-fn recover(of: &Setting, slices: Parts) -> [usize; 3] {
+fn recover(
+    by: impl Fn(&[u8], usize, &[u8], &mut [u8], &mut [u8]) -> Recover,
+    of: &Setting,
+    slices: Parts,
+) -> [usize; 3] {
     let (file, schema) = (black_box(&of.file), black_box(&of.schema));
     let (work, result) = (slices.work, slices.instantiation);
-    let recover = reference::recover(file, of.last, schema, work, result);
+    let recover = by(file, of.last, schema, work, result);
     let length = match recover {
         Recover::Recovered { length } => length,
         _ => 0,
@@ -136,7 +148,7 @@ fn recover(of: &Setting, slices: Parts) -> [usize; 3] {
     [recover.number().into(), length, 0]
 }
 
-/// The call by an implementation, if it has the operation.
+/// The call by an implementation; none for a copy.
 fn one_call(operation: Operation, by: By) -> Option<OneCall> {
     let call: OneCall = match (operation, by) {
         (Operation::Formula, By::Engine) => |of, slices| formula(engine::formula, of, slices),
@@ -146,11 +158,14 @@ fn one_call(operation: Operation, by: By) -> Option<OneCall> {
         (Operation::Verdict, By::Reference) => |of, slices| verdict(reference::verdict, of, slices),
         (Operation::Verdict, By::Words) => |of, slices| verdict(words::verdict, of, slices),
         (Operation::Typing, By::Engine) => typing_by_engine,
-        (Operation::Typing, By::Reference) => typing,
+        (Operation::Typing, By::Reference) => |of, slices| typing(reference::typing, of, slices),
+        (Operation::Typing, By::Words) => |of, slices| typing(words::typing, of, slices),
         (Operation::Apply, By::Engine) => apply_by_engine,
-        (Operation::Apply, By::Reference) => apply,
+        (Operation::Apply, By::Reference) => |of, slices| apply(reference::apply, of, slices),
+        (Operation::Apply, By::Words) => |of, slices| apply(words::apply, of, slices),
         (Operation::Recover, By::Engine) => recover_by_engine,
-        (Operation::Recover, By::Reference) => recover,
+        (Operation::Recover, By::Reference) => |of, slices| recover(reference::recover, of, slices),
+        (Operation::Recover, By::Words) => |of, slices| recover(words::recover, of, slices),
         _ => return None,
     };
     Some(call)
@@ -216,7 +231,7 @@ pub fn check(operation: Operation, setting: &Setting) {
     let wanted = after(By::Reference).expect("has every operation");
     assert_eq!(wanted.0[0], 0, "{operation:?}, {}", setting.name);
     for by in [By::Engine, By::Words] {
-        let is_same = after(by).is_none_or(|given| given == wanted);
+        let is_same = after(by).is_some_and(|given| given == wanted);
         assert!(is_same, "{operation:?} by {by:?}, {}", setting.name);
     }
 }

@@ -1,16 +1,18 @@
 //! One operation, called a number of times.
 
 use crate::calls::{call, By, Operation, ALL, OPERATIONS};
-use crate::settings::{e1_with_10_columns, of_nodes, Setting};
+use crate::settings::{e1_with_10_columns, of_attributes, of_nodes, Lists, Setting};
 use crate::slices::Slices;
 
-/// The setting with so many nodes.
+/// The setting with so many nodes, or with 64 nodes and 255 ordinary attributes.
 fn setting(size: &str) -> Option<Setting> {
-    match size.parse().ok()? {
-        7 => Some(e1_with_10_columns()),
-        count @ (8 | 16 | 32 | 64) => Some(of_nodes(count)),
-        _ => None,
-    }
+    Some(match size {
+        "7" => e1_with_10_columns(),
+        "8" | "16" | "32" | "64" => of_nodes(size.parse().ok()?),
+        "64x255" => of_attributes(64, 255, Lists::Three),
+        "64x255each" => of_attributes(64, 255, Lists::OneInEach),
+        _ => return None,
+    })
 }
 
 /// Calls the operation `count` times; nothing if an argument is not understood or there is

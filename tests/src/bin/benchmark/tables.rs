@@ -1,14 +1,11 @@
 //! The tables.
 
-use type_formula_tests::random::Random;
-use type_formula_tests::reference::{self, FORMULA_LENGTH};
-
 use crate::calls::{call, check, By, Call, Operation, ALL, OPERATIONS};
+use crate::checks::check_words;
 use crate::measure::{medians, BATCHES};
 use crate::settings::{
     e1_with_10_columns, of_attributes, of_nodes, random_of_64_nodes, Lists, Setting,
 };
-use crate::words;
 
 /// Prints a row of a markdown table.
 fn print_row(cells: &[String]) {
@@ -20,22 +17,6 @@ fn print_head(title: &str, cells: &[String]) {
     println!("\n{title}\n");
     print_row(cells);
     println!("|{}", "---|".repeat(cells.len()));
-}
-
-/// Asserts that the words give the bytes of the reference on random files.
-fn check_words() {
-    let mut random = Random::new(51);
-    let (mut work, mut wanted) = (vec![0; 64 * FORMULA_LENGTH], vec![0; 64 * FORMULA_LENGTH]);
-    for round in 0..500 {
-        let (relations, count) = (random.between(1, 8), random.between(1, 64));
-        let bytes = match round % 2 {
-            0 => random.accepted_file(relations, count),
-            _ => random.mild_file(relations, count),
-        };
-        let answer = words::formula(&bytes, &mut work);
-        assert_eq!(answer, reference::formula(&bytes, &mut wanted));
-        assert!(work == wanted, "words differ from the reference");
-    }
 }
 
 /// The cells of an operation: the engine's time, and each other time with the engine's
@@ -57,14 +38,15 @@ fn compared(operation: Operation, setting: &Setting) -> Vec<String> {
 
 /// The engine beside the alternatives.
 fn print_comparisons() {
-    let title = "Nanoseconds, and in brackets the engine's time divided by it. The loop \
-                 over 64-bit words has a reader of its own, without an allocation.";
+    let title = "Nanoseconds, and in brackets the engine's time divided by it. The hand-written \
+                 code works on 64-bit words and sorted arrays, with readers of its own and \
+                 without an allocation, and is compiled as the engine is.";
     let names = [
         "Operation",
         "Input",
         "engine",
         "other implementation",
-        "64-bit loop",
+        "hand-written",
         "copy",
         "copy by a 64-bit loop",
     ];
@@ -117,39 +99,47 @@ fn print_doubling(title: &str, (name, counts): (&str, &[u32]), columns: &[Column
     }
 }
 
-/// The engine, and a copy of the bytes that Formula writes, as nodes double.
+/// Two columns for each operation: the engine and the hand-written code.
+fn both<'a>(operations: &[Operation], settings: &'a [Setting]) -> Vec<Column<'a>> {
+    let mut columns: Vec<Column> = Vec::new();
+    for &operation in operations {
+        for (name, by) in [("engine", By::Engine), ("hand-written", By::Words)] {
+            columns.push((format!("{operation:?}, {name}"), (operation, by), settings));
+        }
+    }
+    columns
+}
+
+/// The engine and the hand-written code, and a copy of the bytes that Formula writes, as
+/// nodes double.
 fn print_nodes() {
     let counts = [8, 16, 32, 64];
     let settings = counts.map(|count| of_nodes(count as u8));
-    let column = |operation| {
-        let call = (operation, By::Engine);
-        (format!("{operation:?}"), call, &settings[..])
-    };
-    let mut columns = OPERATIONS.map(column).to_vec();
+    let mut columns = both(&OPERATIONS[..2], &settings);
     let copy = (Operation::Formula, By::Copy);
     columns.push(("copy of the formulas".into(), copy, &settings));
+    let title = "As nodes double, m 8: nanoseconds, and in brackets the ratio to the row before.";
+    print_doubling(title, ("n", &counts), &columns);
     let title = "As nodes double, m 8 and 15 ordinary attributes: nanoseconds, and in brackets \
                  the ratio to the row before.";
-    print_doubling(title, ("n", &counts), &columns);
+    print_doubling(title, ("n", &counts), &both(&OPERATIONS[2..], &settings));
 }
 
-/// The engine as attributes double, for so many nodes.
+/// The engine and the hand-written code as attributes double, for so many nodes.
 fn print_attributes(nodes: usize) {
     let counts = [15, 31, 63, 127, 255];
-    let settings = |lists| counts.map(|count| of_attributes(nodes, count, lists));
-    let (three, one_in_each) = (settings(Lists::Three), settings(Lists::OneInEach));
-    let mut columns: Vec<Column> = Vec::new();
-    for operation in &OPERATIONS[2..] {
-        let name = |lists| format!("{operation:?}, {lists}");
-        let call = (*operation, By::Engine);
-        columns.push((name("three lists"), call, &three));
-        columns.push((name("one attribute in each list"), call, &one_in_each));
+    for (name, lists) in [
+        ("three lists", Lists::Three),
+        ("one attribute in each list", Lists::OneInEach),
+    ] {
+        let settings = counts.map(|count| of_attributes(nodes, count, lists));
+        let title = format!(
+            "As ordinary attributes double, n {nodes}, m 8, {name}: nanoseconds, and in \
+             brackets the ratio to the row before."
+        );
+        let columns = both(&OPERATIONS[2..], &settings);
+        print_doubling(&title, ("Ordinary attributes", &counts), &columns);
     }
-    let title = format!(
-        "As ordinary attributes double, n {nodes} and m 8: nanoseconds, and in brackets the \
-         ratio to the row before."
-    );
-    print_doubling(&title, ("Ordinary attributes", &counts), &columns);
 }
 
 pub fn print_all() {

@@ -1,7 +1,9 @@
 //! Columns as 64-bit words, and the step of each case of nodes. All is inline, so that the
 //! compiler sees the loop as a whole.
 
-use type_formula_tests::reference::{Node, COLUMNS, COLUMN_LENGTH, FORMULA_LENGTH, OUTPUT_START};
+use type_formula_tests::reference::{
+    Formula, Node, COLUMNS, COLUMN_LENGTH, FORMULA_LENGTH, OUTPUT_START,
+};
 
 /// 256 bits, one for each subset.
 pub type Bits = [u64; 4];
@@ -26,8 +28,9 @@ fn column_of(word: impl Fn(usize) -> (u64, u64)) -> Column {
     column
 }
 
+/// The words of 32 bytes.
 #[inline]
-fn read_bits(bytes: &[u8]) -> Bits {
+pub fn read_bits(bytes: &[u8]) -> Bits {
     let mut bits = [0; 4];
     for (word, bytes) in bits.iter_mut().zip(bytes.chunks_exact(8)) {
         *word = u64::from_le_bytes(bytes.try_into().expect("eight bytes"));
@@ -36,10 +39,29 @@ fn read_bits(bytes: &[u8]) -> Bits {
 }
 
 #[inline]
-fn write_bits(bytes: &mut [u8], bits: &Bits) {
+pub fn write_bits(bytes: &mut [u8], bits: &Bits) {
     for (bytes, word) in bytes.chunks_exact_mut(8).zip(bits) {
         bytes.copy_from_slice(&word.to_le_bytes());
     }
+}
+
+/// The stored formula of a node.
+#[inline]
+pub fn stored(work: &[u8], node: usize) -> &Formula {
+    let start = FORMULA_LENGTH * node;
+    work[start..].first_chunk().expect("long enough")
+}
+
+/// Whether s is allowed in the column of a stored formula.
+#[inline]
+pub fn is_allowed(formula: &Formula, column: usize, s: u8) -> bool {
+    bit(&formula[COLUMN_LENGTH * column..], s)
+}
+
+/// Whether s puts an attribute of the column in the output.
+#[inline]
+pub fn is_output(formula: &Formula, column: usize, s: u8) -> bool {
+    bit(&formula[COLUMN_LENGTH * column + OUTPUT_START..], s)
 }
 
 #[inline]
@@ -50,6 +72,12 @@ pub fn read_column(work: &[u8], node: u8, column: usize) -> Column {
         allowed: read_bits(&bytes[..OUTPUT_START]),
         output: read_bits(&bytes[OUTPUT_START..]),
     }
+}
+
+/// Whether bit s of the bytes stands.
+#[inline]
+fn bit(bytes: &[u8], s: u8) -> bool {
+    bytes[usize::from(s / 8)] >> (s % 8) & 1 == 1
 }
 
 #[inline]

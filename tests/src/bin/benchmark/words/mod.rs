@@ -1,15 +1,60 @@
-//! Formula and Verdict by a loop over 64-bit words, by hand.
+//! Formula, Verdict, Typing, Apply and Recover written by hand for speed: without an
+//! allocation, on 64-bit words, compiled for every x86-64 machine.
 
+mod apply;
+mod buffer;
 mod columns;
+mod instantiation;
+mod lists;
 mod reader;
+mod recover;
+mod schema;
+mod sets;
+mod sort;
+mod typing;
+
+pub use apply::apply;
+pub use recover::recover;
+pub use typing::typing;
 
 use type_formula_tests::reference::{
-    Verdict, COLUMNS, FORMULA_LENGTH, NODE_NOT_BELOW_COUNT, RESULT_SLICE_TOO_SHORT, SCHEMA_LENGTH,
-    WORK_SPACE_TOO_SHORT,
+    Formula, Verdict, COLUMNS, FORMULA_LENGTH, NODE_NOT_BELOW_COUNT, RESULT_SLICE_TOO_SHORT,
+    SCHEMA_LENGTH, STANDING_BIT_NO_TYPE_VARIABLE, SUBSET_NOT_ALLOWED, WORK_SPACE_TOO_SHORT,
 };
 
-use self::columns::{lowest, read_column, write_formula};
-use self::reader::{accept, File};
+use self::columns::{is_allowed, lowest, read_column, write_formula, Bits};
+use self::reader::{accept, refuse_if, File};
+
+#[inline(always)]
+fn check_node(file: &File, node: usize) -> Result<(), u8> {
+    refuse_if(node >= usize::from(file.nodes), NODE_NOT_BELOW_COUNT)
+}
+
+#[inline(always)]
+fn check_work_space(file: &File, work: &[u8]) -> Result<(), u8> {
+    let is_short = work.len() < FORMULA_LENGTH * usize::from(file.nodes);
+    refuse_if(is_short, WORK_SPACE_TOO_SHORT)
+}
+
+#[inline(always)]
+fn check_result(result: &[u8], least: usize) -> Result<(), u8> {
+    refuse_if(result.len() < least, RESULT_SLICE_TOO_SHORT)
+}
+
+/// Tests by a stored formula that each standing bit is a type variable and that the subset
+/// of each special attribute is allowed.
+#[inline(always)]
+fn check_subsets(formula: &Formula, map: &Bits, subsets: &[u8; 16]) -> Result<(), u8> {
+    let mut variables = read_column(formula, 0, 0).allowed;
+    variables[0] &= !1;
+    let others = (0..4).fold(0, |others, i| others | map[i] & !variables[i]);
+    refuse_if(others != 0, STANDING_BIT_NO_TYPE_VARIABLE)?;
+    let mut are_allowed = true;
+    for (column, &s) in (1..COLUMNS).zip(&subsets[1..]) {
+        are_allowed &= is_allowed(formula, column, s);
+    }
+    refuse_if(!are_allowed, SUBSET_NOT_ALLOWED)
+}
 
 fn fill(file: File, work: &mut [u8]) {
     file.each_node(|number, node| {
@@ -24,8 +69,8 @@ pub fn formula(bytes: &[u8], work: &mut [u8]) -> u8 {
         Ok(file) => file,
         Err(refusal) => return refusal,
     };
-    if work.len() < FORMULA_LENGTH * usize::from(file.nodes) {
-        return WORK_SPACE_TOO_SHORT;
+    if let Err(refusal) = check_work_space(&file, work) {
+        return refusal;
     }
     fill(file, work);
     0
@@ -43,31 +88,26 @@ fn witness(work: &[u8], node: u8) -> Result<[u16; 8], u8> {
     }
     Ok(maps)
 }
-
-/// Verdict.
-pub fn verdict(bytes: &[u8], node: usize, work: &mut [u8], schema: &mut [u8]) -> Verdict {
-    let refused = |number| Verdict::Refused { number };
-    let file = match accept(bytes) {
-        Ok(file) => file,
-        Err(refusal) => return refused(refusal),
-    };
-    if node >= usize::from(file.nodes) {
-        return refused(NODE_NOT_BELOW_COUNT);
-    }
-    if work.len() < FORMULA_LENGTH * usize::from(file.nodes) {
-        return refused(WORK_SPACE_TOO_SHORT);
-    }
-    if schema.len() < SCHEMA_LENGTH {
-        return refused(RESULT_SLICE_TOO_SHORT);
-    }
+/// The verdict, or the first refusal.
+#[inline(always)]
+fn decide(bytes: &[u8], node: usize, work: &mut [u8], schema: &mut [u8]) -> Result<Verdict, u8> {
+    let file = accept(bytes)?;
+    check_node(&file, node)?;
+    check_work_space(&file, work)?;
+    check_result(schema, SCHEMA_LENGTH)?;
     fill(file, work);
     let maps = match witness(work, node as u8) {
         Ok(maps) => maps,
-        Err(attribute) => return Verdict::Untypable { attribute },
+        Err(attribute) => return Ok(Verdict::Untypable { attribute }),
     };
     let length = 2 * usize::from(file.relations);
     for (record, map) in schema[..length].chunks_exact_mut(2).zip(maps) {
         record.copy_from_slice(&map.to_le_bytes());
     }
-    Verdict::Typable { length }
+    Ok(Verdict::Typable { length })
+}
+
+/// Verdict.
+pub fn verdict(bytes: &[u8], node: usize, work: &mut [u8], schema: &mut [u8]) -> Verdict {
+    decide(bytes, node, work, schema).unwrap_or_else(|number| Verdict::Refused { number })
 }

@@ -25,7 +25,7 @@ fn fields<const N: usize>(bytes: &[u8]) -> Result<(&[u8; N], &[u8]), u8> {
 }
 
 #[inline(always)]
-fn refuse_if(test: bool, refusal: u8) -> Result<(), u8> {
+pub fn refuse_if(test: bool, refusal: u8) -> Result<(), u8> {
     if test {
         Err(refusal)
     } else {
@@ -105,6 +105,12 @@ fn read_node(relations: u8, number: u8, bytes: &[u8]) -> Result<(Node, &[u8]), u
 /// Accepts a file or gives its first refusal.
 #[inline(always)]
 pub fn accept(file: &[u8]) -> Result<File<'_>, u8> {
+    accept_with(file, |_| ())
+}
+
+/// Accepts a file or gives its first refusal; hands on each node as it is read.
+#[inline(always)]
+pub fn accept_with(file: &[u8], mut take: impl FnMut(Node)) -> Result<File<'_>, u8> {
     let (&[relations, nodes], bytes) = file.split_first_chunk().ok_or(FEWER_THAN_TWO_BYTES)?;
     refuse_if(
         relations == 0 || relations > 8,
@@ -113,7 +119,9 @@ pub fn accept(file: &[u8]) -> Result<File<'_>, u8> {
     refuse_if(nodes == 0 || nodes > 64, NODE_COUNT_OUTSIDE_RANGE)?;
     let mut rest = bytes;
     for number in 0..nodes {
-        rest = read_node(relations, number, rest)?.1;
+        let (node, after) = read_node(relations, number, rest)?;
+        take(node);
+        rest = after;
     }
     refuse_if(!rest.is_empty(), BYTES_AFTER_LAST_NODE)?;
     Ok(File {
