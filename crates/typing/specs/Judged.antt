@@ -19,7 +19,7 @@ use Rattle.algebra.specs.Cell.{plain, out, ok}
 use Rattle.algebra.specs.CellLaws.{cell-none}
 use Rattle.typing.specs.Output.{specialHolders, typedIn, outputMap}
 use Rattle.typing.specs.OutputLaws.{typed-special, typed-entry, all-typed}
-use Rattle.typing.specs.Sets.{widthOf, placeColumn, heldAt, okAt, outAt, TypeIn}
+use Rattle.type_sets.specs.Sets.{widthOf, placeColumn, heldAt, okAt, outAt, TypeIn}
 
 -- the bits of the entries in the words from a place on are those of e's output
 pub record OutputBits (e : Expression) (items : List ℕ) (count : ℕ) (sets : List ℕ) (at : ℕ) : Type 0 where

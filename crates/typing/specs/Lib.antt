@@ -1,10 +1,5 @@
 pub mod Output
 pub mod OutputLaws
-pub mod Sets
-pub mod SetLaws
-pub mod SetCells
-pub mod Columns
-pub mod Filling
 pub mod Judged
 pub mod Typing
 pub mod TypingLaws

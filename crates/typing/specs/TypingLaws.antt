@@ -22,8 +22,8 @@ use Rattle.schema.specs.Schema.{Schema, recordsRead, readRecords, entriesOf, ma
 use Rattle.schema.specs.TableLaws.{schema-read, read-schema, read-entries, read-table}
 use Rattle.schema.specs.declared.reading.Judgement.the-variants.{Read, Refused as SchemaRefused}
 use Rattle.schema.specs.declared.reading.SchemaReading.{SchemaReading}
-use Rattle.typing.specs.Sets.{widthOf, TypeIn, wordsAt}
-use Rattle.typing.specs.Filling.{Filled}
+use Rattle.type_sets.specs.Sets.{widthOf, TypeIn, wordsAt}
+use Rattle.type_sets.specs.Filling.{Filled}
 use Rattle.typing.specs.Output.{typedIn, outputMap, outputList}
 use Rattle.typing.specs.OutputLaws.{map-even}
 use Rattle.typing.specs.Judged.{OutputBits, typed-words, map-is, entry-output}

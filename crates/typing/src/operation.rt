@@ -8,8 +8,7 @@ ghost use Rattle.formula.specs.Expressions.{expressionAt};
 ghost use Rattle.membership.specs.Entries.{RoomFor};
 ghost use Rattle.schema.specs.Schema.{schemaReading, WritesFrom};
 ghost use Rattle.typing.specs.Typing.{tableAnswer, tableOut, schemaAnswer, schemaOut, typingAnswer, typingOut};
-ghost use Rattle.typing.specs.Sets.{widthOf};
-use crate::filling::fill_sets;
+ghost use Rattle.type_sets.specs.Sets.{widthOf};
 use crate::output::list_output;
 use expression::Acceptance;
 use expression::ask;
@@ -17,6 +16,7 @@ use refusal::Refusal;
 use schema::Judgement;
 use schema::read_schema;
 use type_record::write_record;
+use type_sets::fill_sets;
 
 // The length of the output record, or that the schema does not type the node, or the first refusal.
 pub enum Answer {

@@ -1,16 +1,10 @@
 use Rattle.application.specs.ApplyLaws.{filled-space, read-subsets, read-stopped, read-stops, read-goes}
 use Rattle.instantiation.specs.Instantiation.{instantiationReading}
 use Rattle.formula.specs.Expressions.{expressionAt}
-use mathlib.Core.Path.{sym, ap, _∙_}
 use native.Mathlib.Omega.{arith}
 use borrow.Author.Needs.{needs}
 use Rattle.application.proofs.applying.apply_bytes.Statement.{statement}
 use Rattle.application.proofs.applying.apply_bytes.Tie as tie
-use Rattle.application.proofs.applying.apply_bytes.Reads as reads
-use Rattle.application.proofs.applying.apply_bytes.Lts as lts
-use Rattle.application.proofs.applying.apply_table.Reads as apply-table-reads
-use Rattle.formula.proofs.fill.Reads as fill-reads
-use Rattle.instantiation.proofs.read_instantiation.Reads as read-instantiation-reads
 
 read-instantiation-requires : tie.Need-read-instantiation-requires
 read-instantiation-requires c κs = c .before .before .before .before .before .before .before .before .before .pre .1 .1 .0

@@ -2,9 +2,6 @@ use native.Mathlib.Omega.{arith}
 use borrow.Author.Needs.{needs}
 use Rattle.application.proofs.applying.apply_sized.Statement.{statement}
 use Rattle.application.proofs.applying.apply_sized.Tie as tie
-use Rattle.application.proofs.applying.apply_sized.Reads as reads
-use Rattle.application.proofs.applying.apply_sized.Lts as lts
-use Rattle.application.proofs.applying.apply_bytes.Reads as apply-bytes-reads
 
 slice-aggregate-apply-bytes : tie.Need-slice-aggregate-apply-bytes
 slice-aggregate-apply-bytes c = search needs

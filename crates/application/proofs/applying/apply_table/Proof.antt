@@ -3,25 +3,15 @@ use Rattle.membership.specs.HolderLaws.{listed-reaches, listed-fits}
 use Rattle.membership.specs.Entries.{subsetOf}
 use Rattle.formula.specs.Storage.{columnAt}
 use Rattle.column.specs.Column.{outputIn}
-use Rattle.formula.specs.Expressions.{expressionAt, expression-legal}
+use Rattle.formula.specs.Expressions.{expression-legal}
 use Rattle.expression.specs.Accepted.{accepted-file}
 use lib.Seq.{length-take-le}
-use lib.ListN.{length}
 use borrow.Author.Tests.{not-true, not-false}
 use native.Mathlib.Omega.{arith}
-use mathlib.Core.Path.{sym, ap, _∙_}
+use mathlib.Core.Path.{sym}
 use borrow.Author.Needs.{needs}
 use Rattle.application.proofs.applying.apply_table.Statement.{statement}
 use Rattle.application.proofs.applying.apply_table.Tie as tie
-use Rattle.application.proofs.applying.apply_table.Reads as reads
-use Rattle.application.proofs.applying.apply_table.Lts as lts
-use Rattle.application.proofs.fitting.entries_allowed.Reads as entries-allowed-reads
-use Rattle.application.proofs.fitting.list_output.Reads as list-output-reads
-use Rattle.application.proofs.fitting.output_map.Reads as output-map-reads
-use Rattle.application.proofs.fitting.specials_allowed.Reads as specials-allowed-reads
-use Rattle.schema.proofs.write_schema.Reads as write-schema-reads
-use Rattle.special_maps.proofs.maps_from.Reads as maps-from-reads
-use Rattle.type_record.proofs.write_record.Reads as write-record-reads
 
 entries-allowed-requires : tie.Need-entries-allowed-requires
 entries-allowed-requires c κs = (c .before .before .before .before .before .before .before .pre .1 .1 .1 .0 .fit .enough, c .before .before .before .before .before .before .before .pre .1 .1 .0 .fits)

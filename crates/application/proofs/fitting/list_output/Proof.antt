@@ -9,9 +9,6 @@ use Prim.Native.Nat.{_-_}
 use borrow.Author.Needs.{needs}
 use Rattle.application.proofs.fitting.list_output.Statement.{statement}
 use Rattle.application.proofs.fitting.list_output.Tie as tie
-use Rattle.application.proofs.fitting.list_output.Reads as reads
-use Rattle.application.proofs.fitting.list_output.Lts as lts
-use Rattle.application.proofs.fitting.output_digit.Reads as output-digit-reads
 
 abbrev Inv-loop : tie.InvT-loop
 Inv-loop work node items count list₀ k₀ i₀ list k i = Keeping (λ e. outputIn (columnAt work node 0) (subsetOf e)) (take count items) list₀ list k i

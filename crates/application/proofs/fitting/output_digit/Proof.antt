@@ -6,8 +6,6 @@ use mathlib.Core.Bool.{Bool, cond}
 use borrow.Author.Needs.{needs}
 use Rattle.application.proofs.fitting.output_digit.Statement.{statement}
 use Rattle.application.proofs.fitting.output_digit.Tie as tie
-use Rattle.application.proofs.fitting.output_digit.Reads as reads
-use Rattle.application.proofs.fitting.output_digit.Lts as lts
 
 mul-at : tie.Need-mul-at
 mul-at c = search needs

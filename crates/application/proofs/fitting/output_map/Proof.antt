@@ -3,14 +3,11 @@ use Rattle.formula.specs.Storage.{columnAt}
 use Rattle.column.specs.Column.{outputIn}
 use lib.ListN.{getD}
 use native.Mathlib.Omega.{arith}
-use mathlib.Core.Path.{_≡_, sym, ap, _∙_}
+use mathlib.Core.Path.{_≡_, sym, _∙_}
 use Prim.Native.Nat.{_-_, _≤_}
 use borrow.Author.Needs.{needs}
 use Rattle.application.proofs.fitting.output_map.Statement.{statement}
 use Rattle.application.proofs.fitting.output_map.Tie as tie
-use Rattle.application.proofs.fitting.output_map.Reads as reads
-use Rattle.application.proofs.fitting.output_map.Lts as lts
-use Rattle.application.proofs.fitting.output_digit.Reads as output-digit-reads
 
 abbrev Inv-loop : tie.InvT-loop
 Inv-loop work node subsets x₀ i₀ x i = (i ≤ 16) × (x ≡ mapFrom work node subsets i)

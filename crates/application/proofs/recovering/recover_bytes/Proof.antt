@@ -8,11 +8,6 @@ use native.Mathlib.Omega.{arith}
 use borrow.Author.Needs.{needs}
 use Rattle.application.proofs.recovering.recover_bytes.Statement.{statement}
 use Rattle.application.proofs.recovering.recover_bytes.Tie as tie
-use Rattle.application.proofs.recovering.recover_bytes.Reads as reads
-use Rattle.application.proofs.recovering.recover_bytes.Lts as lts
-use Rattle.application.proofs.recovering.recover_table.Reads as recover-table-reads
-use Rattle.formula.proofs.fill.Reads as fill-reads
-use Rattle.schema.proofs.read_schema.Reads as read-schema-reads
 
 read-schema-requires : tie.Need-read-schema-requires
 read-schema-requires c κs = ((accepted-file (c .before .before .before .before .before .before .before .before .args .file .now) (c .before .before .before .before .before .before .before .before .args .m) (c .before .before .before .before .before .before .before .before .args .n) (c .before .before .before .before .before .before .before .before .pre .0) .counts .relations .1), c .before .before .before .before .before .before .before .before .pre .1 .1 .0)

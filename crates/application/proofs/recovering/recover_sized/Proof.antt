@@ -2,9 +2,6 @@ use native.Mathlib.Omega.{arith}
 use borrow.Author.Needs.{needs}
 use Rattle.application.proofs.recovering.recover_sized.Statement.{statement}
 use Rattle.application.proofs.recovering.recover_sized.Tie as tie
-use Rattle.application.proofs.recovering.recover_sized.Reads as reads
-use Rattle.application.proofs.recovering.recover_sized.Lts as lts
-use Rattle.application.proofs.recovering.recover_bytes.Reads as recover-bytes-reads
 
 slice-aggregate-recover-bytes : tie.Need-slice-aggregate-recover-bytes
 slice-aggregate-recover-bytes c = search needs

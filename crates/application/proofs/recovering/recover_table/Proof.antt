@@ -1,17 +1,9 @@
 use Rattle.application.specs.RecoverLaws.{entry-untyped, special-untyped, table-recovered, recovered-from}
 use Rattle.special_maps.specs.SpecialLaws.{subsets-size}
 use borrow.Author.Tests.{not-true, not-false}
-use native.Mathlib.Omega.{arith}
-use mathlib.Core.Path.{sym, ap, _∙_}
 use borrow.Author.Needs.{needs}
 use Rattle.application.proofs.recovering.recover_table.Statement.{statement}
 use Rattle.application.proofs.recovering.recover_table.Tie as tie
-use Rattle.application.proofs.recovering.recover_table.Reads as reads
-use Rattle.application.proofs.recovering.recover_table.Lts as lts
-use Rattle.application.proofs.fitting.entries_allowed.Reads as entries-allowed-reads
-use Rattle.application.proofs.fitting.specials_allowed.Reads as specials-allowed-reads
-use Rattle.instantiation.proofs.write_instantiation.Reads as write-instantiation-reads
-use Rattle.special_maps.proofs.subsets_from.Reads as subsets-from-reads
 
 entries-allowed-requires : tie.Need-entries-allowed-requires
 entries-allowed-requires c κs = (c .before .before .before .before .before .before .pre .1 .0 .fit .enough, c .before .before .before .before .before .before .pre .0 .fits)

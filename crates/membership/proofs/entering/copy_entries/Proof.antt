@@ -1,13 +1,11 @@
 use Rattle.membership.specs.Entering.{Copying, copying-first, copying-next}
 use native.Mathlib.Omega.{arith}
 use mathlib.Core.Logic.{inl, inr}
-use Prim.Native.Nat.{_+_, _-_, _≤_}
+use Prim.Native.Nat.{_-_, _≤_}
 use borrow.Author.Tests.{ltb-true, ltb-false}
 use borrow.Author.Needs.{needs}
 use Rattle.membership.proofs.entering.copy_entries.Statement.{statement}
 use Rattle.membership.proofs.entering.copy_entries.Tie as tie
-use Rattle.membership.proofs.entering.copy_entries.Reads as reads
-use Rattle.membership.proofs.entering.copy_entries.Lts as lts
 
 abbrev Inv-loop : tie.InvT-loop
 Inv-loop source count items₀ at k₀ i₀ items k i = (i ≤ count) × Copying source at items₀ items i k

@@ -4,11 +4,6 @@ use native.Mathlib.Omega.{arith}
 use borrow.Author.Needs.{needs}
 use Rattle.membership.proofs.entering.enter.Statement.{statement}
 use Rattle.membership.proofs.entering.enter.Tie as tie
-use Rattle.membership.proofs.entering.enter.Reads as reads
-use Rattle.membership.proofs.entering.enter.Lts as lts
-use Rattle.membership.proofs.entering.copy_entries.Reads as copy-entries-reads
-use Rattle.membership.proofs.entering.mark.Reads as mark-reads
-use Rattle.membership.proofs.merging.merge_into.Reads as merge-into-reads
 
 mark-requires : tie.Need-mark-requires
 mark-requires c κs = c .before .before .before .before .pre .0

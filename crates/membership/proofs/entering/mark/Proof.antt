@@ -5,13 +5,10 @@ use Rattle.bits.specs.Tab.{tab}
 use lib.ListN.{take}
 use native.Mathlib.Omega.{arith}
 use Prim.Native.Nat.{_+_, _-_, _*_}
-use borrow.Author.Tests.{ltb-true, ltb-false}
+use borrow.Author.Tests.{ltb-true}
 use borrow.Author.Needs.{needs}
 use Rattle.membership.proofs.entering.mark.Statement.{statement}
 use Rattle.membership.proofs.entering.mark.Tie as tie
-use Rattle.membership.proofs.entering.mark.Reads as reads
-use Rattle.membership.proofs.entering.mark.Lts as lts
-use Rattle.bits.proofs.word_at.Reads as word-at-reads
 
 abbrev Inv-loop : tie.InvT-loop
 Inv-loop list count subset items₀ old i₀ j₀ items i j = Merge subset (tab count (λ x. word list (x * 2 + 1))) (take old items₀) items₀ items i j j

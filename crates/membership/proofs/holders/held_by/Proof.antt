@@ -3,13 +3,10 @@ use Rattle.bits.specs.PackFrom.{bit-digit}
 use Rattle.membership.specs.Keeping.{Keeping, keeping-first, keeping-next, keeping-end}
 use Rattle.bits.specs.Bit.{bit}
 use lib.ListN.{take}
-use native.Mathlib.Omega.{arith}
 use Prim.Native.Nat.{_-_}
 use borrow.Author.Needs.{needs}
 use Rattle.membership.proofs.holders.held_by.Statement.{statement}
 use Rattle.membership.proofs.holders.held_by.Tie as tie
-use Rattle.membership.proofs.holders.held_by.Reads as reads
-use Rattle.membership.proofs.holders.held_by.Lts as lts
 
 abbrev Inv-loop : tie.InvT-loop
 Inv-loop items count r list₀ k₀ i₀ list k i = Keeping (λ e. bit e r) (take count items) list₀ list k i

@@ -10,8 +10,6 @@ use borrow.Author.Tests.{ltb-true, ltb-false}
 use borrow.Author.Needs.{needs}
 use Rattle.membership.proofs.merging.copy_earlier.Statement.{statement}
 use Rattle.membership.proofs.merging.copy_earlier.Tie as tie
-use Rattle.membership.proofs.merging.copy_earlier.Reads as reads
-use Rattle.membership.proofs.merging.copy_earlier.Lts as lts
 
 abbrev Inv-loop : tie.InvT-loop
 Inv-loop list count subset earlier old items₀ listed copied entered j₀ k₀ items j k = (entered ≤ k) × (k ≤ 256) × Merge subset (tab count (λ x. word list (x * 2 + 1))) (take old earlier) items₀ items listed j k

@@ -3,15 +3,12 @@ use Rattle.bits.specs.Word.{word}
 use Rattle.bits.specs.Tab.{tab}
 use lib.ListN.{take}
 use native.Mathlib.Omega.{arith}
-use mathlib.Core.Logic.{inl, inr, ⊎-elim}
+use mathlib.Core.Logic.{inl, inr}
 use Prim.Native.Nat.{_-_, _+_, _*_, _≤_}
 use borrow.Author.Tests.{ltb-true, ltb-false}
 use borrow.Author.Needs.{needs}
 use Rattle.membership.proofs.merging.merge.Statement.{statement}
 use Rattle.membership.proofs.merging.merge.Tie as tie
-use Rattle.membership.proofs.merging.merge.Reads as reads
-use Rattle.membership.proofs.merging.merge.Lts as lts
-use Rattle.bits.proofs.word_at.Reads as word-at-reads
 
 abbrev Inv-loop : tie.InvT-loop
 Inv-loop list count subset earlier old items₀ i₀ j₀ k₀ items i j k = (k ≤ 256) × Merge subset (tab count (λ x. word list (x * 2 + 1))) (take old earlier) items₀ items i j k

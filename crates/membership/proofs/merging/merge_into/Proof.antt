@@ -4,11 +4,6 @@ use mathlib.Core.Logic.{inl, inr, ⊎-elim}
 use borrow.Author.Needs.{needs}
 use Rattle.membership.proofs.merging.merge_into.Statement.{statement}
 use Rattle.membership.proofs.merging.merge_into.Tie as tie
-use Rattle.membership.proofs.merging.merge_into.Reads as reads
-use Rattle.membership.proofs.merging.merge_into.Lts as lts
-use Rattle.membership.proofs.merging.append_listed.Reads as append-listed-reads
-use Rattle.membership.proofs.merging.copy_earlier.Reads as copy-earlier-reads
-use Rattle.membership.proofs.merging.merge.Reads as merge-reads
 
 merge-requires : tie.Need-merge-requires
 merge-requires c κs = search needs

@@ -6,12 +6,6 @@ use Prim.Native.Nat.{_-_}
 use borrow.Author.Needs.{needs}
 use Rattle.schema.proofs.reading.read_schema.Statement.{statement}
 use Rattle.schema.proofs.reading.read_schema.Tie as tie
-use Rattle.schema.proofs.reading.read_schema.Reads as reads
-use Rattle.schema.proofs.reading.read_schema.Lts as lts
-use Rattle.membership.proofs.enter.Reads as enter-reads
-use Rattle.schema.proofs.reading.refused.Reads as refused-reads
-use Rattle.type_record.proofs.read_record.Reads as read-record-reads
-use Rattle.type_record.proofs.record_size.Reads as record-size-reads
 
 abbrev Inv-loop : tie.InvT-loop
 Inv-loop bytes m items₀ spare₀ special₀ count₀ at₀ r₀ items spare special count at r = Resumed m bytes special items count at r × (length items ≡ length items₀) × (length spare ≡ length spare₀)

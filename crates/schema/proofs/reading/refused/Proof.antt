@@ -2,10 +2,8 @@ use Prim.Native.Nat.{ℕ}
 use mathlib.Core.Path.{sym, ap}
 use mathlib.Core.List.{List}
 use Rattle.schema.specs.declared.reading.Judgement.the-variants.{Refused}
-use Rattle.schema.specs.declared.reading.SchemaReading.{SchemaReading}
 use Rattle.schema.specs.Schema.{refusedSchema, readingOf}
 use Rattle.schema.specs.EntriesLaws.{maps-none}
-use borrow.Author.Needs.{needs}
 use Rattle.schema.proofs.reading.refused.Statement.{statement}
 use Rattle.schema.proofs.reading.refused.Tie as tie
 

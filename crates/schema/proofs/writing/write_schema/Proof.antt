@@ -9,10 +9,6 @@ use Prim.Native.Nat.{_-_}
 use borrow.Author.Needs.{needs}
 use Rattle.schema.proofs.writing.write_schema.Statement.{statement}
 use Rattle.schema.proofs.writing.write_schema.Tie as tie
-use Rattle.schema.proofs.writing.write_schema.Reads as reads
-use Rattle.schema.proofs.writing.write_schema.Lts as lts
-use Rattle.membership.proofs.held_by.Reads as held-by-reads
-use Rattle.type_record.proofs.write_record.Reads as write-record-reads
 
 abbrev Inv-loop : tie.InvT-loop
 Inv-loop out₀ m special items count list₀ at₀ r₀ out list at r = Prefix m special (take count items) out₀ out at r × (length list ≡ length list₀)

@@ -1,17 +1,10 @@
 use Rattle.typing.specs.TypingLaws.{schema-stops, schema-goes, schema-table, read-stopped}
 use Rattle.formula.specs.Expressions.{expressionAt}
 use Rattle.expression.specs.Accepted.{accepted-file}
-use lib.ListN.{length}
 use native.Mathlib.Omega.{arith}
-use mathlib.Core.Path.{sym, ap, _∙_}
-use Prim.Native.Nat.{_≤_}
 use borrow.Author.Needs.{needs}
 use Rattle.typing.proofs.operation.type_schema.Statement.{statement}
 use Rattle.typing.proofs.operation.type_schema.Tie as tie
-use Rattle.typing.proofs.operation.type_schema.Reads as reads
-use Rattle.typing.proofs.operation.type_schema.Lts as lts
-use Rattle.schema.proofs.read_schema.Reads as read-schema-reads
-use Rattle.typing.proofs.operation.type_table.Reads as type-table-reads
 
 read-schema-requires : tie.Need-read-schema-requires
 read-schema-requires c κs = ((accepted-file (c .before .before .before .before .before .before .before .args .file .now) (c .before .before .before .before .before .before .before .args .m) (c .before .before .before .before .before .before .before .args .n) (c .before .before .before .before .before .before .before .pre .0) .counts .relations .1), c .before .before .before .before .before .before .before .pre .1 .1)

@@ -2,9 +2,6 @@ use native.Mathlib.Omega.{arith}
 use borrow.Author.Needs.{needs}
 use Rattle.typing.proofs.operation.type_sized.Statement.{statement}
 use Rattle.typing.proofs.operation.type_sized.Tie as tie
-use Rattle.typing.proofs.operation.type_sized.Reads as reads
-use Rattle.typing.proofs.operation.type_sized.Lts as lts
-use Rattle.typing.proofs.operation.type_schema.Reads as type-schema-reads
 
 slice-aggregate-type-schema : tie.Need-slice-aggregate-type-schema
 slice-aggregate-type-schema c = search needs

@@ -1,13 +1,10 @@
-use Rattle.typing.specs.SetLaws.{words-most, node-words}
+use Rattle.type_sets.specs.SetLaws.{words-most, node-words}
 use Rattle.expression.specs.Accepted.{accepted-file}
 use native.Mathlib.Omega.{arith}
-use Prim.Native.Nat.{_+_, _*_, _/_}
+use Prim.Native.Nat.{_+_, _/_}
 use borrow.Author.Needs.{needs}
 use Rattle.typing.proofs.operation.type_table.Statement.{statement}
 use Rattle.typing.proofs.operation.type_table.Tie as tie
-use Rattle.typing.proofs.operation.type_table.Reads as reads
-use Rattle.typing.proofs.operation.type_table.Lts as lts
-use Rattle.typing.proofs.operation.type_within.Reads as type-within-reads
 
 add-words : tie.Need-add-words
 add-words c = search needs

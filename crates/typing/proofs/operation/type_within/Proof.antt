@@ -2,22 +2,16 @@ use Rattle.membership.specs.HolderLaws.{listed-reaches, listed-fits}
 use Rattle.algebra.specs.Cell.{plain, out}
 use Rattle.bits.specs.Bit.{bit}
 use Rattle.typing.specs.TypingLaws.{table-untyped, output-bits, map-fits, table-typed}
-use Rattle.typing.specs.SetLaws.{node-room}
-use Rattle.typing.specs.Sets.{widthOf}
+use Rattle.type_sets.specs.SetLaws.{node-room}
+use Rattle.type_sets.specs.Sets.{widthOf}
 use Rattle.formula.specs.Expressions.{expressionAt, expression-legal}
 use lib.Seq.{length-take-le}
-use lib.ListN.{length, take}
 use native.Mathlib.Omega.{arith}
-use mathlib.Core.Path.{_≡_, refl, sym, ap, _∙_}
-use Prim.Native.Nat.{_+_, _-_, _*_, _/_}
+use mathlib.Core.Path.{refl, sym}
+use Prim.Native.Nat.{_-_}
 use borrow.Author.Needs.{needs}
 use Rattle.typing.proofs.operation.type_within.Statement.{statement}
 use Rattle.typing.proofs.operation.type_within.Tie as tie
-use Rattle.typing.proofs.operation.type_within.Reads as reads
-use Rattle.typing.proofs.operation.type_within.Lts as lts
-use Rattle.type_record.proofs.write_record.Reads as write-record-reads
-use Rattle.typing.proofs.filling.fill_sets.Reads as fill-sets-reads
-use Rattle.typing.proofs.output.list_output.Reads as list-output-reads
 
 add-width : tie.Need-add-width
 add-width c = search needs

@@ -4,15 +4,12 @@ use Rattle.algebra.specs.Cell.{plain, out}
 use Rattle.bits.specs.PackFrom.{bit-digit}
 use Rattle.bits.specs.Bit.{bit}
 use lib.ListN.{take}
-use native.Mathlib.Omega.{arith}
 use mathlib.Core.Bool.{Bool, cond}
 use mathlib.Core.Path.{sym, ap, _∙_}
 use Prim.Native.Nat.{_-_}
 use borrow.Author.Needs.{needs}
 use Rattle.typing.proofs.output.list_output.Statement.{statement}
 use Rattle.typing.proofs.output.list_output.Tie as tie
-use Rattle.typing.proofs.output.list_output.Reads as reads
-use Rattle.typing.proofs.output.list_output.Lts as lts
 
 abbrev Inv-loop : tie.InvT-loop
 Inv-loop file node items count sets at list₀ k₀ i₀ list k i = Keeping (λ x. out plain (expressionAt file node) 0 (bit x)) (take count items) list₀ list k i

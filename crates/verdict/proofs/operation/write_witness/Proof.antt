@@ -3,10 +3,6 @@ use native.Mathlib.Omega.{arith}
 use borrow.Author.Needs.{needs}
 use Rattle.verdict.proofs.operation.write_witness.Statement.{statement}
 use Rattle.verdict.proofs.operation.write_witness.Tie as tie
-use Rattle.verdict.proofs.operation.write_witness.Reads as reads
-use Rattle.verdict.proofs.operation.write_witness.Lts as lts
-use Rattle.schema.proofs.write_schema.Reads as write-schema-reads
-use Rattle.special_maps.proofs.maps_from.Reads as maps-from-reads
 
 maps-from-requires : tie.Need-maps-from-requires
 maps-from-requires c κs = search needs

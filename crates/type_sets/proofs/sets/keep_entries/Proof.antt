@@ -1,0 +1,89 @@
+use Prim.Native.Nat.{_+_, _-_, _≤_}
+use mathlib.Core.Path.{_≡_, _∙_}
+use native.Mathlib.Omega.{arith}
+use Rattle.type_sets.specs.Sets.{wordsAt, Laying}
+use Rattle.type_sets.specs.SetLaws.{laying-first, laying-next, laying-end}
+use borrow.Author.Needs.{needs}
+use Rattle.type_sets.proofs.sets.keep_entries.Statement.{statement}
+use Rattle.type_sets.proofs.sets.keep_entries.Tie as tie
+
+abbrev Inv-loop : tie.InvT-loop
+Inv-loop sets₀ from at width broken given whole v₀ sets v = (2 ≤ v) × (v ≤ width) × Laying (wordsAt sets₀ from) at v sets₀ sets
+
+abbrev μ-loop : tie.MeasureT-loop
+μ-loop sets₀ from at width broken given whole v₀ sets v = width - v
+
+mul-whole : tie.Need-mul-whole Inv-loop μ-loop
+mul-whole c = search needs
+
+slice-read-whole : tie.Need-slice-read-whole Inv-loop μ-loop
+slice-read-whole c = search needs
+
+loop-holds : tie.Need-loop-holds Inv-loop μ-loop
+loop-holds c = (omega arith, omega arith, laying-first)
+
+add-word : tie.Need-add-word Inv-loop μ-loop
+add-word c = search needs
+
+mul-word : tie.Need-mul-word Inv-loop μ-loop
+mul-word c = search needs
+
+slice-read-word : tie.Need-slice-read-word Inv-loop μ-loop
+slice-read-word c = let size = c .before .before .loop .inv .2 .size in omega arith
+
+add-sets : tie.Need-add-sets Inv-loop μ-loop
+add-sets c = search needs
+
+mul-sets : tie.Need-mul-sets Inv-loop μ-loop
+mul-sets c = search needs
+
+slice-write-sets : tie.Need-slice-write-sets Inv-loop μ-loop
+slice-write-sets c = let size = c .before .before .loop .inv .2 .size in omega arith
+
+add-v : tie.Need-add-v Inv-loop μ-loop
+add-v c = search needs
+
+loop-less : tie.Need-loop-less Inv-loop μ-loop
+loop-less c = search needs
+
+loop-again : tie.Need-loop-again Inv-loop μ-loop
+loop-again c =
+    let args = c .before .before .before .before .before .args in
+    let loop = c .before .before .loop in
+    let size = loop .inv .2 .size in
+    (omega arith, omega arith, laying-next (loop .v) (loop .sets) _ (omega arith) (loop .inv .2 .before (args .from + loop .v) (omega arith)) (loop .inv .2))
+
+lay-front-requires : tie.Need-lay-front-requires Inv-loop μ-loop
+lay-front-requires c κs = let size = c .before .before .loop .inv .2 .size in omega arith
+
+same-length : tie.Need-same-length Inv-loop μ-loop
+same-length c = c .before .before .lay-front .kept .0 ∙ c .before .before .before .before .before .loop .inv .2 .size
+
+returns : tie.Need-returns Inv-loop μ-loop
+returns c =
+    let loop = c .before .before .before .before .before .loop in
+    let size = loop .inv .2 .size in
+    let all : loop .v ≡ c .before .before .before .before .before .before .before .before .args .width = omega arith in
+    laying-end (c .before .before .before .before .before .before .before .before .args .width) (loop .sets) _ _ _ (omega arith) (c .before .before .lay-front .ensures) (rw all at (loop .inv .2))
+
+pub keep-entries-spec : {M : Type 1} → statement M
+keep-entries-spec =
+    tie.close
+    (tie.spec
+    Inv-loop
+    μ-loop
+    mul-whole
+    slice-read-whole
+    loop-holds
+    add-word
+    mul-word
+    slice-read-word
+    add-sets
+    mul-sets
+    slice-write-sets
+    add-v
+    loop-less
+    loop-again
+    lay-front-requires
+    same-length
+    returns)

@@ -1,0 +1,40 @@
+use native.Mathlib.Omega.{arith}
+use Rattle.bits.specs.Bit.{shifted-one}
+use Rattle.type_sets.specs.Sets.{lacking, without, renamingBreaks, renamed}
+use borrow.Author.Needs.{needs}
+use Rattle.type_sets.proofs.sets.lay_renaming.Statement.{statement}
+use Rattle.type_sets.proofs.sets.lay_renaming.Tie as tie
+
+add-x : tie.Need-add-x
+add-x c = search needs
+
+mul-x : tie.Need-mul-x
+mul-x c = search needs
+
+slice-read-x : tie.Need-slice-read-x
+slice-read-x c = search needs
+
+shl-o : tie.Need-shl-o
+shl-o c = search needs
+
+shl-n : tie.Need-shl-n
+shl-n c = search needs
+
+keep-entries-requires : tie.Need-keep-entries-requires
+keep-entries-requires c κs = search needs
+
+same-length : tie.Need-same-length
+same-length c = search needs
+
+returns : tie.Need-returns
+unfolding lacking without renamingBreaks renamed
+returns c =
+    let args = c .before .before .before .before .before .before .args in
+    let old = c .before .before .before .before .before .before .pre .0 .0 in
+    let new = c .before .before .before .before .before .before .pre .0 .1 in
+    rw (shifted-one 64 (args .old) (omega arith), shifted-one 64 (args .new) (omega arith)) at (c .before .before .keep-entries .ensures)
+
+pub lay-renaming-spec : {M : Type 1} → statement M
+lay-renaming-spec =
+    tie.close
+    (tie.spec add-x mul-x slice-read-x shl-o shl-n keep-entries-requires same-length returns)

@@ -1,0 +1,5 @@
+pub mod Sets
+pub mod SetLaws
+pub mod SetCells
+pub mod Columns
+pub mod Filling
