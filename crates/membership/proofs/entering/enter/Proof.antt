@@ -1,6 +1,3 @@
-use Rattle.membership.specs.Entering.{marking-bounds, mark-all, rest-enters, rest-merged, rest-fits, enter-copied}
-use Rattle.membership.specs.TableLaws.{table-reaches}
-use native.Mathlib.Omega.{arith}
 use borrow.Author.Needs.{needs}
 use Rattle.membership.proofs.entering.enter.Statement.{statement}
 use Rattle.membership.proofs.entering.enter.Tie as tie
@@ -11,40 +8,22 @@ use Rattle.membership.proofs.entering.mark.Reads as mark-reads
 use Rattle.membership.proofs.merging.merge_into.Reads as merge-into-reads
 
 mark-requires : tie.Need-mark-requires
-mark-requires c κs = c .before .before .before .before .pre .0
+mark-requires c κs = search needs
 
 same-length : tie.Need-same-length
 same-length c = search needs
 
 returns : tie.Need-returns
-returns c = mark-all (c .before .before .before .before .before .before .before .before .args .subset) (c .before .before .before .before .before .before .before .before .pre .0) (c .before .before .before .mark .ensures) (c .if1 .taken)
+returns c = search needs
 
 mul-merge-into : tie.Need-mul-merge-into
 mul-merge-into c = search needs
 
 sub-merge-into : tie.Need-sub-merge-into
-sub-merge-into c =
-    let b = marking-bounds (c .before .before .before .before .before .before .before .before .args .subset) (c .before .before .before .before .before .before .before .before .pre .0) (c .before .before .before .mark .ensures) in
-    let upTo = b .0 in
-    let passed = b .1 in
-    let same = b .2 in
-    let enough = c .before .before .before .before .before .before .before .before .pre .0 .enough in
-    let most = c .before .before .before .before .before .before .before .before .pre .0 .most in
-    let more = c .if1 .left in
-    let fits = c .before .before .before .before .before .before .before .before .pre .0 .fits _ more in
-    omega arith
+sub-merge-into c = search needs
 
 part-merge-into-start : tie.Need-part-merge-into-start
-part-merge-into-start c =
-    let b = marking-bounds (c .before .before .before .before .before .before .before .before .args .subset) (c .before .before .before .before .before .before .before .before .pre .0) (c .before .before .before .mark .ensures) in
-    let upTo = b .0 in
-    let passed = b .1 in
-    let same = b .2 in
-    let enough = c .before .before .before .before .before .before .before .before .pre .0 .enough in
-    let most = c .before .before .before .before .before .before .before .before .pre .0 .most in
-    let more = c .if1 .left in
-    let fits = c .before .before .before .before .before .before .before .before .pre .0 .fits _ more in
-    omega arith
+part-merge-into-start c = search needs
 
 part-merge-into-end : tie.Need-part-merge-into-end
 part-merge-into-end c = search needs
@@ -53,65 +32,25 @@ sub-merge-into-2 : tie.Need-sub-merge-into-2
 sub-merge-into-2 c = search needs
 
 mul-merge-into-2 : tie.Need-mul-merge-into-2
-mul-merge-into-2 c =
-    let b = marking-bounds (c .before .before .before .before .before .before .before .before .before .args .subset) (c .before .before .before .before .before .before .before .before .before .pre .0) (c .before .before .before .before .mark .ensures) in
-    let upTo = b .0 in
-    let passed = b .1 in
-    let same = b .2 in
-    let enough = c .before .before .before .before .before .before .before .before .before .pre .0 .enough in
-    let most = c .before .before .before .before .before .before .before .before .before .pre .0 .most in
-    let more = c .before .if1 .left in
-    omega arith
+mul-merge-into-2 c = search needs
 
 sub-merge-into-3 : tie.Need-sub-merge-into-3
-sub-merge-into-3 c =
-    let b = marking-bounds (c .before .before .before .before .before .before .before .before .before .args .subset) (c .before .before .before .before .before .before .before .before .before .pre .0) (c .before .before .before .before .mark .ensures) in
-    let upTo = b .0 in
-    let passed = b .1 in
-    let same = b .2 in
-    let enough = c .before .before .before .before .before .before .before .before .before .pre .0 .enough in
-    let most = c .before .before .before .before .before .before .before .before .before .pre .0 .most in
-    let more = c .before .if1 .left in
-    omega arith
+sub-merge-into-3 c = search needs
 
 part-merge-into-start-2 : tie.Need-part-merge-into-start-2
-part-merge-into-start-2 c =
-    let b = marking-bounds (c .before .before .before .before .before .before .before .before .before .before .args .subset) (c .before .before .before .before .before .before .before .before .before .before .pre .0) (c .before .before .before .before .before .mark .ensures) in
-    let upTo = b .0 in
-    let passed = b .1 in
-    let same = b .2 in
-    let enough = c .before .before .before .before .before .before .before .before .before .before .pre .0 .enough in
-    let most = c .before .before .before .before .before .before .before .before .before .before .pre .0 .most in
-    let more = c .before .before .if1 .left in
-    omega arith
+part-merge-into-start-2 c = search needs
 
 part-merge-into-end-2 : tie.Need-part-merge-into-end-2
 part-merge-into-end-2 c = search needs
 
 sub-merge-into-4 : tie.Need-sub-merge-into-4
-sub-merge-into-4 c =
-    let b = marking-bounds (c .before .before .before .before .before .before .before .before .before .before .before .args .subset) (c .before .before .before .before .before .before .before .before .before .before .before .pre .0) (c .before .before .before .before .before .before .mark .ensures) in
-    let upTo = b .0 in
-    let passed = b .1 in
-    let same = b .2 in
-    let enough = c .before .before .before .before .before .before .before .before .before .before .before .pre .0 .enough in
-    let most = c .before .before .before .before .before .before .before .before .before .before .before .pre .0 .most in
-    let more = c .before .before .before .if1 .left in
-    omega arith
+sub-merge-into-4 c = search needs
 
 merge-into-requires : tie.Need-merge-into-requires
-merge-into-requires c κs = rest-enters (c .before .before .before .before .before .before .before .before .before .before .before .before .args .subset) (c .before .before .before .before .before .before .before .before .before .before .before .before .pre .0) (c .before .before .before .before .before .before .before .mark .ensures) (c .before .before .before .before .before .before .before .before .before .before .before .before .pre .1)
+merge-into-requires c κs = search needs
 
 copy-entries-requires : tie.Need-copy-entries-requires
-copy-entries-requires c κs =
-    let b = marking-bounds (c .before .before .before .before .before .before .before .before .before .before .before .before .before .before .before .before .before .args .subset) (c .before .before .before .before .before .before .before .before .before .before .before .before .before .before .before .before .before .pre .0) (c .before .before .before .before .before .before .before .before .before .before .before .before .mark .ensures) in
-    let upTo = b .0 in
-    let passed = b .1 in
-    let same = b .2 in
-    let enough = c .before .before .before .before .before .before .before .before .before .before .before .before .before .before .before .before .before .pre .0 .enough in
-    let most = c .before .before .before .before .before .before .before .before .before .before .before .before .before .before .before .before .before .pre .0 .most in
-    let more = c .before .before .before .before .before .before .before .before .before .if1 .left in
-    ((table-reaches (c .before .before .before .before .merge-into .ensures), omega arith), rest-fits (c .before .before .before .before .before .before .before .before .before .before .before .before .before .before .before .before .before .args .subset) (c .before .before .before .before .before .before .before .before .before .before .before .before .before .before .before .before .before .pre .0) (c .before .before .before .before .before .before .before .before .before .before .before .before .mark .ensures) (c .before .before .before .before .merge-into .ensures))
+copy-entries-requires c κs = search needs
 
 same-length-2 : tie.Need-same-length-2
 same-length-2 c = search needs
@@ -120,7 +59,7 @@ same-length-3 : tie.Need-same-length-3
 same-length-3 c = search needs
 
 returns-2 : tie.Need-returns-2
-returns-2 c = enter-copied _ _ _ (c .before .before .before .before .before .before .before .before .before .before .before .before .before .before .before .mark .ensures) (rest-merged (c .before .before .before .before .before .before .before .before .before .before .before .before .before .before .before .before .before .before .before .before .args .subset) (c .before .before .before .before .before .before .before .before .before .before .before .before .before .before .before .before .before .before .before .before .pre .0) (c .before .before .before .before .before .before .before .before .before .before .before .before .before .before .before .mark .ensures) (c .before .before .before .before .before .before .before .merge-into .ensures)) (c .before .before .copy-entries .ensures)
+returns-2 c = search needs
 
 pub enter-spec : {M : Type 1} → statement M
 enter-spec =

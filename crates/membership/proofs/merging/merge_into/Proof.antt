@@ -1,50 +1,90 @@
-use Rattle.membership.specs.Merging.{enters-in, merge-self}
-use native.Mathlib.Omega.{arith}
-use mathlib.Core.Logic.{inl, inr, ⊎-elim}
 use borrow.Author.Needs.{needs}
 use Rattle.membership.proofs.merging.merge_into.Statement.{statement}
 use Rattle.membership.proofs.merging.merge_into.Tie as tie
 use Rattle.membership.proofs.merging.merge_into.Reads as reads
 use Rattle.membership.proofs.merging.merge_into.Lts as lts
-use Rattle.membership.proofs.merging.append_listed.Reads as append-listed-reads
-use Rattle.membership.proofs.merging.copy_earlier.Reads as copy-earlier-reads
-use Rattle.membership.proofs.merging.merge.Reads as merge-reads
+use Rattle.bits.proofs.word_at.Reads as word-at-reads
+use Rattle.membership.proofs.merging.enter_one.Reads as enter-one-reads
+use Rattle.membership.proofs.runs.copy_lower.Reads as copy-lower-reads
+use Rattle.membership.proofs.runs.copy_run.Reads as copy-run-reads
 
-merge-requires : tie.Need-merge-requires
-merge-requires c κs = search needs
+abbrev Inv-loop : tie.InvT-loop
+Inv-loop list count subset earlier old items₀ i₀ j₀ k₀ items i j k = ?
 
-copy-earlier-requires : tie.Need-copy-earlier-requires
-copy-earlier-requires c κs =
-    let merged = c .before .before .before .before .merge .ensures in
-    let less = c .before .if1 .taken in
-    let far = merged .1 .1 in
-    (enters-in (merged .0 .written .size) (c .before .before .before .before .before .before .before .before .before .pre), (merge-self _ _ _ _ _ _ _ _ (merged .0), (merged .1 .0, ⊎-elim (λ full. inl full) (λ one. ⊎-elim (λ listed. inr listed) (λ past. absurd (omega arith)) one) far)))
+abbrev μ-loop : tie.MeasureT-loop
+μ-loop list count subset earlier old items₀ i₀ j₀ k₀ items i j k = ?
 
-same-length : tie.Need-same-length
+loop-holds : tie.Need-loop-holds Inv-loop μ-loop
+loop-holds c = search needs
+
+mul-word-at : tie.Need-mul-word-at Inv-loop μ-loop
+mul-word-at c = search needs
+
+add-word-at : tie.Need-add-word-at Inv-loop μ-loop
+add-word-at c = search needs
+
+word-at-requires : tie.Need-word-at-requires Inv-loop μ-loop
+word-at-requires c κs = search needs
+
+cast-a : tie.Need-cast-a Inv-loop μ-loop
+cast-a c = search needs
+
+mul-copy-lower : tie.Need-mul-copy-lower Inv-loop μ-loop
+mul-copy-lower c = search needs
+
+copy-lower-requires : tie.Need-copy-lower-requires Inv-loop μ-loop
+copy-lower-requires c κs = search needs
+
+sub-k : tie.Need-sub-k Inv-loop μ-loop
+sub-k c = search needs
+
+add-k : tie.Need-add-k Inv-loop μ-loop
+add-k c = search needs
+
+enter-one-requires : tie.Need-enter-one-requires Inv-loop μ-loop
+enter-one-requires c κs = search needs
+
+add-k-2 : tie.Need-add-k-2 Inv-loop μ-loop
+add-k-2 c = search needs
+
+add-i : tie.Need-add-i Inv-loop μ-loop
+add-i c = search needs
+
+loop-less : tie.Need-loop-less Inv-loop μ-loop
+loop-less c = search needs
+
+loop-again : tie.Need-loop-again Inv-loop μ-loop
+loop-again c = search needs
+
+copy-run-requires : tie.Need-copy-run-requires Inv-loop μ-loop
+copy-run-requires c κs = search needs
+
+same-length : tie.Need-same-length Inv-loop μ-loop
 same-length c = search needs
 
-returns : tie.Need-returns
-returns c = c .before .before .copy-earlier .ensures
-
-append-listed-requires : tie.Need-append-listed-requires
-append-listed-requires c κs =
-    let merged = c .before .before .before .before .merge .ensures in
-    (enters-in (merged .0 .written .size) (c .before .before .before .before .before .before .before .before .before .pre), (merge-self _ _ _ _ _ _ _ _ (merged .0), (merged .1 .0, c .before .if1 .left)))
-
-same-length-2 : tie.Need-same-length-2
-same-length-2 c = search needs
-
-returns-2 : tie.Need-returns-2
-returns-2 c = c .before .before .append-listed .ensures
+returns : tie.Need-returns Inv-loop μ-loop
+returns c = search needs
 
 pub merge-into-spec : {M : Type 1} → statement M
 merge-into-spec =
     tie.close
     (tie.spec
-    merge-requires
-    copy-earlier-requires
+    Inv-loop
+    μ-loop
+    loop-holds
+    mul-word-at
+    add-word-at
+    word-at-requires
+    cast-a
+    mul-copy-lower
+    copy-lower-requires
+    sub-k
+    add-k
+    enter-one-requires
+    add-k-2
+    add-i
+    loop-less
+    loop-again
+    copy-run-requires
     same-length
-    returns
-    append-listed-requires
-    same-length-2
-    returns-2)
+    returns)
