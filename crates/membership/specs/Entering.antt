@@ -22,6 +22,14 @@ use Rattle.membership.specs.TableLaws.{table-written}
 abbrev pub CopyFits : ℕ → ℕ → List ℕ → Type 0
 CopyFits count at items = (k : ℕ) → k < 256 → k < at + count → k < length items
 
+-- and as many as there is room for
+pub copy-room : (count at n : ℕ) (items : List ℕ) → CopyFits count at items → at ≤ length items → n ≤ count → at + n ≤ 256 → at + (n - 0) ≤ length items
+copy-room count at n items fits inside least most = go (decLt 0 n)
+  where
+    go : Dec (0 < n) → at + (n - 0) ≤ length items
+    go (yes some) = let last = fits (at + n - 1) (omega arith) (omega arith) in omega arith
+    go (no none) = omega arith
+
 -- ---- marking
 
 module _ {list : List ℕ} {count : ℕ} {before : List ℕ} {old : ℕ} (subset : ℕ) (e : Enters list count before old) where
@@ -213,11 +221,5 @@ module _ {list : List ℕ} {count : ℕ} {before : List ℕ} {old : ℕ} (subset
             let number = rest-merged .number in
             let all = left-is in
             let cut = length-take 256 (enter subset more es) in
-            table-written (enter subset more es) last last k (inside upTo within (fits .2 .0)) (record { size = refl; front = λ x h. entry-is x h (decLt x j); back = λ x h. refl }) (omega arith)
-          where
-            inside : j ≤ 256 → j ≤ length items → CopyFits n j items → k ≤ length last
-            inside upTo within fit = go (decLt j k)
-              where
-                go : Dec (j < k) → k ≤ length last
-                go (yes some) = let next = c .next in let size = c .size in let one = fit (k - 1) (omega arith) (omega arith) in omega arith
-                go (no none) = let size = c .size in omega arith
+            let inside = copy-room n j (min n (256 - j)) items (fits .2 .0) within (omega arith) (omega arith) in
+            table-written (enter subset more es) last last k (omega arith) (record { size = refl; front = λ x h. entry-is x h (decLt x j); back = λ x h. refl }) (omega arith)

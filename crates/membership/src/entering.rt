@@ -9,7 +9,9 @@ ghost use Rattle.membership.specs.Runs.{Copying};
 ghost use Rattle.membership.specs.Merging.{Enters, Merge};
 ghost use Rattle.membership.specs.Entering.{CopyFits};
 use crate::merging::merge_into;
-use crate::runs::{copy_run, has_entry, pass_lower};
+use crate::runs::copy_run;
+use crate::runs::has_entry;
+use crate::runs::pass_lower;
 
 // How far marking has come: listed attributes that have an entry, and entries that are looked at.
 pub struct Marked {

@@ -9,7 +9,9 @@ ghost use Rattle.bits.specs.Word.{word};
 ghost use Rattle.membership.specs.Entries.{entry, enter as entries};
 ghost use Rattle.membership.specs.Runs.{hasEntry};
 ghost use Rattle.membership.specs.Merging.{Enters, Merged};
-use crate::runs::{copy_lower, copy_run, has_entry};
+use crate::runs::copy_lower;
+use crate::runs::copy_run;
+use crate::runs::has_entry;
 
 // Writes the entry of an attribute at place k: the earlier entry with the subset where it has the attribute, and else a
 // new one. Gives the place of the next earlier entry.

@@ -69,7 +69,7 @@ add-a-3 : tie.Need-add-a-3 Inv-loop μ-loop
 add-a-3 c = omega (arith, c .before .shared-slice-known3 .given (c .before .before .before .loop .i * 2 + 1), c .shared-slice-known4 .given (c .before .before .before .loop .i * 2 + 2))
 
 returns-3 : tie.Need-returns-3 Inv-loop μ-loop
-returns-3 c = 
+returns-3 c =
     let loop = c .before .before .before .before .loop in
     let bytes = c .before .before .before .before .before .before .before .before .before .before .args .bytes .now in
     let whole = c .before .before .before .before .before .lesser .ensures in
@@ -82,21 +82,21 @@ loop-less : tie.Need-loop-less Inv-loop μ-loop
 loop-less c = search needs
 
 loop-again : tie.Need-loop-again Inv-loop μ-loop
-loop-again c = 
+loop-again c =
     let loop = c .before .before .before .before .loop in
     let bytes = c .before .before .before .before .before .before .before .before .before .before .args .bytes .now in
     let whole = c .before .before .before .before .before .lesser .ensures in
     (omega arith, sym (resumed-next bytes (getD bytes 0 0) (loop .i) (loop .previous) (omega arith) (omega arith) (omega arith)) ∙ loop .inv .1)
 
 returns-4 : tie.Need-returns-4 Inv-loop μ-loop
-returns-4 c = 
+returns-4 c =
     let loop = c .before .before .loop in
     let bytes = c .before .before .before .before .before .before .before .before .args .bytes .now in
     let whole = c .before .before .before .lesser .ensures in
     sym (resumed-truncated bytes (getD bytes 0 0) (loop .i) (loop .previous) (omega arith) (omega arith)) ∙ loop .inv .1
 
 returns-5 : tie.Need-returns-5 Inv-loop μ-loop
-returns-5 c = 
+returns-5 c =
     let loop = c .before .before .loop in
     let bytes = c .before .before .before .before .before .before .before .before .args .bytes .now in
     let whole = c .before .before .before .lesser .ensures in
