@@ -1,41 +1,38 @@
 -- How a list is entered in place: its attributes that have an entry are marked there, and from the first that has none on the rest is merged elsewhere and copied back.
-use Prim.Native.Nat.{ℕ, _+_, _-_, _*_, _/_, _≤_, _<_}
+use Prim.Native.Nat.{ℕ, _+_, _-_, _*_, _≤_, _<_, min}
 use mathlib.Core.Path.{_≡_, refl, sym, ap, ap₂, _∙_}
-use mathlib.Core.List.{List, []}
-use mathlib.Core.Logic.{_⊎_, inl, inr, ⊎-elim}
+use mathlib.Core.Bool.{true}
+use mathlib.Core.List.{List}
 use native.Mathlib.Decide.{decLt}
 use native.Mathlib.Omega.{arith}
 use lib.Bits.{bitOr}
-use lib.ListN.{length, getD, set, take, drop, length-set, length-take, length-drop, drop-of-length-le}
-use lib.Seq.{length-take-le, take-all, getD-take, getD-drop, getD-set-same, getD-set-other, ext-getD, drop-drop}
+use lib.ListN.{length, getD, set, take, drop, length-take, length-drop, drop-of-length-le}
+use lib.Seq.{length-take-le, take-all, getD-take, getD-drop, ext-getD}
 use Rattle.bits.specs.Part.{part-from}
 use Rattle.bits.specs.Word.{word, word-bytes}
 use Rattle.bits.specs.Tab.{tab, length-tab, getD-tab}
 use Rattle.bits.specs.Written.{Written}
-use Rattle.membership.specs.Entries.{attributeOf, enter, ListFits, TableIn}
+use Rattle.membership.specs.Entries.{enter, TableIn}
 use Rattle.membership.specs.EnterLaws.{enter-none, enter-few}
-use Rattle.membership.specs.Merging.{Enters, Merge, merge-higher, merge-equal}
-use Rattle.membership.specs.TableLaws.{table-written, table-least}
+use Rattle.membership.specs.Runs.{Passed, Copying, hasEntry, has-entry}
+use Rattle.membership.specs.Merging.{Enters, Merge, Merged, merge-lower, merge-equal, listed-size, earlier-size, bounds}
+use Rattle.membership.specs.TableLaws.{table-written}
 
 -- so many entries can be copied to the places from `at` on, up to place 256
 abbrev pub CopyFits : ℕ → ℕ → List ℕ → Type 0
 CopyFits count at items = (k : ℕ) → k < 256 → k < at + count → k < length items
 
+-- and as many as there is room for
+pub copy-room : (count at n : ℕ) (items : List ℕ) → CopyFits count at items → at ≤ length items → n ≤ count → at + n ≤ 256 → at + (n - 0) ≤ length items
+copy-room count at n items fits inside least most = go (decLt 0 n)
+  where
+    go : Dec (0 < n) → at + (n - 0) ≤ length items
+    go (yes some) = let last = fits (at + n - 1) (omega arith) (omega arith) in omega arith
+    go (no none) = omega arith
+
 -- ---- marking
 
--- writing what stands there changes nothing
-set-there : (xs : List ℕ) (k v : ℕ) → getD xs k 0 ≡ v → set xs k v ≡ xs
-set-there xs k v here = ext-getD 0 (set xs k v) xs (length-set xs k v) (λ i h. go i h (decLt i k) (decLt k i))
-  where
-    go : (i : ℕ) → i < length (set xs k v) → Dec (i < k) → Dec (k < i) → getD (set xs k v) i 0 ≡ getD xs i 0
-    go i h (yes less) more = getD-set-other xs k i v 0 (λ e. omega arith)
-    go i h (no less) (yes more) = getD-set-other xs k i v 0 (λ e. omega arith)
-    go i h (no less) (no more) =
-        let same : i ≡ k = omega arith in
-        let size = length-set xs k v in
-        rw same (getD-set-same xs k v 0 (omega arith) ∙ sym here)
-
-module _ {list : List ℕ} {count : ℕ} {before : List ℕ} {old : ℕ} (subset : ℕ) (e : Enters list count before old before) where
+module _ {list : List ℕ} {count : ℕ} {before : List ℕ} {old : ℕ} (subset : ℕ) (e : Enters list count before old) where
   abbrev more : List ℕ
   more = tab count (λ x. word list (x * 2 + 1))
 
@@ -47,36 +44,39 @@ module _ {list : List ℕ} {count : ℕ} {before : List ℕ} {old : ℕ} (subset
     there : (x : ℕ) → j ≤ x → x < old → getD items x 0 ≡ getD es x 0
     there x from to = m .written .back x from ∙ sym (getD-take old before x 0 to)
 
+    listed-is : i < count → getD more i 0 ≡ word list (i * 2 + 1)
+    listed-is hi = getD-tab count (λ x. word list (x * 2 + 1)) i 0 hi
+
+    -- entries that are passed stay as they are
+    pub mark-passed : {a place : ℕ} → i < count → a ≡ word list (i * 2 + 1) → Passed items j old (a * 256) place → Merge subset more es before items i place place
+    mark-passed {a} {place} hi is p =
+        let s = listed-size subset e in
+        let t = earlier-size subset e in
+        let begun = p .lower .begun in
+        let upTo = p .lower .upTo in
+        merge-lower m (omega arith) (omega arith)
+        (λ x above under. rw (listed-is hi, ← is, ← there x above (omega arith)) (p .lower .below x above under))
+        (record {
+          size = refl;
+          begun = begun;
+          next = omega arith;
+          front = λ x h. refl;
+          copied = λ x above under. let at : j + (x - j) ≡ x = omega arith in there x above (omega arith) ∙ ap (λ (y : ℕ). getD es y 0) (sym at);
+          back = λ x h. refl;
+        })
+
+    pub mark-equal : {a : ℕ} → i < count → a ≡ word list (i * 2 + 1) → hasEntry items j old a ≡ true → Merge subset more es before (set items j (bitOr (getD items j 0) subset)) (i + 1) (j + 1) (j + 1)
+    mark-equal {a} hi is h =
+        let has = has-entry items j old a h in
+        let hj = has .0 in
+        let here = there j (omega arith) hj in
+        let s = listed-size subset e in
+        let t = earlier-size subset e in
+        let enough = e .enough in
+        rw here (merge-equal m (omega arith) (omega arith) (omega arith) (listed-is hi ∙ sym is ∙ sym (has .1) ∙ rw here))
+
     pub marking-bounds : (i ≤ count) × (j ≤ old) × (length items ≡ length before)
-    marking-bounds =
-        let listed = m .listed in
-        let passed = m .earlier in
-        let size = length-tab count (λ x. word list (x * 2 + 1)) in
-        let taken = length-take-le old before (e .enough) in
-        (omega arith, omega arith, m .written .size)
-
-    module _ (hi : i < count) (hj : j < old) where
-      i-in : i < length more
-      i-in = let s = length-tab count (λ x. word list (x * 2 + 1)) in omega arith
-
-      j-in : j < length es
-      j-in = let s = length-take-le old before (e .enough) in omega arith
-
-      inside : j < length before
-      inside = let enough = e .enough in omega arith
-
-      listed-is : getD more i 0 ≡ word list (i * 2 + 1)
-      listed-is = getD-tab count (λ x. word list (x * 2 + 1)) i 0 hi
-
-      pub mark-passed : {a : ℕ} → a ≡ word list (i * 2 + 1) → getD items j 0 / 256 < a → Merge subset more es before items i (j + 1) (j + 1)
-      mark-passed is l =
-          let here = there j (omega arith) hj in
-          rw (set-there items j (getD es j 0) here) at (merge-higher subset more es before items i j j inside m i-in j-in (rw (listed-is, ← is, ← here) l))
-
-      pub mark-equal : {a : ℕ} → a ≡ word list (i * 2 + 1) → getD items j 0 / 256 ≤ a → a ≤ getD items j 0 / 256 → Merge subset more es before (set items j (bitOr (getD items j 0) subset)) (i + 1) (j + 1) (j + 1)
-      mark-equal is l r =
-          let here = there j (omega arith) hj in
-          rw here (merge-equal subset more es before items i j j inside m i-in j-in (rw (listed-is, ← is, ← here) (omega arith)))
+    marking-bounds = let b = bounds subset e m in (b .0, b .1, b .3)
 
     whole : drop j (enter subset more es) ≡ enter subset (drop i more) (drop j es)
     whole = m .rest
@@ -149,12 +149,12 @@ module _ {list : List ℕ} {count : ℕ} {before : List ℕ} {old : ℕ} (subset
         getD-take (old - j) (drop j items) x 0 inside ∙ getD-drop j items x 0 ∙ there (j + x) (omega arith) (omega arith) ∙ sym (getD-drop j es x 0)))
 
     -- it can be merged into a slice with room for all
-    pub rest-enters : {spare : List ℕ} → Enters list count before old spare → Enters (take (length list - i * 2) (drop (i * 2) list)) (count - i) (take (length items - j) (drop j items)) (old - j) spare
-    rest-enters f =
-        let bounds = marking-bounds in
-        let upTo = bounds .0 in
-        let passed = bounds .1 in
-        let same = bounds .2 in
+    pub rest-enters : Enters (take (length list - i * 2) (drop (i * 2) list)) (count - i) (take (length items - j) (drop j items)) (old - j)
+    rest-enters =
+        let b = marking-bounds in
+        let upTo = b .0 in
+        let passed = b .1 in
+        let same = b .2 in
         let few = e .few in
         let most = e .most in
         let enough = e .enough in
@@ -164,106 +164,62 @@ module _ {list : List ℕ} {count : ℕ} {before : List ℕ} {old : ℕ} (subset
           fits = λ x h. rw (part-from list (i * 2)) (let fits = e .fits (i + x) (omega arith) in let left = length-drop (i * 2) list in omega arith);
           most = omega arith;
           enough = rw (part-from items j) (omega arith);
-          room = λ k small less. f .room k small (omega arith);
         }
 
     -- what it is merged to, and that there is room for it
-    module _ {spare : List ℕ} {n : ℕ} (t : TableIn (enter subset (tab (count - i) (λ x. word (take (length list - i * 2) (drop (i * 2) list)) (x * 2 + 1))) (take (old - j) (take (length items - j) (drop j items)))) spare n) where
-      pub rest-merged : TableIn (enter subset (drop i more) (drop j es)) spare n
-      rest-merged = let b = marking-bounds in rw (rest-listed (b .0), rest-entries (b .1)) at t
+    module _ {spare : List ℕ} {n : ℕ} (merged : Merged (enter subset (tab (count - i) (λ x. word (take (length list - i * 2) (drop (i * 2) list)) (x * 2 + 1))) (take (old - j) (take (length items - j) (drop j items)))) spare n) where
+      rest-merged : Merged (enter subset (drop i more) (drop j es)) spare n
+      rest-merged = let b = marking-bounds in rw (rest-listed (b .0), rest-entries (b .1)) at merged
 
-      pub rest-fits : CopyFits n j items × (j ≤ length items)
-      rest-fits =
+      pub rest-fits : CopyFits count old before → (n ≤ length spare) × (j ≤ 256) × (CopyFits n j items × (j ≤ length items))
+      rest-fits room =
           let b = marking-bounds in
           let upTo = b .0 in
           let passed = b .1 in
           let same = b .2 in
+          let most = e .most in
           let enough = e .enough in
-          let least = table-least rest-merged in
+          let number = rest-merged .number in
+          let stands = ap length (rest-merged .stands) ∙ sym number in
+          let cut = length-take n spare in
           let few = enter-few subset (drop i more) (drop j es) in
           let listed = length-drop i more in
-          let size = length-tab count (λ x. word list (x * 2 + 1)) in
+          let size = listed-size subset e in
           let left = length-drop j es in
-          let taken = length-take-le old before (e .enough) in
-          (λ k small less. let room = e .room k small (omega arith) in omega arith, omega arith)
+          let taken = earlier-size subset e in
+          (omega arith, omega arith, (λ k small less. let inside = room k small (omega arith) in omega arith, omega arith))
 
--- ---- copying
+      -- the table once the rest is copied back
+      left-is : length (enter subset more es) ≡ j + length (enter subset (drop i more) (drop j es))
+      left-is =
+          let reached = m .reached in
+          let part = length-drop j (enter subset more es) in
+          let same = ap length (m .rest) in
+          omega arith
 
--- the first i entries stand from `at` on, up to place k, and those before are as they were
-pub record Copying (source : List ℕ) (at : ℕ) (before items : List ℕ) (i k : ℕ) : Type 0 where
-  pub size : length items ≡ length before
-  pub next : k ≡ at + i
-  pub upTo : k ≤ 256
-  pub within : k ≤ length before
-  pub front : (x : ℕ) → x < at → getD items x 0 ≡ getD before x 0
-  pub copied : (x : ℕ) → at ≤ x → x < k → getD items x 0 ≡ getD source (x - at) 0
+      module _ {last : List ℕ} {k : ℕ} (c : Copying spare 0 j items last (min n (256 - j)) k) where
+        entry-is : (x : ℕ) → x < k → Dec (x < j) → getD last x 0 ≡ getD (enter subset more es) x 0
+        entry-is x h (yes less) = c .front x less ∙ m .written .front x less
+        entry-is x h (no past) =
+            let next = c .next in
+            let at : j + (x - j) ≡ x = omega arith in
+            let from : 0 + (x - j) ≡ x - j = omega arith in
+            c .copied x (omega arith) h
+            ∙ ap (λ (p : ℕ). getD spare p 0) from
+            ∙ sym (getD-take n spare (x - j) 0 (omega arith))
+            ∙ ap (λ (l : List ℕ). getD l (x - j) 0) (rest-merged .stands ∙ sym (m .rest))
+            ∙ getD-drop j (enter subset more es) (x - j) 0
+            ∙ ap (λ (p : ℕ). getD (enter subset more es) p 0) at
 
-pub copying-first : (source : List ℕ) (at : ℕ) (items : List ℕ) → at ≤ 256 → at ≤ length items → Copying source at items items 0 at
-copying-first source at items upTo within = record { size = refl; next = omega arith; upTo = upTo; within = within; front = λ x h. refl; copied = λ x h k. absurd (omega arith) }
-
-pub copying-next : (source : List ℕ) (at : ℕ) (before items : List ℕ) (i k : ℕ) → k < length before → k < 256 → Copying source at before items i k → Copying source at before (set items k (getD source i 0)) (i + 1) (k + 1)
-copying-next source at before items i k inside below c =
-    let next = c .next in
-    record {
-      size = length-set items k (getD source i 0) ∙ c .size;
-      next = omega arith;
-      upTo = omega arith;
-      within = omega arith;
-      front = λ x h. getD-set-other items k x (getD source i 0) 0 (λ e. omega arith) ∙ c .front x h;
-      copied = λ x from to. go x from to (decLt x k);
-    }
-  where
-    go : (x : ℕ) → at ≤ x → x < k + 1 → Dec (x < k) → getD (set items k (getD source i 0)) x 0 ≡ getD source (x - at) 0
-    go x from to (yes less) = getD-set-other items k x (getD source i 0) 0 (λ e. omega arith) ∙ c .copied x from less
-    go x from to (no last) =
-        let next = c .next in
-        let same : x ≡ k = omega arith in
-        let place : x - at ≡ i = omega arith in
-        let size = c .size in
-        rw (place, same) (getD-set-same items k (getD source i 0) 0 (omega arith))
-
--- all of `count` entries are copied, or 256 places are full
-pub record Copied (source : List ℕ) (count at : ℕ) (before items : List ℕ) (k : ℕ) : Type 0 where
-  pub number : ℕ
-  pub copying : Copying source at before items number k
-  pub fewer : number ≤ count
-  pub all : (count ≤ number) ⊎ (256 ≤ k)
-
--- the table once the rest, which was merged in a second slice, is copied back
-module _ (s : ℕ) (more es : List ℕ) {before items : List ℕ} {i j : ℕ} (m : Merge s more es before items i j j) {spare last : List ℕ} {n k : ℕ} (t : TableIn (enter s (drop i more) (drop j es)) spare n) (c : Copied spare n j items last k) where
-  left : length (enter s more es) ≡ j + length (enter s (drop i more) (drop j es))
-  left =
-      let reached = m .reached in
-      let part = length-drop j (enter s more es) in
-      let same = ap length (m .rest) in
-      omega arith
-
-  number-is : k ≡ length (take 256 (enter s more es))
-  number-is =
-      let next = c .copying .next in
-      let upTo = c .copying .upTo in
-      let fewer = c .fewer in
-      let all = left in
-      let count = t .count-is ∙ length-take 256 (enter s (drop i more) (drop j es)) in
-      ⊎-elim (λ done. omega arith) (λ full. omega arith) (c .all) ∙ sym (length-take 256 (enter s more es))
-
-  entry-is : (x : ℕ) → x < k → Dec (x < j) → getD last x 0 ≡ getD (enter s more es) x 0
-  entry-is x h (yes less) = c .copying .front x less ∙ m .written .front x less
-  entry-is x h (no past) =
-      let next = c .copying .next in
-      let upTo = c .copying .upTo in
-      let fewer = c .fewer in
-      let at : j + (x - j) ≡ x = omega arith in
-      c .copying .copied x (omega arith) h
-      ∙ sym (getD-take n spare (x - j) 0 (omega arith))
-      ∙ ap (λ (l : List ℕ). getD l (x - j) 0) (t .entries)
-      ∙ getD-take 256 (enter s (drop i more) (drop j es)) (x - j) 0 (omega arith)
-      ∙ ap (λ (l : List ℕ). getD l (x - j) 0) (sym (m .rest))
-      ∙ getD-drop j (enter s more es) (x - j) 0
-      ∙ ap (λ (p : ℕ). getD (enter s more es) p 0) at
-
-  pub enter-copied : TableIn (enter s more es) last k
-  enter-copied =
-      let within = c .copying .within in
-      let size = c .copying .size in
-      table-written (enter s more es) last last k (omega arith) (record { size = refl; front = λ x h. entry-is x h (decLt x j); back = λ x h. refl }) number-is
+        pub enter-copied : CopyFits count old before → TableIn (enter subset more es) last k
+        enter-copied room =
+            let fits = rest-fits room in
+            let upTo = fits .1 in
+            let within = fits .2 .1 in
+            let next = c .next in
+            let size = c .size in
+            let number = rest-merged .number in
+            let all = left-is in
+            let cut = length-take 256 (enter subset more es) in
+            let inside = copy-room n j (min n (256 - j)) items (fits .2 .0) within (omega arith) (omega arith) in
+            table-written (enter subset more es) last last k (omega arith) (record { size = refl; front = λ x h. entry-is x h (decLt x j); back = λ x h. refl }) (omega arith)

@@ -42,3 +42,7 @@ ListFits count list = (i : ℕ) → i < count → i * 2 + 3 ≤ length list
 -- a slice with room for the attributes that so many bytes can list, two bytes each, up to 256
 abbrev pub RoomFor : ℕ → List ℕ → Type 0
 RoomFor size slice = (k : ℕ) → k ≤ 256 → k * 2 ≤ size → k ≤ length slice
+
+-- and one with room for a list of at most 255 attributes besides 256 entries
+abbrev pub SpareFor : ℕ → List ℕ → Type 0
+SpareFor size slice = (k : ℕ) → k ≤ 511 → k * 2 ≤ size → k ≤ length slice

@@ -1,33 +1,33 @@
--- How a list is entered, entry by entry.
-use Prim.Native.Nat.{ℕ, suc, _+_, _-_, _*_, _/_, _≤_, _<_}
+-- How a list is entered: runs of earlier entries, and an entry for each listed attribute.
+use Prim.Native.Nat.{ℕ, zero, suc, _+_, _-_, _*_, _/_, _≤_, _<_}
 use mathlib.Core.Path.{_≡_, refl, sym, ap, _∙_}
-use mathlib.Core.List.{List, [], _∷_}
-use mathlib.Core.Logic.{_⊎_, inl, inr}
+use mathlib.Core.Bool.{Bool, true, false, cond}
+use mathlib.Core.List.{List, [], _∷_, _++_}
 use native.Mathlib.Decide.{decLt}
 use native.Mathlib.Numerals.{add-one}
 use native.Mathlib.Omega.{arith}
 use lib.Bits.{bitOr}
-use lib.ListN.{length, getD, set, take, drop, length-drop, drop-of-length-le}
-use lib.Seq.{drop-cons, length-take-le, take-all, getD-take}
+use lib.ListN.{length, getD, set, take, drop, length-append, length-drop, drop-of-length-le, List·getD-append}
+use lib.Seq.{drop-cons, drop-drop, drop-at, length-take-le, getD-take, getD-drop, ext-getD}
 use Rattle.bits.specs.Part.{at-head}
 use Rattle.bits.specs.Word.{word}
 use Rattle.bits.specs.Tab.{tab, length-tab, getD-tab}
-use Rattle.bits.specs.Written.{Written, written-none, written-self, written-more}
-use Rattle.membership.specs.Entries.{entry, attributeOf, enter, ListFits, TableIn}
+use Rattle.bits.specs.Written.{Written, written-none, written-more}
+use Rattle.membership.specs.Entries.{entry, attributeOf, enter, ListFits}
 use Rattle.membership.specs.EnterLaws.{enter-none, enter-first, enter-lower, enter-higher, enter-equal}
-use Rattle.membership.specs.TableLaws.{table-written}
+use Rattle.membership.specs.Runs.{Lower, Passed, Copying, copying-part, hasEntry, has-entry, no-entry}
 
--- a list of bytes and so many earlier entries that are merged, and a slice with room for what comes of it, up to 256 entries
-pub record Enters (list : List ℕ) (count : ℕ) (earlier : List ℕ) (old : ℕ) (items : List ℕ) : Type 0 where
+-- a list of bytes, and so many earlier entries that are merged with it
+pub record Enters (list : List ℕ) (count : ℕ) (earlier : List ℕ) (old : ℕ) : Type 0 where
   pub few : count ≤ 255
   pub fits : ListFits count list
   pub most : old ≤ 256
   pub enough : old ≤ length earlier
-  pub room : (k : ℕ) → k < 256 → k < count + old → k < length items
 
--- in another slice of that length
-pub enters-in : {list : List ℕ} {count : ℕ} {earlier : List ℕ} {old : ℕ} {items others : List ℕ} → length others ≡ length items → Enters list count earlier old items → Enters list count earlier old others
-enters-in same e = record { few = e .few; fits = e .fits; most = e .most; enough = e .enough; room = λ k few less. let inside = e .room k few less in omega arith }
+-- so many entries stand at the front of the slice
+pub record Merged (entries slice : List ℕ) (n : ℕ) : Type 0 where
+  pub number : n ≡ length entries
+  pub stands : take n slice ≡ entries
 
 -- k entries are written, and what is left comes from place i of the list and place j of the earlier entries
 pub record Merge (s : ℕ) (more es before items : List ℕ) (i j k : ℕ) : Type 0 where
@@ -41,16 +41,92 @@ pub record Merge (s : ℕ) (more es before items : List ℕ) (i j k : ℕ) : Typ
 pub merge-first : (s : ℕ) (more es items : List ℕ) → Merge s more es items items 0 0 0
 merge-first s more es items = record { listed = omega arith; earlier = omega arith; reached = omega arith; fewer = omega arith; written = written-none _ items; rest = refl }
 
--- a merge that goes on from what it has written
-pub merge-self : (s : ℕ) (more es before items : List ℕ) (i j k : ℕ) → Merge s more es before items i j k → Merge s more es items items i j k
-merge-self s more es before items i j k a = record { listed = a .listed; earlier = a .earlier; reached = a .reached; fewer = a .fewer; written = written-self _ k before items (a .written); rest = a .rest }
+-- ---- a run of earlier entries
 
--- ---- one entry
+-- an entry comes before the attributes of a list, which rise
+abbrev Leads : ℕ → List ℕ → Type 0
+Leads e [] = Unit {0}
+Leads e (a ∷ more) = attributeOf e < a
 
-module _ (s : ℕ) (more es before items : List ℕ) (i j k : ℕ) (inside : k < length before) (m : Merge s more es before items i j k) where
+enter-next : (s : ℕ) (more : List ℕ) (e : ℕ) (es : List ℕ) → Leads e more → enter s more (e ∷ es) ≡ e ∷ enter s more es
+enter-next s [] e es h = rw (enter-none s (e ∷ es), enter-none s es)
+enter-next s (a ∷ more) e es h = enter-higher s a more e es h
+
+enter-run : (s d : ℕ) (more es : List ℕ) → d ≤ length es → ((x : ℕ) → x < d → Leads (getD es x 0) more) → enter s more es ≡ take d es ++ enter s more (drop d es)
+enter-run s zero more es h low = refl
+enter-run s (suc d) more [] h low = absurd (omega arith)
+enter-run s (suc d) more (e ∷ es) h low =
+    enter-next s more e es (low 0 (omega arith))
+    ∙ ap (λ (l : List ℕ). e ∷ l) (enter-run s d more es (omega arith) (λ x less. low (suc x) (omega arith)))
+
+module _ {s : ℕ} {more es before items : List ℕ} {i j k : ℕ} (m : Merge s more es before items i j k) where
+  module _ {next : List ℕ} {j′ k′ : ℕ} (inside : j′ ≤ length es) (low : (x : ℕ) → j ≤ x → x < j′ → Leads (getD es x 0) (drop i more)) (c : Copying es j k items next j′ k′) where
+    module _ (d : ℕ) (j-is : j′ ≡ j + d) (k-is : k′ ≡ k + d) where
+      part : length (take d (drop j es)) ≡ d
+      part = length-take-le d (drop j es) (let size = length-drop j es in omega arith)
+
+      whole : drop k (enter s more es) ≡ take d (drop j es) ++ enter s (drop i more) (drop d (drop j es))
+      whole =
+          m .rest
+          ∙ enter-run s d (drop i more) (drop j es) (let size = length-drop j es in omega arith)
+          (λ x less. rw (getD-drop j es x 0) (low (j + x) (omega arith) (omega arith)))
+
+      front : (x : ℕ) → x < k′ → Dec (x < k) → getD next x 0 ≡ getD (enter s more es) x 0
+      front x h (yes less) = c .front x less ∙ m .written .front x less
+      front x h (no past) =
+          let at : k + (x - k) ≡ x = omega arith in
+          let size = part in
+          c .copied x (omega arith) h
+          ∙ sym (getD-drop j es (x - k) 0)
+          ∙ sym (getD-take d (drop j es) (x - k) 0 (omega arith))
+          ∙ sym (List·getD-append (take d (drop j es)) (enter s (drop i more) (drop d (drop j es))) 0 (x - k) (omega arith))
+          ∙ ap (λ (l : List ℕ). getD l (x - k) 0) (sym whole)
+          ∙ getD-drop k (enter s more es) (x - k) 0
+          ∙ ap (λ (p : ℕ). getD (enter s more es) p 0) at
+
+      run-of : Merge s more es before next i j′ k′
+      run-of =
+          let size = part in
+          let left = length-drop k (enter s more es) in
+          let both = ap length whole ∙ length-append (take d (drop j es)) (enter s (drop i more) (drop d (drop j es))) in
+          let reached = m .reached in
+          let fewer = m .fewer in
+          record {
+            listed = m .listed;
+            earlier = inside;
+            reached = omega arith;
+            fewer = omega arith;
+            written = record {
+              size = c .size ∙ m .written .size;
+              front = λ x h. front x h (decLt x k);
+              back = λ x h. c .back x h ∙ m .written .back x (omega arith);
+            };
+            rest =
+                ap (λ (p : ℕ). drop p (enter s more es)) k-is
+                ∙ sym (drop-drop d k (enter s more es))
+                ∙ ap (drop d) whole
+                ∙ drop-at (take d (drop j es)) (enter s (drop i more) (drop d (drop j es))) d size
+                ∙ ap (enter s (drop i more)) (drop-drop d j es ∙ ap (λ (p : ℕ). drop p es) (sym j-is));
+          }
+
+    -- the entries from j on that come before the next listed attribute are copied
+    merge-run : Merge s more es before next i j′ k′
+    merge-run = let begun = c .begun in let number = c .next in run-of (j′ - j) (omega arith) (omega arith)
+
+  -- those below the next listed attribute
+  pub merge-lower : {next : List ℕ} {j′ k′ : ℕ} → i < length more → j′ ≤ length es → ((x : ℕ) → j ≤ x → x < j′ → getD es x 0 < getD more i 0 * 256) → Copying es j k items next j′ k′ → Merge s more es before next i j′ k′
+  merge-lower hi inside low c =
+      merge-run inside (λ x above under. rw (drop-cons more i 0 hi) (let less = low x above under in omega arith)) c
+
+  -- all of them, after the last listed attribute
+  merge-rest : {next : List ℕ} {k′ : ℕ} → length more ≤ i → Copying es j k items next (length es) k′ → Merge s more es before next i (length es) k′
+  merge-rest past c = merge-run (omega arith) (λ x above under. rw (drop-of-length-le more past) tt) c
+
+  -- ---- one entry
+
   -- it is what follows begins with
-  one-more : (v i′ j′ : ℕ) → i′ ≤ length more → j′ ≤ length es → i + j < i′ + j′ → enter s (drop i more) (drop j es) ≡ v ∷ enter s (drop i′ more) (drop j′ es) → Merge s more es before (set items k v) i′ j′ (k + 1)
-  one-more v i′ j′ hi hj on first =
+  one-more : (v i′ j′ : ℕ) → k < length before → i′ ≤ length more → j′ ≤ length es → i + j < i′ + j′ → enter s (drop i more) (drop j es) ≡ v ∷ enter s (drop i′ more) (drop j′ es) → Merge s more es before (set items k v) i′ j′ (k + 1)
+  one-more v i′ j′ room hi hj on first =
       let here = at-head (enter s more es) k 0 _ _ (m .rest ∙ first) in
       let size = m .written .size in
       let fewer = m .fewer in
@@ -63,38 +139,37 @@ module _ (s : ℕ) (more es before items : List ℕ) (i j k : ℕ) (inside : k <
         rest = rw (add-one k) (here .rest);
       }
 
-  module _ (hi : i < length more) (hj : j < length es) where
-    pub merge-lower : getD more i 0 < attributeOf (getD es j 0) → Merge s more es before (set items k (entry (getD more i 0) s)) (i + 1) j (k + 1)
-    merge-lower l = one-more _ (i + 1) j (omega arith) (omega arith) (omega arith) (rw (add-one i, drop-cons more i 0 hi, drop-cons es j 0 hj) (enter-lower s (getD more i 0) (drop (suc i) more) (getD es j 0) (drop (suc j) es) l))
+  module _ (room : k < length before) (hi : i < length more) where
+    -- of the next listed attribute, where the next earlier entry has a higher one
+    merge-new : (j < length es → getD more i 0 < attributeOf (getD es j 0)) → Merge s more es before (set items k (entry (getD more i 0) s)) (i + 1) j (k + 1)
+    merge-new above = let hj = m .earlier in one-more _ (i + 1) j room (omega arith) hj (omega arith) (go (decLt j (length es)))
+      where
+        go : Dec (j < length es) → enter s (drop i more) (drop j es) ≡ entry (getD more i 0) s ∷ enter s (drop (i + 1) more) (drop j es)
+        go (yes hj) = rw (add-one i, drop-cons more i 0 hi, drop-cons es j 0 hj) (enter-lower s (getD more i 0) (drop (suc i) more) (getD es j 0) (drop (suc j) es) (above hj))
+        go (no past) = rw (add-one i, drop-cons more i 0 hi, drop-of-length-le es {i = j} (omega arith)) (enter-first s (getD more i 0) (drop (suc i) more))
 
-    pub merge-higher : attributeOf (getD es j 0) < getD more i 0 → Merge s more es before (set items k (getD es j 0)) i (j + 1) (k + 1)
-    merge-higher l = one-more _ i (j + 1) (omega arith) (omega arith) (omega arith) (rw (add-one j, drop-cons more i 0 hi, drop-cons es j 0 hj) (enter-higher s (getD more i 0) (drop (suc i) more) (getD es j 0) (drop (suc j) es) l))
+    -- and where it has the same
+    pub merge-equal : j < length es → getD more i 0 ≡ attributeOf (getD es j 0) → Merge s more es before (set items k (bitOr (getD es j 0) s)) (i + 1) (j + 1) (k + 1)
+    merge-equal hj same = one-more _ (i + 1) (j + 1) room (omega arith) (omega arith) (omega arith) (rw (add-one i, add-one j, drop-cons more i 0 hi, drop-cons es j 0 hj) (enter-equal s (getD more i 0) (drop (suc i) more) (getD es j 0) (drop (suc j) es) same))
 
-    pub merge-equal : getD more i 0 ≡ attributeOf (getD es j 0) → Merge s more es before (set items k (bitOr (getD es j 0) s)) (i + 1) (j + 1) (k + 1)
-    merge-equal l = one-more _ (i + 1) (j + 1) (omega arith) (omega arith) (omega arith) (rw (add-one i, add-one j, drop-cons more i 0 hi, drop-cons es j 0 hj) (enter-equal s (getD more i 0) (drop (suc i) more) (getD es j 0) (drop (suc j) es) l))
+  -- both are used up: all entries are written
+  merge-end : length more ≤ i → length es ≤ j → k ≤ length before → Merged (enter s more es) items k
+  merge-end hi hj room =
+      let empty : drop k (enter s more es) ≡ [] = m .rest ∙ rw (drop-of-length-le more {i = i} hi, drop-of-length-le es {i = j} hj, enter-none s []) in
+      let left = length-drop k (enter s more es) in
+      let none = ap length empty in
+      let reached = m .reached in
+      let same = m .written .size in
+      let number : k ≡ length (enter s more es) = omega arith in
+      let front = length-take-le k items (omega arith) in
+      record {
+        number = number;
+        stands = ext-getD 0 (take k items) (enter s more es) (front ∙ number) (λ x h. let below : x < k = omega arith in getD-take k items x 0 below ∙ m .written .front x below);
+      }
 
-  -- one of the two is used up
-  pub merge-listed : i < length more → length es ≤ j → Merge s more es before (set items k (entry (getD more i 0) s)) (i + 1) j (k + 1)
-  merge-listed hi past = one-more _ (i + 1) j (omega arith) (m .earlier) (omega arith) (rw (add-one i, drop-cons more i 0 hi, drop-of-length-le es past) (enter-first s (getD more i 0) (drop (suc i) more)))
+-- ---- over a list of bytes and a slice of earlier entries
 
-  pub merge-copied : length more ≤ i → j < length es → Merge s more es before (set items k (getD es j 0)) i (j + 1) (k + 1)
-  merge-copied past hj = one-more _ i (j + 1) (m .listed) (omega arith) (omega arith) (rw (add-one j, drop-cons es j 0 hj, drop-of-length-le more past, enter-none s (getD es j 0 ∷ drop (suc j) es), enter-none s (drop (suc j) es)))
-
--- the entries are all written, or 256 of them
-pub merge-end : (s : ℕ) (more es before items : List ℕ) (i j k : ℕ) → k ≤ 256 → k ≤ length before → Merge s more es before items i j k → (256 ≤ k) ⊎ (length more + length es ≤ i + j) → TableIn (enter s more es) items k
-merge-end s more es before items i j k most inside m (inl full) = let r = m .reached in table-written (enter s more es) before items k inside (m .written) (let least = length-take-le 256 (enter s more es) (omega arith) in omega arith)
-merge-end s more es before items i j k most inside m (inr past) =
-    let hi = m .listed in
-    let hj = m .earlier in
-    let empty : drop k (enter s more es) ≡ [] = m .rest ∙ rw (drop-of-length-le more {i = i} (omega arith), drop-of-length-le es {i = j} (omega arith), enter-none s []) in
-    let size = length-drop k (enter s more es) in
-    let left = ap length empty in
-    let r = m .reached in
-    table-written (enter s more es) before items k inside (m .written) (let whole = ap length (take-all 256 (enter s more es) (omega arith)) in omega arith)
-
--- ---- the loops over a list of bytes and a slice of earlier entries
-
-module _ {list : List ℕ} {count : ℕ} {earlier : List ℕ} {old : ℕ} {slice : List ℕ} (subset : ℕ) (e : Enters list count earlier old slice) where
+module _ {list : List ℕ} {count : ℕ} {earlier : List ℕ} {old : ℕ} (subset : ℕ) (e : Enters list count earlier old) where
   -- the attributes of the list, two bytes each after its count byte, and the earlier entries
   abbrev pub more : List ℕ
   more = tab count (λ x. word list (x * 2 + 1))
@@ -102,13 +177,13 @@ module _ {list : List ℕ} {count : ℕ} {earlier : List ℕ} {old : ℕ} {slice
   abbrev pub es : List ℕ
   es = take old earlier
 
-  listed-size : length more ≡ count
+  pub listed-size : length more ≡ count
   listed-size = length-tab count (λ x. word list (x * 2 + 1))
 
-  earlier-size : length es ≡ old
+  pub earlier-size : length es ≡ old
   earlier-size = length-take-le old earlier (e .enough)
 
-  module _ {items : List ℕ} {i j k : ℕ} (m : Merge subset more es slice items i j k) where
+  module _ {slice items : List ℕ} {i j k : ℕ} (m : Merge subset more es slice items i j k) where
     pub bounds : (i ≤ count) × (j ≤ old) × (k ≤ i + j) × (length items ≡ length slice)
     bounds =
         let i-most = m .listed in
@@ -117,64 +192,45 @@ module _ {list : List ℕ} {count : ℕ} {earlier : List ℕ} {old : ℕ} {slice
         let earlier = earlier-size in
         (omega arith, omega arith, m .fewer, m .written .size)
 
-    -- there is room for one entry more
-    pub room-for : k < 256 → i + j < count + old → k < length slice
-    room-for few less = let b = bounds in let fewer = b .2 in e .room k few (omega arith)
+    pub merge-copied : {a place k′ : ℕ} {next : List ℕ} → i < count → a ≡ word list (i * 2 + 1) → Passed earlier j old (a * 256) place → Copying earlier j k items next place k′ → Merge subset more es slice next i place k′
+    merge-copied {a} {place} hi is p c =
+        let s = listed-size in
+        let t = earlier-size in
+        let upTo = p .lower .upTo in
+        let here : getD more i 0 ≡ a = getD-tab count (λ x. word list (x * 2 + 1)) i 0 hi ∙ sym is in
+        merge-lower m (omega arith) (omega arith)
+        (λ x above under. rw (here, getD-take old earlier x 0 (omega arith)) (p .lower .below x above under))
+        (copying-part old upTo c)
 
-    module _ (few : k < 256) (hi : i < count) (hj : j < old) where
-      i-in : i < length more
-      i-in = let s = listed-size in omega arith
-
-      j-in : j < length es
-      j-in = let s = earlier-size in omega arith
-
-      inside : k < length slice
-      inside = room-for few (omega arith)
-
-      listed-is : getD more i 0 ≡ word list (i * 2 + 1)
-      listed-is = getD-tab count (λ x. word list (x * 2 + 1)) i 0 hi
-
-      earlier-is : getD es j 0 ≡ getD earlier j 0
-      earlier-is = getD-take old earlier j 0 hj
-
-      pub enter-listed : {a : ℕ} → a ≡ word list (i * 2 + 1) → a < getD earlier j 0 / 256 → Merge subset more es slice (set items k (a * 256 + subset)) (i + 1) j (k + 1)
-      enter-listed is l = rw (is, ← listed-is) (merge-lower subset more es slice items i j k inside m i-in j-in (rw (listed-is, earlier-is, ← is) l))
-
-      pub enter-earlier : {a : ℕ} → a ≡ word list (i * 2 + 1) → getD earlier j 0 / 256 < a → Merge subset more es slice (set items k (getD earlier j 0)) i (j + 1) (k + 1)
-      enter-earlier is l = rw (← earlier-is) (merge-higher subset more es slice items i j k inside m i-in j-in (rw (listed-is, earlier-is, ← is) l))
-
-      pub enter-both : {a : ℕ} → a ≡ word list (i * 2 + 1) → getD earlier j 0 / 256 ≤ a → a ≤ getD earlier j 0 / 256 → Merge subset more es slice (set items k (bitOr (getD earlier j 0) subset)) (i + 1) (j + 1) (k + 1)
-      enter-both is l r = rw (← earlier-is) (merge-equal subset more es slice items i j k inside m i-in j-in (rw (listed-is, earlier-is, ← is) (omega arith)))
-
-    pub append-listed : {a : ℕ} → k < 256 → i < count → old ≤ j → a ≡ word list (i * 2 + 1) → Merge subset more es slice (set items k (a * 256 + subset)) (i + 1) j (k + 1)
-    append-listed few hi past is =
-        let s = earlier-size in
-        let t = listed-size in
-        let b = bounds in
-        let most = b .1 in
-        rw (is, ← getD-tab count (λ x. word list (x * 2 + 1)) i 0 hi) (merge-listed subset more es slice items i j k (room-for few (omega arith)) m (omega arith) (omega arith))
-
-    pub copy-earlier : k < 256 → count ≤ i → j < old → Merge subset more es slice (set items k (getD earlier j 0)) i (j + 1) (k + 1)
-    copy-earlier few past hj =
-        let s = earlier-size in
-        let t = listed-size in
-        let b = bounds in
-        let most = b .0 in
-        rw (← getD-take old earlier j 0 hj) (merge-copied subset more es slice items i j k (room-for few (omega arith)) m (omega arith) (omega arith))
-
-    pub enter-end : k ≤ 256 → (256 ≤ k) ⊎ ((count ≤ i) × (old ≤ j)) → TableIn (enter subset more es) items k
-    enter-end most all =
-        let s = earlier-size in
-        let t = listed-size in
-        merge-end subset more es slice items i j k most (fits all) m (ends all)
+    pub merge-entered : {a r : ℕ} {next : List ℕ} → i < count → a ≡ word list (i * 2 + 1) → (j < old → a * 256 ≤ getD earlier j 0) → k < length slice → r ≡ cond (hasEntry earlier j old a) (j + 1) j → next ≡ set items k (cond (hasEntry earlier j old a) (bitOr (getD earlier j 0) subset) (entry a subset)) → Merge subset more es slice next (i + 1) r (k + 1)
+    merge-entered {a} hi is stop room r-is next-is = rw (r-is, next-is) (go (hasEntry earlier j old a) refl)
       where
-        ends : (256 ≤ k) ⊎ ((count ≤ i) × (old ≤ j)) → (256 ≤ k) ⊎ (length more + length es ≤ i + j)
-        ends (inl full) = inl full
-        ends (inr past) = let s = earlier-size in let t = listed-size in let l = past .0 in let r = past .1 in inr (omega arith)
+        here : getD more i 0 ≡ a
+        here = getD-tab count (λ x. word list (x * 2 + 1)) i 0 hi ∙ sym is
 
-        fits : (256 ≤ k) ⊎ ((count ≤ i) × (old ≤ j)) → k ≤ length slice
-        fits all = go (decLt 0 k)
+        i-in : i < length more
+        i-in = let s = listed-size in omega arith
+
+        go : (t : Bool) → hasEntry earlier j old a ≡ t → Merge subset more es slice (set items k (cond t (bitOr (getD earlier j 0) subset) (entry a subset))) (i + 1) (cond t (j + 1) j) (k + 1)
+        go true h =
+            let has = has-entry earlier j old a h in
+            let size = earlier-size in
+            let at = getD-take old earlier j 0 (has .0) in
+            rw (← at) (merge-equal m room i-in (omega arith) (here ∙ sym (has .1) ∙ rw at))
+        go false h =
+            let size = earlier-size in
+            rw (← here) (merge-new m room i-in (λ inside. let hj : j < old = omega arith in let least = stop hj in let other = no-entry earlier j old a h hj in rw (here, getD-take old earlier j 0 hj) (above a (getD earlier j 0) least other)))
           where
-            go : Dec (0 < k) → k ≤ length slice
-            go (yes some) = let b = bounds in let i-most = b .0 in let j-most = b .1 in let fewer = b .2 in let last = e .room (k - 1) (omega arith) (omega arith) in omega arith
-            go (no none) = omega arith
+            above : (a v : ℕ) → a * 256 ≤ v → (v / 256 ≡ a → ⊥) → a < v / 256
+            above a v least other = omega arith
+
+    pub merge-all : {n : ℕ} {next : List ℕ} → count ≤ i → count + old ≤ length slice → Copying earlier j k items next old n → Merged (enter subset more es) next n
+    merge-all {n} {next} past room c =
+        let s = listed-size in
+        let t = earlier-size in
+        let b = bounds in
+        let i-most = b .0 in
+        let j-most = b .1 in
+        let fewer = b .2 in
+        let number = c .next in
+        merge-end (merge-rest m (omega arith) (rw t (copying-part old (omega arith) c))) (omega arith) (omega arith) (omega arith)

@@ -1,13 +1,17 @@
 // Entering a list of attributes into a table in place.
 ghost use mathlib.Core.Path.{_≡_};
-ghost use Prim.Native.Nat.{_+_, _*_, _≤_};
+ghost use Prim.Native.Nat.{_+_, _-_, _*_, _≤_, min};
 ghost use lib.ListN.{length, take};
 ghost use Rattle.bits.specs.Tab.{tab};
 ghost use Rattle.bits.specs.Word.{word};
 ghost use Rattle.membership.specs.Entries.{enter as entries, TableIn};
+ghost use Rattle.membership.specs.Runs.{Copying};
 ghost use Rattle.membership.specs.Merging.{Enters, Merge};
-ghost use Rattle.membership.specs.Entering.{CopyFits, Copied};
+ghost use Rattle.membership.specs.Entering.{CopyFits};
 use crate::merging::merge_into;
+use crate::runs::copy_run;
+use crate::runs::has_entry;
+use crate::runs::pass_lower;
 
 // How far marking has come: listed attributes that have an entry, and entries that are looked at.
 pub struct Marked {
@@ -17,28 +21,23 @@ pub struct Marked {
 
 // Adds the subset to the entries of the listed attributes, up to the first attribute that has none.
 fn mark(list: &[u8], count: usize, subset: u8, items: &mut [u32], old: usize) -> Marked
-    requires { ⌜ Enters (now list) count (now items) old (now items) ⌝ }
+    requires { ⌜ Enters (now list) count (now items) old ⌝ }
     ensures { λ r. ⌜ Merge subset (tab count (λ x. word (now (list .entry)) (x * 2 + 1))) (take old (now (items .entry))) (now (items .entry)) (now (items .exit)) (r .listed) (r .passed) (r .passed) ⌝ }
 {
     let mut i = 0;
     let mut j = 0;
-    while i < count && j < old {
+    while i < count {
         let a = bits::word_at(list, i * 2 + 1) as u32;
-        let e = items[j];
-        let b = e / 256;
-        if a < b {
+        let place = pass_lower(items, j, old, a * 256);
+        if !has_entry(items, place, old, a) {
             return Marked {
                 listed: i,
-                passed: j,
+                passed: place,
             };
         }
-        if b < a {
-            j += 1;
-        } else {
-            items[j] = e | subset as u32;
-            i += 1;
-            j += 1;
-        }
+        items[place] = items[place] | subset as u32;
+        i += 1;
+        j = place + 1;
     }
     Marked {
         listed: i,
@@ -50,16 +49,13 @@ fn mark(list: &[u8], count: usize, subset: u8, items: &mut [u32], old: usize) ->
 fn copy_entries(source: &[u32], count: usize, items: &mut [u32], at: usize) -> usize
     requires { ⌜ (count ≤ length (now source)) × (at ≤ 256) ⌝ }
     requires { ⌜ CopyFits count at (now items) × (at ≤ length (now items)) ⌝ }
-    ensures { λ k. ⌜ Copied (now (source .entry)) count at (now (items .entry)) (now (items .exit)) k ⌝ }
+    ensures { λ k. ⌜ Copying (now (source .entry)) 0 at (now (items .entry)) (now (items .exit)) (min count (256 - at)) k ⌝ }
 {
-    let mut k = at;
-    let mut i = 0;
-    while i < count && k < 256 {
-        items[k] = source[i];
-        i += 1;
-        k += 1;
+    let room = 256 - at;
+    if count < room {
+        return copy_run(source, 0, count, items, at);
     }
-    k
+    copy_run(source, 0, room, items, at)
 }
 
 // Enters the attributes of the list for the relations in the subset, and gives the number of the entries. From the
@@ -72,7 +68,8 @@ pub fn enter(
     old: usize,
     spare: &mut [u32],
 ) -> usize
-    requires { ⌜ Enters (now list) count (now items) old (now items) × Enters (now list) count (now items) old (now spare) ⌝ }
+    requires { ⌜ Enters (now list) count (now items) old ⌝ }
+    requires { ⌜ CopyFits count old (now items) × (count + old ≤ length (now spare)) ⌝ }
     ensures { λ r. ⌜ TableIn (entries subset (tab count (λ x. word (now (list .entry)) (x * 2 + 1))) (take old (now (items .entry)))) (now (items .exit)) r ⌝ }
 {
     let marked = mark(list, count, subset, items, old);

@@ -3,6 +3,7 @@
 mod entering;
 mod holders;
 mod merging;
+mod runs;
 
 pub use entering::enter;
 pub use holders::held_by;

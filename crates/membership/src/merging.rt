@@ -1,114 +1,40 @@
 // Merging a list of attributes with earlier entries: two rising sequences.
 ghost use mathlib.Core.Path.{_≡_};
-ghost use mathlib.Core.Logic.{_⊎_};
-ghost use Prim.Native.Nat.{_+_, _*_, _≤_};
-ghost use lib.ListN.{length, take};
+ghost use mathlib.Core.Bool.{cond};
+ghost use Prim.Native.Nat.{_+_, _*_, _≤_, _<_};
+ghost use lib.Bits.{bitOr};
+ghost use lib.ListN.{length, getD, set, take};
 ghost use Rattle.bits.specs.Tab.{tab};
 ghost use Rattle.bits.specs.Word.{word};
-ghost use Rattle.membership.specs.Entries.{enter as entries, TableIn};
-ghost use Rattle.membership.specs.Merging.{Enters, Merge};
+ghost use Rattle.membership.specs.Entries.{entry, enter as entries};
+ghost use Rattle.membership.specs.Runs.{hasEntry};
+ghost use Rattle.membership.specs.Merging.{Enters, Merged};
+use crate::runs::copy_lower;
+use crate::runs::copy_run;
+use crate::runs::has_entry;
 
-// How far a merge has come: listed attributes and earlier entries that are used up, and entries that are written.
-pub struct Reached {
-    pub listed: usize,
-    pub copied: usize,
-    pub entered: usize,
-}
-
-// Merges while there are both listed attributes and earlier entries, up to 256 entries.
-fn merge(
-    list: &[u8],
-    count: usize,
+// Writes the entry of an attribute at place k: the earlier entry with the subset where it has the attribute, and else a
+// new one. Gives the place of the next earlier entry.
+fn enter_one(
+    a: u32,
     subset: u8,
     earlier: &[u32],
+    place: usize,
     old: usize,
     items: &mut [u32],
-) -> Reached
-    requires { ⌜ Enters (now list) count (now earlier) old (now items) ⌝ }
-    ensures { λ r. ⌜ Merge subset (tab count (λ x. word (now (list .entry)) (x * 2 + 1))) (take old (now (earlier .entry))) (now (items .entry)) (now (items .exit)) (r .listed) (r .copied) (r .entered) ⌝ }
-    ensures { λ r. ⌜ (r .entered ≤ 256) × ((256 ≤ r .entered) ⊎ ((count ≤ r .listed) ⊎ (old ≤ r .copied))) ⌝ }
-{
-    let mut i = 0;
-    let mut j = 0;
-    let mut k = 0;
-    while k < 256 && i < count && j < old {
-        let a = bits::word_at(list, i * 2 + 1) as u32;
-        let e = earlier[j];
-        let b = e / 256;
-        if a < b {
-            items[k] = a * 256 + subset as u32;
-            i += 1;
-            k += 1;
-        } else if b < a {
-            items[k] = e;
-            j += 1;
-            k += 1;
-        } else {
-            items[k] = e | subset as u32;
-            i += 1;
-            j += 1;
-            k += 1;
-        }
-    }
-    Reached {
-        listed: i,
-        copied: j,
-        entered: k,
-    }
-}
-
-// Enters the rest of the list after the last of the earlier entries.
-fn append_listed(
-    list: &[u8],
-    count: usize,
-    subset: u8,
-    earlier: &[u32],
-    old: usize,
-    items: &mut [u32],
-    listed: usize,
-    copied: usize,
-    entered: usize,
+    k: usize,
 ) -> usize
-    requires { ⌜ Enters (now list) count (now earlier) old (now items) ⌝ }
-    requires { ⌜ Merge subset (tab count (λ x. word (now list) (x * 2 + 1))) (take old (now earlier)) (now items) (now items) listed copied entered ⌝ }
-    requires { ⌜ (entered ≤ 256) × (old ≤ copied) ⌝ }
-    ensures { λ r. ⌜ TableIn (entries subset (tab count (λ x. word (now (list .entry)) (x * 2 + 1))) (take old (now (earlier .entry)))) (now (items .exit)) r ⌝ }
+    requires { ⌜ (a < 65536) × (old ≤ 256) ⌝ }
+    requires { ⌜ (old ≤ length (now earlier)) × (k < length (now items)) ⌝ }
+    ensures { λ r. ⌜ r ≡ cond (hasEntry (now (earlier .entry)) place old a) (place + 1) place ⌝ }
+    ensures { λ r. ⌜ now (items .exit) ≡ set (now (items .entry)) k (cond (hasEntry (now (earlier .entry)) place old a) (bitOr (getD (now (earlier .entry)) place 0) subset) (entry a subset)) ⌝ }
 {
-    let mut i = listed;
-    let mut k = entered;
-    while k < 256 && i < count {
-        items[k] = bits::word_at(list, i * 2 + 1) as u32 * 256 + subset as u32;
-        i += 1;
-        k += 1;
+    if has_entry(earlier, place, old, a) {
+        items[k] = earlier[place] | subset as u32;
+        return place + 1;
     }
-    k
-}
-
-// Copies the rest of the earlier entries after the last of the list.
-fn copy_earlier(
-    list: &[u8],
-    count: usize,
-    subset: u8,
-    earlier: &[u32],
-    old: usize,
-    items: &mut [u32],
-    listed: usize,
-    copied: usize,
-    entered: usize,
-) -> usize
-    requires { ⌜ Enters (now list) count (now earlier) old (now items) ⌝ }
-    requires { ⌜ Merge subset (tab count (λ x. word (now list) (x * 2 + 1))) (take old (now earlier)) (now items) (now items) listed copied entered ⌝ }
-    requires { ⌜ (entered ≤ 256) × ((256 ≤ entered) ⊎ (count ≤ listed)) ⌝ }
-    ensures { λ r. ⌜ TableIn (entries subset (tab count (λ x. word (now (list .entry)) (x * 2 + 1))) (take old (now (earlier .entry)))) (now (items .exit)) r ⌝ }
-{
-    let mut j = copied;
-    let mut k = entered;
-    while k < 256 && j < old {
-        items[k] = earlier[j];
-        j += 1;
-        k += 1;
-    }
-    k
+    items[k] = a * 256 + subset as u32;
+    place
 }
 
 // Writes the entries once the relations in the subset hold the attributes of the list as well, and gives their number.
@@ -120,35 +46,20 @@ pub fn merge_into(
     old: usize,
     items: &mut [u32],
 ) -> usize
-    requires { ⌜ Enters (now list) count (now earlier) old (now items) ⌝ }
-    ensures { λ r. ⌜ TableIn (entries subset (tab count (λ x. word (now (list .entry)) (x * 2 + 1))) (take old (now (earlier .entry)))) (now (items .exit)) r ⌝ }
+    requires { ⌜ Enters (now list) count (now earlier) old ⌝ }
+    requires { ⌜ count + old ≤ length (now items) ⌝ }
+    ensures { λ n. ⌜ Merged (entries subset (tab count (λ x. word (now (list .entry)) (x * 2 + 1))) (take old (now (earlier .entry)))) (now (items .exit)) n ⌝ }
 {
-    let reached = merge(list, count, subset, earlier, old, items);
-    let listed = reached.listed;
-    let copied = reached.copied;
-    let entered = reached.entered;
-    if copied < old {
-        return copy_earlier(
-            list,
-            count,
-            subset,
-            earlier,
-            old,
-            items,
-            listed,
-            copied,
-            entered,
-        );
+    let mut i = 0;
+    let mut j = 0;
+    let mut k = 0;
+    while i < count {
+        let a = bits::word_at(list, i * 2 + 1) as u32;
+        let place = copy_lower(earlier, j, old, a * 256, items, k);
+        k += place - j;
+        j = enter_one(a, subset, earlier, place, old, items, k);
+        k += 1;
+        i += 1;
     }
-    append_listed(
-        list,
-        count,
-        subset,
-        earlier,
-        old,
-        items,
-        listed,
-        copied,
-        entered,
-    )
+    copy_run(earlier, j, old, items, k)
 }

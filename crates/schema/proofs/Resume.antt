@@ -20,9 +20,10 @@ use Rattle.type_record.specs.ListLaws.{listed-tab}
 use Rattle.type_record.specs.Record.{TypeRecord, readRecord, recordSize, recordAt}
 use Rattle.type_record.specs.RecordBytes.{size-some, size-most}
 use Rattle.type_record.specs.RecordReading.{ReadRecord, record-map, record-ordinary, record-read}
-use Rattle.membership.specs.Entries.{enter, ListFits, TableIn, RoomFor}
+use Rattle.membership.specs.Entries.{enter, ListFits, TableIn, RoomFor, SpareFor}
 use Rattle.membership.specs.EnterLaws.{enter-few}
 use Rattle.membership.specs.Merging.{Enters}
+use Rattle.membership.specs.Entering.{CopyFits}
 use Rattle.membership.specs.TableLaws.{table-none, table-few, table-least, table-reaches, table-count, table-full, table-all, enter-table}
 use Rattle.schema.specs.declared.reading.Judgement.the-variants.{Read, Refused}
 use Rattle.schema.specs.declared.reading.SchemaReading.{SchemaReading}
@@ -51,10 +52,6 @@ refused-free x entries items spare is = (λ read. absurd (never (sym (ap (λ (t 
   where
     never : Refused x ≡ Read → ⊥
     never same = let z : _≡_ {A = ℕ} 0 1 = cc in omega arith
-
--- room in a slice of the same length
-pub room-same : (size : ℕ) (slice others : List ℕ) → length others ≡ length slice → RoomFor size slice → RoomFor size others
-room-same size slice others same room k few fits = let enough = room k few fits in omega arith
 
 pub resumed-start : (m : ℕ) (bytes items : List ℕ) → Resumed m bytes (replicate 8 0) items 0 0 0
 unfolding entriesOf
@@ -114,31 +111,28 @@ module _ {m : ℕ} {bytes special items : List ℕ} {found at r : ℕ} (h : Resu
         let left = length-drop (at + 2) bytes in
         rw part-from (omega arith)
 
-    -- its list can be entered in a slice with room for the bytes
-    pub enters : (slice : List ℕ) → RoomFor (length bytes) slice → Enters (take (length bytes - (at + 2)) (drop (at + 2) bytes)) n items found slice
-    enters slice wide =
-        record {
-          few = record-fits .0;
-          fits = list-fits;
-          most = table-few (h .table);
-          enough = table-reaches (h .table);
-          room = λ k less under. room-in k less under (decLt 0 n);
-        }
+    -- its list can be entered
+    pub enters : Enters (take (length bytes - (at + 2)) (drop (at + 2) bytes)) n items found
+    enters = record { few = record-fits .0; fits = list-fits; most = table-few (h .table); enough = table-reaches (h .table) }
+
+    -- two bytes for each entry and each listed attribute
+    entries-short : (found + n) * 2 ≤ length bytes
+    entries-short = go (decLt 0 n)
       where
-        room-in : (k : ℕ) → k < 256 → k < n + found → Dec (0 < n) → k < length slice
-        room-in k less under (yes some) =
-            let least = table-least (h .table) in
-            let short = h .short in
-            let size = size-some n some in
-            let end = record-fits .2 in
-            let one = wide (k + 1) (omega arith) (omega arith) in
-            omega arith
-        room-in k less under (no none) =
-            let least = table-least (h .table) in
-            let short = h .short in
-            let inside = record-fits .1 in
-            let one = wide (k + 1) (omega arith) (omega arith) in
-            omega arith
+        go : Dec (0 < n) → (found + n) * 2 ≤ length bytes
+        go (yes some) = let least = table-least (h .table) in let short = h .short in let size = size-some n some in let end = record-fits .2 in omega arith
+        go (no none) = let least = table-least (h .table) in let short = h .short in let inside = record-fits .1 in omega arith
+
+    -- and there is room for them
+    pub copy-fits : (slice : List ℕ) → RoomFor (length bytes) slice → CopyFits n found slice
+    copy-fits slice wide k less under = let short = entries-short in let one = wide (k + 1) (omega arith) (omega arith) in omega arith
+
+    pub spare-fits : (slice : List ℕ) → SpareFor (length bytes) slice → n + found ≤ length slice
+    spare-fits slice wide =
+        let short = entries-short in
+        let few = record-fits .0 in
+        let most = table-few (h .table) in
+        wide (n + found) (omega arith) (omega arith)
 
     listed-is : tab n (λ x. word (take (length bytes - (at + 2)) (drop (at + 2) bytes)) (x * 2 + 1)) ≡ recordAt (drop at bytes) map n .ordinary
     listed-is =
@@ -234,7 +228,7 @@ module _ {m : ℕ} {bytes special items : List ℕ} {found at r : ℕ} (h : Resu
       rw is (ap₂ (λ (s : List ℕ) (n : ℕ). record { judgement = Read; special = s; count = n }) (h .maps) number, rw (← number) stands)
 
   -- a slice with room for the bytes has room for the entries
-  pub resumed-fits : found ≤ 255 → (slice : List ℕ) → RoomFor (length bytes) slice → found ≤ length slice
+  pub resumed-fits : found ≤ 255 → (slice : List ℕ) → SpareFor (length bytes) slice → found ≤ length slice
   resumed-fits under slice room =
       let least = table-least (h .table) in
       let short = h .short in

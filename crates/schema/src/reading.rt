@@ -2,7 +2,7 @@
 ghost use mathlib.Core.Path.{_≡_};
 ghost use Prim.Native.Nat.{_≤_};
 ghost use lib.ListN.{length};
-ghost use Rattle.membership.specs.Entries.{RoomFor};
+ghost use Rattle.membership.specs.Entries.{RoomFor, SpareFor};
 ghost use Rattle.schema.specs.Schema.{schemaReading, refusedSchema, readingOf, EntriesStand};
 use membership::enter;
 use refusal::Refusal;
@@ -38,7 +38,7 @@ fn refused(r: Refusal) -> SchemaReading
 // the second slice, is free.
 pub fn read_schema(bytes: &[u8], m: u8, items: &mut [u32], spare: &mut [u32]) -> SchemaReading
     requires { ⌜ m ≤ 8 ⌝ }
-    requires { ⌜ RoomFor (length (now bytes)) (now items) × RoomFor (length (now bytes)) (now spare) ⌝ }
+    requires { ⌜ RoomFor (length (now bytes)) (now items) × SpareFor (length (now bytes)) (now spare) ⌝ }
     ensures { λ s. ⌜ s ≡ readingOf (schemaReading m (now (bytes .entry))) ⌝ }
     ensures { λ s. ⌜ EntriesStand (s .judgement) (schemaReading m (now (bytes .entry)) .entries) (now (items .exit)) ⌝ }
     ensures { λ s. ⌜ s .count ≤ length (now (spare .exit)) ⌝ }

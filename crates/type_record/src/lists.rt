@@ -1,5 +1,6 @@
 // A list of ordinary attributes: "a count byte (1 to 255) and that many ordinary attributes follow, two bytes each, low first, rising".
 ghost use mathlib.Core.Path.{_≡_};
+ghost use Prim.Native.Nat.{min};
 ghost use Rattle.type_record.specs.Lists.{readList};
 use refusal::Refusal;
 
@@ -9,7 +10,15 @@ pub enum ListReading {
     Refused(Refusal),
 }
 
-// The list at the front of the bytes, which begin with its count byte.
+// The smaller of two numbers.
+fn lesser(a: usize, b: usize) -> usize
+    ensures { λ r. ⌜ r ≡ min a b ⌝ }
+{
+    if a < b { a } else { b }
+}
+
+// The list at the front of the bytes, which begin with its count byte. The loop goes over the attributes that are
+// complete in the bytes; an attribute that does not rise is refused before a later one that is cut off.
 pub fn read_list(bytes: &[u8]) -> ListReading
     ensures { λ r. ⌜ r ≡ readList (now (bytes .entry)) ⌝ }
 {
@@ -20,18 +29,19 @@ pub fn read_list(bytes: &[u8]) -> ListReading
     if count == 0 {
         return ListReading::Refused(Refusal::CountZero);
     }
+    let whole = lesser(count, (bytes.len() - 1) / 2);
     let mut previous = 15u16;
     let mut i = 0;
-    while i < count {
-        if bytes.len() < i * 2 + 3 {
-            return ListReading::Refused(Refusal::InputTruncated);
-        }
+    while i < whole {
         let a = bytes[i * 2 + 1] as u16 + bytes[i * 2 + 2] as u16 * 256;
         if a <= previous {
             return ListReading::Refused(Refusal::ListedAttribute);
         }
         previous = a;
         i += 1;
+    }
+    if whole < count {
+        return ListReading::Refused(Refusal::InputTruncated);
     }
     ListReading::Listed(count)
 }

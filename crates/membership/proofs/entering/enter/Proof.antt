@@ -1,5 +1,4 @@
-use Rattle.membership.specs.Entering.{marking-bounds, mark-all, rest-enters, rest-merged, rest-fits, enter-copied}
-use Rattle.membership.specs.TableLaws.{table-reaches}
+use Rattle.membership.specs.Entering.{marking-bounds, mark-all, rest-enters, rest-fits, enter-copied}
 use native.Mathlib.Omega.{arith}
 use borrow.Author.Needs.{needs}
 use Rattle.membership.proofs.entering.enter.Statement.{statement}
@@ -25,8 +24,7 @@ sub-merge-into c =
     let same = b .2 in
     let enough = c .before .before .before .before .before .before .before .before .pre .0 .enough in
     let most = c .before .before .before .before .before .before .before .before .pre .0 .most in
-    let more = c .if1 .left in
-    let fits = c .before .before .before .before .before .before .before .before .pre .0 .fits _ more in
+    let fits = c .before .before .before .before .before .before .before .before .pre .0 .fits _ (c .if1 .left) in
     omega arith
 
 part-merge-into-start : tie.Need-part-merge-into-start
@@ -37,8 +35,7 @@ part-merge-into-start c =
     let same = b .2 in
     let enough = c .before .before .before .before .before .before .before .before .pre .0 .enough in
     let most = c .before .before .before .before .before .before .before .before .pre .0 .most in
-    let more = c .if1 .left in
-    let fits = c .before .before .before .before .before .before .before .before .pre .0 .fits _ more in
+    let fits = c .before .before .before .before .before .before .before .before .pre .0 .fits _ (c .if1 .left) in
     omega arith
 
 part-merge-into-end : tie.Need-part-merge-into-end
@@ -55,7 +52,6 @@ mul-merge-into-2 c =
     let same = b .2 in
     let enough = c .before .before .before .before .before .before .before .before .before .pre .0 .enough in
     let most = c .before .before .before .before .before .before .before .before .before .pre .0 .most in
-    let more = c .before .if1 .left in
     omega arith
 
 sub-merge-into-3 : tie.Need-sub-merge-into-3
@@ -66,7 +62,6 @@ sub-merge-into-3 c =
     let same = b .2 in
     let enough = c .before .before .before .before .before .before .before .before .before .pre .0 .enough in
     let most = c .before .before .before .before .before .before .before .before .before .pre .0 .most in
-    let more = c .before .if1 .left in
     omega arith
 
 part-merge-into-start-2 : tie.Need-part-merge-into-start-2
@@ -77,7 +72,6 @@ part-merge-into-start-2 c =
     let same = b .2 in
     let enough = c .before .before .before .before .before .before .before .before .before .before .pre .0 .enough in
     let most = c .before .before .before .before .before .before .before .before .before .before .pre .0 .most in
-    let more = c .before .before .if1 .left in
     omega arith
 
 part-merge-into-end-2 : tie.Need-part-merge-into-end-2
@@ -91,22 +85,22 @@ sub-merge-into-4 c =
     let same = b .2 in
     let enough = c .before .before .before .before .before .before .before .before .before .before .before .pre .0 .enough in
     let most = c .before .before .before .before .before .before .before .before .before .before .before .pre .0 .most in
-    let more = c .before .before .before .if1 .left in
     omega arith
 
 merge-into-requires : tie.Need-merge-into-requires
-merge-into-requires c κs = rest-enters (c .before .before .before .before .before .before .before .before .before .before .before .before .args .subset) (c .before .before .before .before .before .before .before .before .before .before .before .before .pre .0) (c .before .before .before .before .before .before .before .mark .ensures) (c .before .before .before .before .before .before .before .before .before .before .before .before .pre .1)
-
-copy-entries-requires : tie.Need-copy-entries-requires
-copy-entries-requires c κs =
-    let b = marking-bounds (c .before .before .before .before .before .before .before .before .before .before .before .before .before .before .before .before .before .args .subset) (c .before .before .before .before .before .before .before .before .before .before .before .before .before .before .before .before .before .pre .0) (c .before .before .before .before .before .before .before .before .before .before .before .before .mark .ensures) in
+merge-into-requires c κs =
+    let b = marking-bounds (c .before .before .before .before .before .before .before .before .before .before .before .before .args .subset) (c .before .before .before .before .before .before .before .before .before .before .before .before .pre .0) (c .before .before .before .before .before .before .before .mark .ensures) in
     let upTo = b .0 in
     let passed = b .1 in
     let same = b .2 in
-    let enough = c .before .before .before .before .before .before .before .before .before .before .before .before .before .before .before .before .before .pre .0 .enough in
-    let most = c .before .before .before .before .before .before .before .before .before .before .before .before .before .before .before .before .before .pre .0 .most in
-    let more = c .before .before .before .before .before .before .before .before .before .if1 .left in
-    ((table-reaches (c .before .before .before .before .merge-into .ensures), omega arith), rest-fits (c .before .before .before .before .before .before .before .before .before .before .before .before .before .before .before .before .before .args .subset) (c .before .before .before .before .before .before .before .before .before .before .before .before .before .before .before .before .before .pre .0) (c .before .before .before .before .before .before .before .before .before .before .before .before .mark .ensures) (c .before .before .before .before .merge-into .ensures))
+    let enough = c .before .before .before .before .before .before .before .before .before .before .before .before .pre .0 .enough in
+    let most = c .before .before .before .before .before .before .before .before .before .before .before .before .pre .0 .most in
+    (rest-enters (c .before .before .before .before .before .before .before .before .before .before .before .before .args .subset) (c .before .before .before .before .before .before .before .before .before .before .before .before .pre .0) (c .before .before .before .before .before .before .before .mark .ensures), omega arith)
+
+copy-entries-requires : tie.Need-copy-entries-requires
+copy-entries-requires c κs =
+    let fits = rest-fits (c .before .before .before .before .before .before .before .before .before .before .before .before .before .before .before .before .before .args .subset) (c .before .before .before .before .before .before .before .before .before .before .before .before .before .before .before .before .before .pre .0) (c .before .before .before .before .before .before .before .before .before .before .before .before .mark .ensures) (c .before .before .before .before .merge-into .ensures) (c .before .before .before .before .before .before .before .before .before .before .before .before .before .before .before .before .before .pre .1 .0) in
+    ((fits .0, fits .1), fits .2)
 
 same-length-2 : tie.Need-same-length-2
 same-length-2 c = search needs
@@ -115,7 +109,7 @@ same-length-3 : tie.Need-same-length-3
 same-length-3 c = search needs
 
 returns-2 : tie.Need-returns-2
-returns-2 c = enter-copied _ _ _ (c .before .before .before .before .before .before .before .before .before .before .before .before .before .before .before .mark .ensures) (rest-merged (c .before .before .before .before .before .before .before .before .before .before .before .before .before .before .before .before .before .before .before .before .args .subset) (c .before .before .before .before .before .before .before .before .before .before .before .before .before .before .before .before .before .before .before .before .pre .0) (c .before .before .before .before .before .before .before .before .before .before .before .before .before .before .before .mark .ensures) (c .before .before .before .before .before .before .before .merge-into .ensures)) (c .before .before .copy-entries .ensures)
+returns-2 c = enter-copied (c .before .before .before .before .before .before .before .before .before .before .before .before .before .before .before .before .before .before .before .before .args .subset) (c .before .before .before .before .before .before .before .before .before .before .before .before .before .before .before .before .before .before .before .before .pre .0) (c .before .before .before .before .before .before .before .before .before .before .before .before .before .before .before .mark .ensures) (c .before .before .before .before .before .before .before .merge-into .ensures) (c .before .before .copy-entries .ensures) (c .before .before .before .before .before .before .before .before .before .before .before .before .before .before .before .before .before .before .before .before .pre .1 .0)
 
 pub enter-spec : {M : Type 1} → statement M
 enter-spec =

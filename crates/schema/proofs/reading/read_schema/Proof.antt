@@ -1,4 +1,4 @@
-use Rattle.schema.proofs.Resume.{Resumed, resumed-start, refused-free, room-same, resumed-refused, record-fits, enters, resumed-next, resumed-followed, resumed-over, resumed-end, resumed-fits}
+use Rattle.schema.proofs.Resume.{Resumed, resumed-start, refused-free, resumed-refused, record-fits, enters, copy-fits, spare-fits, resumed-next, resumed-followed, resumed-over, resumed-end, resumed-fits}
 use lib.ListN.{length}
 use native.Mathlib.Omega.{arith}
 use mathlib.Core.Path.{_≡_, refl, sym, _∙_}
@@ -87,7 +87,12 @@ shl-enter : tie.Need-shl-enter Inv-loop μ-loop
 shl-enter c = search needs
 
 enter-requires : tie.Need-enter-requires Inv-loop μ-loop
-enter-requires c κs = (enters (c .before .before .before .before .before .before .before .before .before .loop .inv .0) (λ x. omega (arith, c .before .before .before .before .before .before .before .before .before .before .before .before .shared-slice-known .given x)) (c .before .before .before .before .before .before .before .before .before .before .before .before .before .pre .0) (sym (c .before .before .before .before .before .before .read-record .ensures) ∙ c .before .before .before .before .map .given .1) (c .before .before .before .before .before .before .before .before .before .loop .items) (room-same (length (c .before .before .before .before .before .before .before .before .before .before .before .before .before .args .bytes .now)) (c .before .before .before .before .before .before .before .before .before .before .before .before .before .args .items .now) (c .before .before .before .before .before .before .before .before .before .loop .items) (c .before .before .before .before .before .before .before .before .before .loop .inv .1) (c .before .before .before .before .before .before .before .before .before .before .before .before .before .pre .1 .0)), enters (c .before .before .before .before .before .before .before .before .before .loop .inv .0) (λ x. omega (arith, c .before .before .before .before .before .before .before .before .before .before .before .before .shared-slice-known .given x)) (c .before .before .before .before .before .before .before .before .before .before .before .before .before .pre .0) (sym (c .before .before .before .before .before .before .read-record .ensures) ∙ c .before .before .before .before .map .given .1) (c .before .before .before .before .before .before .before .before .before .loop .spare) (room-same (length (c .before .before .before .before .before .before .before .before .before .before .before .before .before .args .bytes .now)) (c .before .before .before .before .before .before .before .before .before .before .before .before .before .args .spare .now) (c .before .before .before .before .before .before .before .before .before .loop .spare) (c .before .before .before .before .before .before .before .before .before .loop .inv .2) (c .before .before .before .before .before .before .before .before .before .before .before .before .before .pre .1 .1)))
+enter-requires c κs =
+    let items = c .before .before .before .before .before .before .before .before .before .loop .inv .1 in
+    let spare = c .before .before .before .before .before .before .before .before .before .loop .inv .2 in
+    let fits = copy-fits (c .before .before .before .before .before .before .before .before .before .loop .inv .0) (λ x. omega (arith, c .before .before .before .before .before .before .before .before .before .before .before .before .shared-slice-known .given x)) (c .before .before .before .before .before .before .before .before .before .before .before .before .before .pre .0) (sym (c .before .before .before .before .before .before .read-record .ensures) ∙ c .before .before .before .before .map .given .1) (c .before .before .before .before .before .before .before .before .before .before .before .before .before .args .items .now) (c .before .before .before .before .before .before .before .before .before .before .before .before .before .pre .1 .0) in
+    let room = spare-fits (c .before .before .before .before .before .before .before .before .before .loop .inv .0) (λ x. omega (arith, c .before .before .before .before .before .before .before .before .before .before .before .before .shared-slice-known .given x)) (c .before .before .before .before .before .before .before .before .before .before .before .before .before .pre .0) (sym (c .before .before .before .before .before .before .read-record .ensures) ∙ c .before .before .before .before .map .given .1) (c .before .before .before .before .before .before .before .before .before .before .before .before .before .args .spare .now) (c .before .before .before .before .before .before .before .before .before .before .before .before .before .pre .1 .1) in
+    (enters (c .before .before .before .before .before .before .before .before .before .loop .inv .0) (λ x. omega (arith, c .before .before .before .before .before .before .before .before .before .before .before .before .shared-slice-known .given x)) (c .before .before .before .before .before .before .before .before .before .before .before .before .before .pre .0) (sym (c .before .before .before .before .before .before .read-record .ensures) ∙ c .before .before .before .before .map .given .1), ((λ k less under. let inside = fits k less under in omega arith), omega arith))
 
 record-size-requires : tie.Need-record-size-requires Inv-loop μ-loop
 record-size-requires c κs = record-fits (c .before .before .before .before .before .before .before .before .before .before .before .before .before .before .loop .inv .0) (λ x. omega (arith, c .before .before .before .before .before .before .before .before .before .before .before .before .before .before .before .before .before .shared-slice-known .given x)) (c .before .before .before .before .before .before .before .before .before .before .before .before .before .before .before .before .before .before .pre .0) (sym (c .before .before .before .before .before .before .before .before .before .before .before .read-record .ensures) ∙ c .before .before .before .before .before .before .before .before .before .map .given .1) .0
@@ -142,7 +147,9 @@ same-length-8 c = c .before .before .before .loop .inv .2
 returns-4 : tie.Need-returns-4 Inv-loop μ-loop
 returns-4 c =
     let end = resumed-end (c .before .before .before .loop .inv .0) (λ x. omega (arith, c .before .before .before .before .before .before .shared-slice-known .given x)) (c .before .before .before .before .before .before .before .pre .0) (c .before .before .loop-test .left) (c .before .if1 .left) (c .if2 .left) in
-    (end .0, ((λ read. end .1), resumed-fits (c .before .before .before .loop .inv .0) (λ x. omega (arith, c .before .before .before .before .before .before .shared-slice-known .given x)) (c .before .before .before .before .before .before .before .pre .0) (c .if2 .left) (c .before .before .before .loop .spare) (room-same (length (c .before .before .before .before .before .before .before .args .bytes .now)) (c .before .before .before .before .before .before .before .args .spare .now) (c .before .before .before .loop .spare) (c .before .before .before .loop .inv .2) (c .before .before .before .before .before .before .before .pre .1 .1))))
+    let spare = c .before .before .before .loop .inv .2 in
+    let room = resumed-fits (c .before .before .before .loop .inv .0) (λ x. omega (arith, c .before .before .before .before .before .before .shared-slice-known .given x)) (c .before .before .before .before .before .before .before .pre .0) (c .if2 .left) (c .before .before .before .before .before .before .before .args .spare .now) (c .before .before .before .before .before .before .before .pre .1 .1) in
+    (end .0, ((λ read. end .1), omega arith))
 
 pub read-schema-spec : {M : Type 1} → statement M
 read-schema-spec =
