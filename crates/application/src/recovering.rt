@@ -5,7 +5,7 @@ ghost use lib.ListN.{length, take};
 ghost use Rattle.expression.specs.declared.files.Acceptance.the-variants.{Accepted};
 ghost use Rattle.expression.specs.ReadFile.{acceptance};
 ghost use Rattle.formula.specs.Expressions.{expressionAt};
-ghost use Rattle.membership.specs.Entries.{RoomFor};
+ghost use Rattle.membership.specs.Entries.{RoomFor, SpareFor};
 ghost use Rattle.schema.specs.Schema.{schemaReading, WritesFrom};
 ghost use Rattle.application.specs.Apply.{readSpace};
 ghost use Rattle.application.specs.ApplyLaws.{Filled};
@@ -70,7 +70,7 @@ fn recover_bytes(
 ) -> Recovery
     requires { ⌜ acceptance (now file) ≡ Accepted m n ⌝ }
     requires { ⌜ (node < n) × (n * 1024 ≤ length (now work)) ⌝ }
-    requires { ⌜ RoomFor (length (now bytes)) (now items) × RoomFor (length (now bytes)) (now spare) ⌝ }
+    requires { ⌜ RoomFor (length (now bytes)) (now items) × SpareFor (length (now bytes)) (now spare) ⌝ }
     requires { ⌜ 812 ≤ length (now out) ⌝ }
     ensures { λ r. ⌜ r ≡ readRecovered m (expressionAt (now (file .entry)) node) (schemaReading m (now (bytes .entry))) ⌝ }
     ensures { λ _. ⌜ now (work .exit) ≡ readSpace (now (file .entry)) m n (schemaReading m (now (bytes .entry)) .judgement) (now (work .entry)) ⌝ }
@@ -112,7 +112,7 @@ fn recover_sized(
         return recover_bytes(file, m, n, node, bytes, &mut items, &mut spare, work, out);
     }
     let mut items = [0u32; 256];
-    let mut spare = [0u32; 256];
+    let mut spare = [0u32; 512];
     recover_bytes(file, m, n, node, bytes, &mut items, &mut spare, work, out)
 }
 

@@ -5,7 +5,7 @@ ghost use lib.ListN.{length, take};
 ghost use Rattle.expression.specs.declared.files.Acceptance.the-variants.{Accepted};
 ghost use Rattle.expression.specs.ReadFile.{acceptance};
 ghost use Rattle.formula.specs.Expressions.{expressionAt};
-ghost use Rattle.membership.specs.Entries.{RoomFor};
+ghost use Rattle.membership.specs.Entries.{RoomFor, SpareFor};
 ghost use Rattle.schema.specs.Schema.{schemaReading, WritesFrom};
 ghost use Rattle.typing.specs.Typing.{tableAnswer, tableOut, schemaAnswer, schemaOut, typingAnswer, typingOut};
 ghost use Rattle.type_sets.specs.Sets.{widthOf};
@@ -134,7 +134,7 @@ fn type_schema(
 ) -> Answer
     requires { ⌜ acceptance (now file) ≡ Accepted m n ⌝ }
     requires { ⌜ (node < n) × (513 ≤ length (now out)) ⌝ }
-    requires { ⌜ RoomFor (length (now bytes)) (now items) × RoomFor (length (now bytes)) (now spare) ⌝ }
+    requires { ⌜ RoomFor (length (now bytes)) (now items) × SpareFor (length (now bytes)) (now spare) ⌝ }
     ensures { λ r. ⌜ r ≡ schemaAnswer (expressionAt (now (file .entry)) node) (schemaReading m (now (bytes .entry))) ⌝ }
     ensures { λ _. ⌜ now (out .exit) ≡ schemaOut (expressionAt (now (file .entry)) node) (schemaReading m (now (bytes .entry))) (now (out .entry)) ⌝ }
 {
@@ -163,7 +163,7 @@ fn type_sized(file: &[u8], m: u8, n: u8, node: u8, bytes: &[u8], out: &mut [u8])
         return type_schema(file, m, n, node, bytes, &mut items, &mut spare, out);
     }
     let mut items = [0u32; 256];
-    let mut spare = [0u32; 256];
+    let mut spare = [0u32; 512];
     type_schema(file, m, n, node, bytes, &mut items, &mut spare, out)
 }
 
