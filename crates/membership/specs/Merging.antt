@@ -167,6 +167,20 @@ module _ {s : ℕ} {more es before items : List ℕ} {i j k : ℕ} (m : Merge s 
         stands = ext-getD 0 (take k items) (enter s more es) (front ∙ number) (λ x h. let below : x < k = omega arith in getD-take k items x 0 below ∙ m .written .front x below);
       }
 
+-- ---- over a list of bytes, without earlier entries
+
+module _ (list : List ℕ) (count : ℕ) {subset : ℕ} {slice items : List ℕ} {i : ℕ} (room : count ≤ length slice) (m : Merge subset (tab count (λ x. word list (x * 2 + 1))) [] slice items i 0 i) where
+  pub list-next : {a : ℕ} → i < count → a ≡ word list (i * 2 + 1) → Merge subset (tab count (λ x. word list (x * 2 + 1))) [] slice (set items i (a * 256 + subset)) (i + 1) 0 (i + 1)
+  list-next hi is =
+      let size = length-tab count (λ x. word list (x * 2 + 1)) in
+      rw (is, ← getD-tab count (λ x. word list (x * 2 + 1)) i 0 hi) (merge-new m (omega arith) (omega arith) (λ none. absurd (omega arith)))
+
+  pub list-end : count ≤ i → Merged (enter subset (tab count (λ x. word list (x * 2 + 1))) []) items i
+  list-end all =
+      let size = length-tab count (λ x. word list (x * 2 + 1)) in
+      let upTo = m .listed in
+      merge-end m (omega arith) (omega arith) (omega arith)
+
 -- ---- over a list of bytes and a slice of earlier entries
 
 module _ {list : List ℕ} {count : ℕ} {earlier : List ℕ} {old : ℕ} (subset : ℕ) (e : Enters list count earlier old) where

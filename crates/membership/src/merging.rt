@@ -1,12 +1,13 @@
 // Merging a list of attributes with earlier entries: two rising sequences.
 ghost use mathlib.Core.Path.{_≡_};
 ghost use mathlib.Core.Bool.{cond};
+ghost use mathlib.Core.List.{[]};
 ghost use Prim.Native.Nat.{_+_, _*_, _≤_, _<_};
 ghost use lib.Bits.{bitOr};
 ghost use lib.ListN.{length, getD, set, take};
 ghost use Rattle.bits.specs.Tab.{tab};
 ghost use Rattle.bits.specs.Word.{word};
-ghost use Rattle.membership.specs.Entries.{entry, enter as entries};
+ghost use Rattle.membership.specs.Entries.{ListFits, entry, enter as entries};
 ghost use Rattle.membership.specs.Runs.{hasEntry};
 ghost use Rattle.membership.specs.Merging.{Enters, Merged};
 use crate::runs::copy_lower;
@@ -37,6 +38,20 @@ fn enter_one(
     place
 }
 
+// Writes an entry for each attribute of the list, and gives their number.
+fn list_entries(list: &[u8], count: usize, subset: u8, items: &mut [u32]) -> usize
+    requires { ⌜ (count ≤ 255) × ListFits count (now list) ⌝ }
+    requires { ⌜ count ≤ length (now items) ⌝ }
+    ensures { λ n. ⌜ Merged (entries subset (tab count (λ x. word (now (list .entry)) (x * 2 + 1))) []) (now (items .exit)) n ⌝ }
+{
+    let mut i = 0;
+    while i < count {
+        items[i] = bits::word_at(list, i * 2 + 1) as u32 * 256 + subset as u32;
+        i += 1;
+    }
+    i
+}
+
 // Writes the entries once the relations in the subset hold the attributes of the list as well, and gives their number.
 pub fn merge_into(
     list: &[u8],
@@ -50,6 +65,9 @@ pub fn merge_into(
     requires { ⌜ count + old ≤ length (now items) ⌝ }
     ensures { λ n. ⌜ Merged (entries subset (tab count (λ x. word (now (list .entry)) (x * 2 + 1))) (take old (now (earlier .entry)))) (now (items .exit)) n ⌝ }
 {
+    if old == 0 {
+        return list_entries(list, count, subset, items);
+    }
     let mut i = 0;
     let mut j = 0;
     let mut k = 0;

@@ -106,7 +106,7 @@ pub fn type_table(
             out,
         );
     }
-    let mut sets = [0u64; 384];
+    let mut sets = [1u64; 384];
     type_within(
         file,
         m,
