@@ -2,9 +2,8 @@
 ghost use mathlib.Core.Path.{_≡_};
 ghost use Rattle.bits.specs.Bit.{bit};
 ghost use Rattle.bits.specs.Pack.{pack};
-ghost use Rattle.column.specs.Steps.{unaryAllowed, unaryOutput, setStep, projectingOutStep, introducingStep, renamingStep, combinationOf};
+ghost use Rattle.column.specs.Steps.{unaryAllowed, unaryOutput, setStep, projectingOutStep, introducingStep};
 ghost use Rattle.column.specs.StepLaws.{MadeBy};
-use node::BinaryOp;
 use node::SetOp;
 
 // What an operator of one operand does to one attribute.
@@ -56,16 +55,6 @@ pub fn introducing_step(is_old: bool) -> Unary
     Unary::Introduced
 }
 
-// `is_old`, `is_new`: the attribute is the old one, the new one.
-pub fn renaming_step(is_old: bool, is_new: bool) -> Unary
-    ensures { λ r. ⌜ r ≡ renamingStep «is_old» «is_new» ⌝ }
-{
-    if is_new {
-        return introducing_step(is_old);
-    }
-    projecting_out_step(is_old)
-}
-
 // What an operator of two operands does to one attribute: the result has it where an operand does.
 pub enum Combination {
     // both operands or neither must have it
@@ -74,17 +63,6 @@ pub enum Combination {
     Merging,
     // one of them must lack it
     Disjoint,
-}
-
-pub fn combination_of(op: BinaryOp) -> Combination
-    ensures { λ r. ⌜ r ≡ combinationOf op ⌝ }
-{
-    match op {
-        BinaryOp::Union => Combination::Agreeing,
-        BinaryOp::Difference => Combination::Agreeing,
-        BinaryOp::Join => Combination::Merging,
-        BinaryOp::Product => Combination::Disjoint,
-    }
 }
 
 // A byte of allowed bits and the byte of output bits that goes with it.

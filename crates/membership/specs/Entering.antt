@@ -1,7 +1,7 @@
 -- How a list is entered in place: its attributes that have an entry are marked there, and from the first that has none on the rest is merged elsewhere and copied back.
 use Prim.Native.Nat.{ℕ, _+_, _-_, _*_, _≤_, _<_, min}
 use mathlib.Core.Path.{_≡_, refl, sym, ap, ap₂, _∙_}
-use mathlib.Core.Bool.{true}
+use mathlib.Core.Bool.{Bool, true, false, cond}
 use mathlib.Core.List.{List}
 use native.Mathlib.Decide.{decLt}
 use native.Mathlib.Omega.{arith}
@@ -31,6 +31,12 @@ copy-room count at n items fits inside least most = go (decLt 0 n)
     go (no none) = omega arith
 
 -- ---- marking
+
+-- the listed attributes before byte `at` are marked
+pub record Marking (list : List ℕ) (count subset : ℕ) (before : List ℕ) (old : ℕ) (items : List ℕ) (at j : ℕ) : Type 0 where
+  pub listed : ℕ
+  pub at-is : at ≡ listed * 2 + 1
+  pub state : Merge subset (tab count (λ x. word list (x * 2 + 1))) (take old before) before items listed j j
 
 module _ {list : List ℕ} {count : ℕ} {before : List ℕ} {old : ℕ} (subset : ℕ) (e : Enters list count before old) where
   abbrev more : List ℕ
@@ -75,6 +81,15 @@ module _ {list : List ℕ} {count : ℕ} {before : List ℕ} {old : ℕ} (subset
         let enough = e .enough in
         rw here (merge-equal m (omega arith) (omega arith) (omega arith) (listed-is hi ∙ sym is ∙ sym (has .1) ∙ rw here))
 
+  -- one listed attribute, as the code marks it
+  module _ {items : List ℕ} {i j : ℕ} (m : Merge subset more es before items i j j) {a place : ℕ} {found : Bool} {next : List ℕ} (hi : i < count) (is : a ≡ word list (i * 2 + 1)) (p : Passed items j old (a * 256) place) (next-is : next ≡ cond found (set items place (bitOr (getD items place 0) subset)) items) where
+    pub mark-stops : found ≡ false → Merge subset more es before next i place place
+    mark-stops lacks = rw (next-is, lacks) (mark-passed m hi is p)
+
+    pub mark-goes-on : found ≡ hasEntry items place old a → found ≡ true → Merge subset more es before next (i + 1) (place + 1) (place + 1)
+    mark-goes-on found-is has = rw (next-is, has) (mark-equal (mark-passed m hi is p) hi is (sym found-is ∙ has))
+
+  module _ {items : List ℕ} {i j : ℕ} (m : Merge subset more es before items i j j) where
     pub marking-bounds : (i ≤ count) × (j ≤ old) × (length items ≡ length before)
     marking-bounds = let b = bounds subset e m in (b .0, b .1, b .3)
 
@@ -106,7 +121,7 @@ module _ {list : List ℕ} {count : ℕ} {before : List ℕ} {old : ℕ} (subset
         front x h rest (yes less) = m .written .front x less
         front x h rest (no past) =
             let at : j + (x - j) ≡ x = omega arith in
-            there x (omega arith) h
+            there m x (omega arith) h
             ∙ ap (λ (p : ℕ). getD es p 0) (sym at)
             ∙ sym (getD-drop j es (x - j) 0)
             ∙ ap (λ (l : List ℕ). getD l (x - j) 0) (sym rest)
@@ -146,7 +161,7 @@ module _ {list : List ℕ} {count : ℕ} {before : List ℕ} {old : ℕ} (subset
         rw (part-from items j)
         (ext-getD 0 (take (old - j) (drop j items)) (drop j es) (omega arith)
         (λ x h. let inside : x < old - j = omega arith in
-        getD-take (old - j) (drop j items) x 0 inside ∙ getD-drop j items x 0 ∙ there (j + x) (omega arith) (omega arith) ∙ sym (getD-drop j es x 0)))
+        getD-take (old - j) (drop j items) x 0 inside ∙ getD-drop j items x 0 ∙ there m (j + x) (omega arith) (omega arith) ∙ sym (getD-drop j es x 0)))
 
     -- it can be merged into a slice with room for all
     pub rest-enters : Enters (take (length list - i * 2) (drop (i * 2) list)) (count - i) (take (length items - j) (drop j items)) (old - j)

@@ -2,7 +2,8 @@
 use Prim.Native.Nat.{ℕ, zero, suc, _+_, _-_, _*_, _/_, _≤_, _<_}
 use mathlib.Core.Path.{_≡_, refl, sym, ap, _∙_}
 use mathlib.Core.Bool.{Bool, true, false, cond}
-use mathlib.Core.List.{List, [], _∷_, _++_}
+use mathlib.Core.List.{List, [], _∷_, _++_, map}
+use mathlib.Core.Logic.{_⊎_, inl, inr, ⊎-elim}
 use native.Mathlib.Decide.{decLt}
 use native.Mathlib.Numerals.{add-one}
 use native.Mathlib.Omega.{arith}
@@ -11,11 +12,11 @@ use lib.ListN.{length, getD, set, take, drop, length-append, length-drop, drop-o
 use lib.Seq.{drop-cons, drop-drop, drop-at, length-take-le, getD-take, getD-drop, ext-getD}
 use Rattle.bits.specs.Part.{at-head}
 use Rattle.bits.specs.Word.{word}
-use Rattle.bits.specs.Tab.{tab, length-tab, getD-tab}
+use Rattle.bits.specs.Tab.{tab, length-tab, getD-tab, map-tab}
 use Rattle.bits.specs.Written.{Written, written-none, written-more}
 use Rattle.membership.specs.Entries.{entry, attributeOf, enter, ListFits}
 use Rattle.membership.specs.EnterLaws.{enter-none, enter-first, enter-lower, enter-higher, enter-equal}
-use Rattle.membership.specs.Runs.{Lower, Passed, Copying, copying-part, hasEntry, has-entry, no-entry}
+use Rattle.membership.specs.Runs.{Passed, Copying, Entered, copying-part, hasEntry, has-entry, no-entry}
 
 -- a list of bytes, and so many earlier entries that are merged with it
 pub record Enters (list : List ℕ) (count : ℕ) (earlier : List ℕ) (old : ℕ) : Type 0 where
@@ -41,6 +42,9 @@ pub record Merge (s : ℕ) (more es before items : List ℕ) (i j k : ℕ) : Typ
 pub merge-first : (s : ℕ) (more es items : List ℕ) → Merge s more es items items 0 0 0
 merge-first s more es items = record { listed = omega arith; earlier = omega arith; reached = omega arith; fewer = omega arith; written = written-none _ items; rest = refl }
 
+pub merge-number : {s : ℕ} {more es before items : List ℕ} {i n j k : ℕ} → i ≡ n → Merge s more es before items i j k → Merge s more es before items n j k
+merge-number same m = rw same at m
+
 -- ---- a run of earlier entries
 
 -- an entry comes before the attributes of a list, which rise
@@ -60,58 +64,93 @@ enter-run s (suc d) more (e ∷ es) h low =
     ∙ ap (λ (l : List ℕ). e ∷ l) (enter-run s d more es (omega arith) (λ x less. low (suc x) (omega arith)))
 
 module _ {s : ℕ} {more es before items : List ℕ} {i j k : ℕ} (m : Merge s more es before items i j k) where
-  module _ {next : List ℕ} {j′ k′ : ℕ} (inside : j′ ≤ length es) (low : (x : ℕ) → j ≤ x → x < j′ → Leads (getD es x 0) (drop i more)) (c : Copying es j k items next j′ k′) where
-    module _ (d : ℕ) (j-is : j′ ≡ j + d) (k-is : k′ ≡ k + d) where
-      part : length (take d (drop j es)) ≡ d
-      part = length-take-le d (drop j es) (let size = length-drop j es in omega arith)
-
-      whole : drop k (enter s more es) ≡ take d (drop j es) ++ enter s (drop i more) (drop d (drop j es))
-      whole =
-          m .rest
-          ∙ enter-run s d (drop i more) (drop j es) (let size = length-drop j es in omega arith)
-          (λ x less. rw (getD-drop j es x 0) (low (j + x) (omega arith) (omega arith)))
-
-      front : (x : ℕ) → x < k′ → Dec (x < k) → getD next x 0 ≡ getD (enter s more es) x 0
-      front x h (yes less) = c .front x less ∙ m .written .front x less
-      front x h (no past) =
+  -- what follows begins with a part, which is written
+  merge-part : (part : List ℕ) {next : List ℕ} {i′ j′ k′ : ℕ} → drop k (enter s more es) ≡ part ++ enter s (drop i′ more) (drop j′ es) → i′ ≤ length more → j′ ≤ length es → k′ ≤ i′ + j′ → k′ ≡ k + length part → length next ≡ length items → ((x : ℕ) → x < k → getD next x 0 ≡ getD items x 0) → ((x : ℕ) → k ≤ x → x < k′ → getD next x 0 ≡ getD part (x - k) 0) → ((x : ℕ) → k′ ≤ x → getD next x 0 ≡ getD items x 0) → Merge s more es before next i′ j′ k′
+  merge-part part {next} {i′} {j′} {k′} whole listed earlier fewer k-is size front copied back =
+      let left = length-drop k (enter s more es) in
+      let both = ap length whole ∙ length-append part (enter s (drop i′ more) (drop j′ es)) in
+      let reached = m .reached in
+      record {
+        listed = listed;
+        earlier = earlier;
+        reached = omega arith;
+        fewer = fewer;
+        written = record {
+          size = size ∙ m .written .size;
+          front = λ x h. go x h (decLt x k);
+          back = λ x h. back x h ∙ m .written .back x (omega arith);
+        };
+        rest =
+            ap (λ (p : ℕ). drop p (enter s more es)) k-is
+            ∙ sym (drop-drop (length part) k (enter s more es))
+            ∙ ap (drop (length part)) whole
+            ∙ drop-at part (enter s (drop i′ more) (drop j′ es)) (length part) refl;
+      }
+    where
+      go : (x : ℕ) → x < k′ → Dec (x < k) → getD next x 0 ≡ getD (enter s more es) x 0
+      go x h (yes less) = front x less ∙ m .written .front x less
+      go x h (no past) =
           let at : k + (x - k) ≡ x = omega arith in
-          let size = part in
-          c .copied x (omega arith) h
-          ∙ sym (getD-drop j es (x - k) 0)
-          ∙ sym (getD-take d (drop j es) (x - k) 0 (omega arith))
-          ∙ sym (List·getD-append (take d (drop j es)) (enter s (drop i more) (drop d (drop j es))) 0 (x - k) (omega arith))
+          copied x (omega arith) h
+          ∙ sym (List·getD-append part (enter s (drop i′ more) (drop j′ es)) 0 (x - k) (omega arith))
           ∙ ap (λ (l : List ℕ). getD l (x - k) 0) (sym whole)
           ∙ getD-drop k (enter s more es) (x - k) 0
           ∙ ap (λ (p : ℕ). getD (enter s more es) p 0) at
 
-      run-of : Merge s more es before next i j′ k′
-      run-of =
-          let size = part in
-          let left = length-drop k (enter s more es) in
-          let both = ap length whole ∙ length-append (take d (drop j es)) (enter s (drop i more) (drop d (drop j es))) in
-          let reached = m .reached in
-          let fewer = m .fewer in
-          record {
-            listed = m .listed;
-            earlier = inside;
-            reached = omega arith;
-            fewer = omega arith;
-            written = record {
-              size = c .size ∙ m .written .size;
-              front = λ x h. front x h (decLt x k);
-              back = λ x h. c .back x h ∙ m .written .back x (omega arith);
-            };
-            rest =
-                ap (λ (p : ℕ). drop p (enter s more es)) k-is
-                ∙ sym (drop-drop d k (enter s more es))
-                ∙ ap (drop d) whole
-                ∙ drop-at (take d (drop j es)) (enter s (drop i more) (drop d (drop j es))) d size
-                ∙ ap (enter s (drop i more)) (drop-drop d j es ∙ ap (λ (p : ℕ). drop p es) (sym j-is));
-          }
+  -- the entries from j on that come before the next listed attribute are copied
+  merge-run : {next : List ℕ} {j′ k′ : ℕ} → j′ ≤ length es → ((x : ℕ) → j ≤ x → x < j′ → Leads (getD es x 0) (drop i more)) → Copying es j k items next j′ k′ → Merge s more es before next i j′ k′
+  merge-run {next} {j′} {k′} inside low c =
+      let begun = c .begun in
+      let number = c .next in
+      let fewer = m .fewer in
+      let size = length-drop j es in
+      let at : j + (j′ - j) ≡ j′ = omega arith in
+      let part = length-take-le (j′ - j) (drop j es) (omega arith) in
+      merge-part (take (j′ - j) (drop j es))
+      (m .rest
+      ∙ enter-run s (j′ - j) (drop i more) (drop j es) (omega arith) (λ x less. rw (getD-drop j es x 0) (low (j + x) (omega arith) (omega arith)))
+      ∙ ap (λ (l : List ℕ). take (j′ - j) (drop j es) ++ enter s (drop i more) l) (drop-drop (j′ - j) j es ∙ ap (λ (p : ℕ). drop p es) at))
+      (m .listed) inside (omega arith) (omega arith) (c .size) (c .front)
+      (λ x above under. c .copied x above under ∙ sym (getD-take (j′ - j) (drop j es) (x - k) 0 (omega arith) ∙ getD-drop j es (x - k) 0))
+      (c .back)
 
-    -- the entries from j on that come before the next listed attribute are copied
-    merge-run : Merge s more es before next i j′ k′
-    merge-run = let begun = c .begun in let number = c .next in run-of (j′ - j) (omega arith) (omega arith)
+  -- after the last earlier entry, or the last listed attribute, the rest of the list is entered
+  merge-listed : {next : List ℕ} {k′ : ℕ} → (length more ≤ i) ⊎ (length es ≤ j) → Copying (map (λ a. entry a s) more) i k items next (length more) k′ → Merge s more es before next (length more) j k′
+  merge-listed {next} {k′} past c =
+      let begun = c .begun in
+      let number = c .next in
+      let fewer = m .fewer in
+      let size = length-drop i (map (λ a. entry a s) more) in
+      let same = length-map more in
+      merge-part (drop i (map (λ a. entry a s) more))
+      (m .rest ∙ left past)
+      (omega arith) (m .earlier) (omega arith) (omega arith) (c .size) (c .front)
+      (λ x above under. c .copied x above under ∙ sym (getD-drop i (map (λ a. entry a s) more) (x - k) 0))
+      (c .back)
+    where
+      length-map : (l : List ℕ) → length (map (λ a. entry a s) l) ≡ length l
+      length-map [] = refl
+      length-map (a ∷ l) = ap suc (length-map l)
+
+      append : (l : List ℕ) → enter s l [] ≡ map (λ a. entry a s) l ++ enter s [] []
+      append [] = refl
+      append (a ∷ l) = enter-first s a l ∙ ap (λ (r : List ℕ). entry a s ∷ r) (append l)
+
+      drop-map : (n : ℕ) (l : List ℕ) → drop n (map (λ a. entry a s) l) ≡ map (λ a. entry a s) (drop n l)
+      drop-map zero l = refl
+      drop-map (suc n) [] = refl
+      drop-map (suc n) (a ∷ l) = drop-map n l
+
+      left : (length more ≤ i) ⊎ (length es ≤ j) → enter s (drop i more) (drop j es) ≡ drop i (map (λ a. entry a s) more) ++ enter s (drop (length more) more) (drop j es)
+      left (inl all) =
+          let most = m .listed in
+          let is : i ≡ length more = omega arith in
+          rw (drop-map i more, is, drop-of-length-le more {i = length more} (omega arith))
+      left (inr none) =
+          rw (drop-map i more, drop-of-length-le es {i = j} none, drop-of-length-le more {i = length more} (omega arith)) (append (drop i more))
+
+  merge-written : (new : List ℕ) (n : ℕ) {next : List ℕ} {k′ : ℕ} → new ≡ map (λ a. entry a s) more → n ≡ length more → (length more ≤ i) ⊎ (length es ≤ j) → Copying new i k items next n k′ → Merge s more es before next n j k′
+  merge-written new n new-is n-is past c = rw n-is (merge-listed past (rw (new-is, n-is) at c))
 
   -- those below the next listed attribute
   pub merge-lower : {next : List ℕ} {j′ k′ : ℕ} → i < length more → j′ ≤ length es → ((x : ℕ) → j ≤ x → x < j′ → getD es x 0 < getD more i 0 * 256) → Copying es j k items next j′ k′ → Merge s more es before next i j′ k′
@@ -167,20 +206,6 @@ module _ {s : ℕ} {more es before items : List ℕ} {i j k : ℕ} (m : Merge s 
         stands = ext-getD 0 (take k items) (enter s more es) (front ∙ number) (λ x h. let below : x < k = omega arith in getD-take k items x 0 below ∙ m .written .front x below);
       }
 
--- ---- over a list of bytes, without earlier entries
-
-module _ (list : List ℕ) (count : ℕ) {subset : ℕ} {slice items : List ℕ} {i : ℕ} (room : count ≤ length slice) (m : Merge subset (tab count (λ x. word list (x * 2 + 1))) [] slice items i 0 i) where
-  pub list-next : {a : ℕ} → i < count → a ≡ word list (i * 2 + 1) → Merge subset (tab count (λ x. word list (x * 2 + 1))) [] slice (set items i (a * 256 + subset)) (i + 1) 0 (i + 1)
-  list-next hi is =
-      let size = length-tab count (λ x. word list (x * 2 + 1)) in
-      rw (is, ← getD-tab count (λ x. word list (x * 2 + 1)) i 0 hi) (merge-new m (omega arith) (omega arith) (λ none. absurd (omega arith)))
-
-  pub list-end : count ≤ i → Merged (enter subset (tab count (λ x. word list (x * 2 + 1))) []) items i
-  list-end all =
-      let size = length-tab count (λ x. word list (x * 2 + 1)) in
-      let upTo = m .listed in
-      merge-end m (omega arith) (omega arith) (omega arith)
-
 -- ---- over a list of bytes and a slice of earlier entries
 
 module _ {list : List ℕ} {count : ℕ} {earlier : List ℕ} {old : ℕ} (subset : ℕ) (e : Enters list count earlier old) where
@@ -206,7 +231,7 @@ module _ {list : List ℕ} {count : ℕ} {earlier : List ℕ} {old : ℕ} (subse
         let earlier = earlier-size in
         (omega arith, omega arith, m .fewer, m .written .size)
 
-    pub merge-copied : {a place k′ : ℕ} {next : List ℕ} → i < count → a ≡ word list (i * 2 + 1) → Passed earlier j old (a * 256) place → Copying earlier j k items next place k′ → Merge subset more es slice next i place k′
+    merge-copied : {a place k′ : ℕ} {next : List ℕ} → i < count → a ≡ word list (i * 2 + 1) → Passed earlier j old (a * 256) place → Copying earlier j k items next place k′ → Merge subset more es slice next i place k′
     merge-copied {a} {place} hi is p c =
         let s = listed-size in
         let t = earlier-size in
@@ -216,8 +241,8 @@ module _ {list : List ℕ} {count : ℕ} {earlier : List ℕ} {old : ℕ} (subse
         (λ x above under. rw (here, getD-take old earlier x 0 (omega arith)) (p .lower .below x above under))
         (copying-part old upTo c)
 
-    pub merge-entered : {a r : ℕ} {next : List ℕ} → i < count → a ≡ word list (i * 2 + 1) → (j < old → a * 256 ≤ getD earlier j 0) → k < length slice → r ≡ cond (hasEntry earlier j old a) (j + 1) j → next ≡ set items k (cond (hasEntry earlier j old a) (bitOr (getD earlier j 0) subset) (entry a subset)) → Merge subset more es slice next (i + 1) r (k + 1)
-    merge-entered {a} hi is stop room r-is next-is = rw (r-is, next-is) (go (hasEntry earlier j old a) refl)
+    merge-one : {a r : ℕ} {next : List ℕ} → i < count → a ≡ word list (i * 2 + 1) → (j < old → a * 256 ≤ getD earlier j 0) → k < length slice → r ≡ cond (hasEntry earlier j old a) (j + 1) j → next ≡ set items k (cond (hasEntry earlier j old a) (bitOr (getD earlier j 0) subset) (entry a subset)) → Merge subset more es slice next (i + 1) r (k + 1)
+    merge-one {a} hi is stop room r-is next-is = rw (r-is, next-is) (go (hasEntry earlier j old a) refl)
       where
         here : getD more i 0 ≡ a
         here = getD-tab count (λ x. word list (x * 2 + 1)) i 0 hi ∙ sym is
@@ -238,11 +263,29 @@ module _ {list : List ℕ} {count : ℕ} {earlier : List ℕ} {old : ℕ} (subse
             above : (a v : ℕ) → a * 256 ≤ v → (v / 256 ≡ a → ⊥) → a < v / 256
             above a v least other = omega arith
 
+  -- one listed attribute
+  module _ {slice items : List ℕ} {i j k : ℕ} (m : Merge subset more es slice items i j k) where
+    pub merge-entered : {a copied entered : ℕ} {next : List ℕ} → count + old ≤ length slice → i < count → a ≡ word list (i * 2 + 1) → Entered a subset earlier j old k items next copied entered → Merge subset more es slice next (i + 1) copied entered
+    merge-entered room hi is r =
+        let b = bounds m in
+        let fewer = b .2 in
+        let upTo = r .passed .lower .upTo in
+        let begun = r .passed .lower .begun in
+        let number = r .run .next in
+        rw (r .entered-is) (merge-one (merge-copied m hi is (r .passed) (r .run)) hi is (r .passed .stop) (omega arith) (r .copied-is) (r .items-is))
+
+    pub merge-appended : {next : List ℕ} {k′ : ℕ} → (count ≤ i) ⊎ (old ≤ j) → Copying (tab count (λ x. entry (word list (x * 2 + 1)) subset)) i k items next count k′ → Merge subset more es slice next count j k′
+    merge-appended past c =
+        let s = listed-size in
+        let t = earlier-size in
+        merge-written m (tab count (λ x. entry (word list (x * 2 + 1)) subset)) count (sym (map-tab (λ (a : ℕ). entry a subset) count (λ x. word list (x * 2 + 1)))) (sym s)
+        (⊎-elim (λ all. inl (omega arith)) (λ none. inr (omega arith)) past) c
+
     pub merge-all : {n : ℕ} {next : List ℕ} → count ≤ i → count + old ≤ length slice → Copying earlier j k items next old n → Merged (enter subset more es) next n
     merge-all {n} {next} past room c =
         let s = listed-size in
         let t = earlier-size in
-        let b = bounds in
+        let b = bounds m in
         let i-most = b .0 in
         let j-most = b .1 in
         let fewer = b .2 in

@@ -109,13 +109,6 @@ pub all-below : (b : ℕ) (xs : List ℕ) → ((i : ℕ) → getD xs i 0 < b) �
 all-below b [] below = tt
 all-below b (x ∷ xs) below = (below 0, all-below b xs (λ i. below (suc i)))
 
--- the entries of a table are below 2 ^ 24
-pub table-below : {es items : List ℕ} {count : ℕ} → TableIn es items count → Below 16777216 es → (i : ℕ) → i < count → getD items i 0 < 16777216
-table-below {es} {items} {count} t h i inside =
-    let few = table-few t in
-    let here = sym (getD-take count items i 0 inside) ∙ ap (λ (l : List ℕ). getD l i 0) (t .entries) ∙ getD-take 256 es i 0 (omega arith) in
-    rw here (below-at 16777216 es (lit< tt) h i)
-
 -- entries that stand at the front of a slice
 pub items-stand : (items es : List ℕ) → take (length es) items ≡ es → Below 16777216 es → ItemsFit items (length es)
 items-stand items es stands below =

@@ -10,8 +10,7 @@ ghost use Rattle.membership.specs.Merging.{Enters, Merge};
 ghost use Rattle.membership.specs.Entering.{CopyFits};
 use crate::merging::merge_into;
 use crate::runs::copy_run;
-use crate::runs::has_entry;
-use crate::runs::pass_lower;
+use crate::runs::mark_one;
 
 // How far marking has come: listed attributes that have an entry, and entries that are looked at.
 pub struct Marked {
@@ -24,23 +23,24 @@ fn mark(list: &[u8], count: usize, subset: u8, items: &mut [u32], old: usize) ->
     requires { ⌜ Enters (now list) count (now items) old ⌝ }
     ensures { λ r. ⌜ Merge subset (tab count (λ x. word (now (list .entry)) (x * 2 + 1))) (take old (now (items .entry))) (now (items .entry)) (now (items .exit)) (r .listed) (r .passed) (r .passed) ⌝ }
 {
-    let mut i = 0;
+    let end = count * 2 + 1;
+    let mut at = 1;
     let mut j = 0;
-    while i < count {
-        let a = bits::word_at(list, i * 2 + 1) as u32;
-        let place = pass_lower(items, j, old, a * 256);
-        if !has_entry(items, place, old, a) {
+    while at < end {
+        let a = bits::word_at(list, at) as u32;
+        let marked = mark_one(items, j, old, a, subset);
+        let place = marked.place;
+        if !marked.found {
             return Marked {
-                listed: i,
+                listed: at / 2,
                 passed: place,
             };
         }
-        items[place] = items[place] | subset as u32;
-        i += 1;
+        at += 2;
         j = place + 1;
     }
     Marked {
-        listed: i,
+        listed: count,
         passed: j,
     }
 }

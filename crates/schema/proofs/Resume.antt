@@ -73,10 +73,6 @@ module _ {m : ℕ} {bytes special items : List ℕ} {found at r : ℕ} (h : Resu
   abbrev Reads : RecordReading → Type 0
   Reads x = readRecord (take (length bytes - at) (drop at bytes)) ≡ x
 
-  -- at most eight records are read
-  done-most : length (h .done) ≤ 8
-  done-most = let c = h .count in let most = h .most in omega arith
-
   one-more : (x : RecordReading) → r < m → Reads x → readRecords (m - r) (drop at bytes) ≡ follow x (drop at bytes) (readRecords (m - (r + 1)))
   unfolding readRecords
   one-more x more e =

@@ -1,14 +1,10 @@
 -- The reading of a list, resumed at attribute i of n: what it answers after one more attribute, at a refusal and at the end.
 use Prim.Native.Nat.{ℕ, suc, _+_, _-_, _*_, _≤_, _<_}
-use mathlib.Core.Path.{_≡_, refl, sym, ap, _∙_}
+use mathlib.Core.Path.{_≡_, sym, ap, _∙_}
 use mathlib.Core.List.{List}
 use native.Mathlib.Nat.{sub-zero}
 use native.Mathlib.Omega.{arith}
-use mathlib.Core.Bool.{Bool, true, false, cond}
-use native.Mathlib.Decide.{decLt}
-use borrow.Author.Tests.{lt-ltb, le-ltb, le-leb, leb-true, leb-false, ne-eqb}
-use lib.Bits.{bitOr, and-le-l, or-add-and, or-zero-r}
-use lib.Dec.{leb}
+use borrow.Author.Tests.{lt-ltb, le-ltb, le-leb, ne-eqb}
 use lib.ListN.{length, getD}
 use Rattle.refusal.specs.Chain.{refuse-stops, refuse-passes}
 use Rattle.refusal.specs.declared.Refusal.the-variants.{InputTruncated, ListedAttribute}
@@ -53,32 +49,3 @@ module _ (bytes : List ℕ) (n i previous : ℕ) where
   resumed-end e =
       let none : n - i ≡ 0 = omega arith in
       rw none (ap Listed e)
-
--- ---- judged at the end: the reading so far, where no attribute has fallen, and the refusal where one has
-
-pub record Judged (bytes : List ℕ) (n i previous fallen : ℕ) : Type 0 where
-  pub rises : fallen ≡ 0 → readFrom bytes (n - i) i previous ≡ readList bytes
-  pub falls : (fallen ≡ 0 → ⊥) → Refused ListedAttribute ≡ readList bytes
-
-pub judged-next : {bytes : List ℕ} {n i previous fallen d : ℕ} → i < n → i * 2 + 3 ≤ length bytes → Judged bytes n i previous fallen → d ≡ cond (leb (pairAt bytes i) previous) 1 0 → Judged bytes n (i + 1) (pairAt bytes i) (bitOr fallen d)
-judged-next {bytes} {n} {i} {previous} {fallen} {d} more enough j is = rw is (go (leb (pairAt bytes i) previous) refl)
-  where
-    go : (t : Bool) → leb (pairAt bytes i) previous ≡ t → Judged bytes n (i + 1) (pairAt bytes i) (bitOr fallen (cond t 1 0))
-    go true low =
-        let refused = resumed-refused bytes n i previous more enough (leb-true (pairAt bytes i) previous low) in
-        let sum = or-add-and fallen 1 in
-        let least = and-le-l fallen 1 in
-        record {
-          rises = λ none. absurd (omega arith);
-          falls = λ some. judge (decLt 0 fallen) refused;
-        }
-      where
-        judge : Dec (0 < fallen) → readFrom bytes (n - i) i previous ≡ Refused ListedAttribute → Refused ListedAttribute ≡ readList bytes
-        judge (yes some) refused = j .falls (λ none. omega arith)
-        judge (no none) refused = sym refused ∙ j .rises (omega arith)
-    go false above =
-        rw (or-zero-r fallen)
-        (record {
-          rises = λ none. sym (resumed-next bytes n i previous more enough (leb-false (pairAt bytes i) previous above)) ∙ j .rises none;
-          falls = j .falls;
-        })

@@ -1,7 +1,5 @@
 // A list of ordinary attributes: "a count byte (1 to 255) and that many ordinary attributes follow, two bytes each, low first, rising".
 ghost use mathlib.Core.Path.{_≡_};
-ghost use mathlib.Core.Bool.{cond};
-ghost use lib.Dec.{leb};
 ghost use Prim.Native.Nat.{min};
 ghost use Rattle.type_record.specs.Lists.{readList};
 use refusal::Refusal;
@@ -19,16 +17,8 @@ fn lesser(a: usize, b: usize) -> usize
     if a < b { a } else { b }
 }
 
-// 1 where an attribute is not above the one before it, else 0.
-fn falls(previous: u16, a: u16) -> u16
-    ensures { λ r. ⌜ r ≡ cond (leb a previous) 1 0 ⌝ }
-{
-    if a <= previous { 1 } else { 0 }
-}
-
 // The list at the front of the bytes, which begin with its count byte. The loop goes over the attributes that are
-// complete in the bytes, since one that does not rise is refused before a later one that is cut off. It has no way out
-// before its end, so that the compiler takes many attributes at a time.
+// complete in the bytes; an attribute that does not rise is refused before a later one that is cut off.
 pub fn read_list(bytes: &[u8]) -> ListReading
     ensures { λ r. ⌜ r ≡ readList (now (bytes .entry)) ⌝ }
 {
@@ -40,17 +30,15 @@ pub fn read_list(bytes: &[u8]) -> ListReading
         return ListReading::Refused(Refusal::CountZero);
     }
     let whole = lesser(count, (bytes.len() - 1) / 2);
-    let mut fallen = 0u16;
     let mut previous = 15u16;
     let mut i = 0;
     while i < whole {
         let a = bytes[i * 2 + 1] as u16 + bytes[i * 2 + 2] as u16 * 256;
-        fallen = fallen | falls(previous, a);
+        if a <= previous {
+            return ListReading::Refused(Refusal::ListedAttribute);
+        }
         previous = a;
         i += 1;
-    }
-    if fallen != 0 {
-        return ListReading::Refused(Refusal::ListedAttribute);
     }
     if whole < count {
         return ListReading::Refused(Refusal::InputTruncated);

@@ -1,23 +1,19 @@
-use Rattle.type_record.specs.Lists.{readList}
-use Rattle.refusal.specs.Chain.{refuse, chain}
-use lib.ListN.{getD}
-use native.Mathlib.Omega.{arith}
-use mathlib.Core.Path.{refl, sym, _∙_}
+use Rattle.type_record.proofs.Resume.{resumed-start, resumed-next, resumed-truncated, resumed-refused, resumed-end}
 use Prim.Native.Nat.{_+_, _-_, _*_, _≤_}
-use Rattle.type_record.proofs.Resume.{Judged, judged-next, resumed-start, resumed-truncated, resumed-end}
+use mathlib.Core.Path.{_≡_, sym, _∙_}
+use native.Mathlib.Omega.{arith}
+use lib.ListN.{getD}
+use Rattle.refusal.specs.Chain.{refuse, chain}
+use Rattle.type_record.specs.Lists.{readFrom, readList}
 use borrow.Author.Needs.{needs}
 use Rattle.type_record.proofs.lists.read_list.Statement.{statement}
 use Rattle.type_record.proofs.lists.read_list.Tie as tie
-use Rattle.type_record.proofs.lists.read_list.Reads as reads
-use Rattle.type_record.proofs.lists.read_list.Lts as lts
-use Rattle.type_record.proofs.lists.falls.Reads as falls-reads
-use Rattle.type_record.proofs.lists.lesser.Reads as lesser-reads
 
 abbrev Inv-loop : tie.InvT-loop
-Inv-loop bytes count whole fallen₀ previous₀ i₀ fallen previous i = (i ≤ whole) × Judged bytes count i previous fallen
+Inv-loop bytes count whole previous₀ i₀ previous i = (i ≤ whole) × (readFrom bytes (count - i) i previous ≡ readList bytes)
 
 abbrev μ-loop : tie.MeasureT-loop
-μ-loop bytes count whole fallen₀ previous₀ i₀ fallen previous i = whole - i
+μ-loop bytes count whole previous₀ i₀ previous i = whole - i
 
 returns : tie.Need-returns Inv-loop μ-loop
 unfolding readList refuse
@@ -40,7 +36,7 @@ lesser-requires : tie.Need-lesser-requires Inv-loop μ-loop
 lesser-requires c κs = search needs
 
 loop-holds : tie.Need-loop-holds Inv-loop μ-loop
-loop-holds c = (omega arith, record { rises = λ none. resumed-start (c .before .before .before .before .before .args .bytes .now) (omega arith) (c .before .if2 .left); falls = λ some. absurd (some refl) })
+loop-holds c = (omega arith, resumed-start (c .before .before .before .before .before .args .bytes .now) (omega arith) (c .before .if2 .left))
 
 mul-a : tie.Need-mul-a Inv-loop μ-loop
 mul-a c = omega (arith, c .before .before .lesser .ensures, c .before .before .before .before .shared-slice-known2 .given 0)
@@ -72,8 +68,12 @@ mul-a-3 c = omega (arith, c .shared-slice-known4 .given (c .before .before .befo
 add-a-3 : tie.Need-add-a-3 Inv-loop μ-loop
 add-a-3 c = omega (arith, c .before .shared-slice-known3 .given (c .before .before .before .loop .i * 2 + 1), c .shared-slice-known4 .given (c .before .before .before .loop .i * 2 + 2))
 
-falls-requires : tie.Need-falls-requires Inv-loop μ-loop
-falls-requires c κs = search needs
+returns-3 : tie.Need-returns-3 Inv-loop μ-loop
+returns-3 c =
+    let loop = c .before .before .before .before .loop in
+    let bytes = c .before .before .before .before .before .before .before .before .before .before .args .bytes .now in
+    let whole = c .before .before .before .before .before .lesser .ensures in
+    sym (resumed-refused bytes (getD bytes 0 0) (loop .i) (loop .previous) (omega arith) (omega arith) (omega arith)) ∙ loop .inv .1
 
 add-i : tie.Need-add-i Inv-loop μ-loop
 add-i c = omega (arith, c .before .before .before .before .before .lesser .ensures, c .before .before .before .before .before .before .before .shared-slice-known2 .given 0)
@@ -83,22 +83,24 @@ loop-less c = search needs
 
 loop-again : tie.Need-loop-again Inv-loop μ-loop
 loop-again c =
+    let loop = c .before .before .before .before .loop in
+    let bytes = c .before .before .before .before .before .before .before .before .before .before .args .bytes .now in
     let whole = c .before .before .before .before .before .lesser .ensures in
-    let more = c .before .before .before .loop-test .taken in
-    (omega arith, judged-next (omega arith) (omega arith) (c .before .before .before .before .loop .inv .1) (c .falls .ensures))
-
-returns-3 : tie.Need-returns-3 Inv-loop μ-loop
-returns-3 c = c .before .before .loop .inv .1 .falls (c .if3 .taken)
+    (omega arith, sym (resumed-next bytes (getD bytes 0 0) (loop .i) (loop .previous) (omega arith) (omega arith) (omega arith)) ∙ loop .inv .1)
 
 returns-4 : tie.Need-returns-4 Inv-loop μ-loop
 returns-4 c =
-    let whole = c .before .before .before .before .lesser .ensures in
-    sym (resumed-truncated (c .before .before .before .before .before .before .before .before .before .args .bytes .now) (getD (c .before .before .before .before .before .before .before .before .before .args .bytes .now) 0 0) (c .before .before .before .loop .i) (c .before .before .before .loop .previous) (omega arith) (omega arith)) ∙ c .before .before .before .loop .inv .1 .rises (c .before .if3 .left)
+    let loop = c .before .before .loop in
+    let bytes = c .before .before .before .before .before .before .before .before .args .bytes .now in
+    let whole = c .before .before .before .lesser .ensures in
+    sym (resumed-truncated bytes (getD bytes 0 0) (loop .i) (loop .previous) (omega arith) (omega arith)) ∙ loop .inv .1
 
 returns-5 : tie.Need-returns-5 Inv-loop μ-loop
 returns-5 c =
-    let whole = c .before .before .before .before .lesser .ensures in
-    sym (resumed-end (c .before .before .before .before .before .before .before .before .before .args .bytes .now) (getD (c .before .before .before .before .before .before .before .before .before .args .bytes .now) 0 0) (c .before .before .before .loop .i) (c .before .before .before .loop .previous) (omega arith)) ∙ c .before .before .before .loop .inv .1 .rises (c .before .if3 .left)
+    let loop = c .before .before .loop in
+    let bytes = c .before .before .before .before .before .before .before .before .args .bytes .now in
+    let whole = c .before .before .before .lesser .ensures in
+    sym (resumed-end bytes (getD bytes 0 0) (loop .i) (loop .previous) (omega arith)) ∙ loop .inv .1
 
 pub read-list-spec : {M : Type 1} → statement M
 read-list-spec =
@@ -123,10 +125,9 @@ read-list-spec =
     cast-a-2
     mul-a-3
     add-a-3
-    falls-requires
+    returns-3
     add-i
     loop-less
     loop-again
-    returns-3
     returns-4
     returns-5)
