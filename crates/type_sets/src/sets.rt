@@ -76,13 +76,19 @@ pub fn keep_entries(sets: &mut [u64], from: usize, at: usize, width: usize, brok
     lay_front(sets, at, whole, given);
 }
 
-// The words of a node without entries.
+// The words of a node without entries. At most 64 entries, in one word, are cleared without a loop, which the compiler
+// makes a call of.
 pub fn drop_entries(sets: &mut [u64], from: usize, at: usize, width: usize, broken: u64, given: u64)
     requires { ⌜ (from + width ≤ at) × (2 ≤ width) ⌝ }
     requires { ⌜ at + width ≤ length (now sets) ⌝ }
     ensures { λ _. ⌜ Laid (bitOr (getD (now (sets .entry)) from 0) broken) given (λ v. 0) at width (now (sets .entry)) (now (sets .exit)) ⌝ }
 {
     let whole = sets[from] | broken;
+    if width == 3 {
+        sets[at + 2] = 0;
+        lay_front(sets, at, whole, given);
+        return;
+    }
     let mut v = 2;
     while v < width {
         sets[at + v] = 0;
