@@ -33,7 +33,7 @@ use Rattle.schema.specs.declared.reading.Judgement.the-variants.{Read, Refused 
 use Rattle.instantiation.specs.Instantiation.{Instantiation, entriesIn, instantiationReading, readingOf}
 use Rattle.instantiation.specs.ReadLaws.{lists-read}
 use Rattle.instantiation.specs.EntriesLaws.{entries-below}
-use Rattle.instantiation.specs.TableLaws.{ReadInstantiation, instantiation-read, subsets-size, subsets-none, subsets-small}
+use Rattle.instantiation.specs.TableLaws.{ReadInstantiation, instantiation-read, handed-on, subsets-size, subsets-none, subsets-small}
 use Rattle.instantiation.specs.declared.reading.InstantiationReading.{InstantiationReading}
 use Rattle.typing.specs.Output.{outputMap, outputList}
 use Rattle.typing.specs.Typing.{afterSchema}
@@ -167,8 +167,7 @@ module _ (file : List ℕ) (m k : ℕ) (few : m ≤ 8) (legal : Legal m (express
 
 -- what is found in the bytes, by the reading that was handed on
 pub read-stopped : (bytes : List ℕ) (x : InstantiationReading) (r : Refusal) → x ≡ readingOf (instantiationReading bytes) → x .judgement ≡ ReadRefused r → instantiationReading bytes .judgement ≡ ReadRefused r
-unfolding readingOf
-read-stopped bytes x r is said = sym (ap (λ (y : InstantiationReading). y .judgement) is) ∙ said
+read-stopped bytes x r is said = sym (handed-on (instantiationReading bytes) x is .judgement) ∙ said
 
 -- an instantiation that was read has such a table
 pub record SubsetsRead (bytes items : List ℕ) (x : InstantiationReading) : Type 0 where
@@ -178,17 +177,16 @@ pub record SubsetsRead (bytes items : List ℕ) (x : InstantiationReading) : Typ
   pub judged : instantiationReading bytes .judgement ≡ Read
 
 pub read-subsets : (bytes items : List ℕ) (x : InstantiationReading) → Bytes bytes → x ≡ readingOf (instantiationReading bytes) → EntriesStand (x .judgement) (instantiationReading bytes .entries) items → x .judgement ≡ Read → SubsetsRead bytes items x
-unfolding readingOf
 read-subsets bytes items x below is stands read = made (instantiation-read bytes judged)
   where
     judged : instantiationReading bytes .judgement ≡ Read
-    judged = sym (ap (λ (y : InstantiationReading). y .judgement) is) ∙ read
+    judged = sym (handed-on (instantiationReading bytes) x is .judgement) ∙ read
 
     subsets : x .subsets ≡ instantiationReading bytes .subsets
-    subsets = ap (λ (y : InstantiationReading). y .subsets) is
+    subsets = handed-on (instantiationReading bytes) x is .subsets
 
     number : x .count ≡ length (instantiationReading bytes .entries)
-    number = ap (λ (y : InstantiationReading). y .count) is
+    number = handed-on (instantiationReading bytes) x is .count
 
     made : (ls : List (List ℕ)) × ReadInstantiation bytes (instantiationReading bytes) ls → SubsetsRead bytes items x
     made (ls, r) =

@@ -12,20 +12,19 @@ use lib.Pow.{pow-pos}
 use Rattle.bits.specs.Booleans.{and-left, and-right}
 use Rattle.bits.specs.AllBelow.{allBelow, in-all, all-in, all-same}
 use Rattle.bits.specs.Bit.{bit, bit-none}
-use Rattle.bits.specs.Pack.{pack-same}
 use Rattle.algebra.specs.Expression.{Expression, Legal}
 use Rattle.algebra.specs.Cell.{plain, out, ok}
 use Rattle.algebra.specs.CellLaws.{cell-depends, cell-none}
 use Rattle.formulas.specs.Formula.{typeVariable}
 use Rattle.column.specs.Column.{allowedIn, outputIn}
 use Rattle.formula.specs.Storage.{columnAt}
-use Rattle.formula.specs.Stored.{allowedBit, outputBit, cellColumn}
-use Rattle.formula.specs.StoredLaws.{allowed-is, allowed-cell}
+use Rattle.formula.specs.Stored.{allowedBit, cellColumn}
+use Rattle.formula.specs.StoredLaws.{allowed-is, allowed-cell, output-allowed}
 use Rattle.formula.specs.NodeColumn.{cell-allowed, cell-output}
 use Rattle.membership.specs.Entries.{subsetOf}
 use Rattle.membership.specs.Keeping.{kept-same}
 use Rattle.typing.specs.Output.{specialHolders, typedIn, outputMap, outputList}
-use Rattle.typing.specs.OutputLaws.{all-typed}
+use Rattle.typing.specs.OutputLaws.{map-by-bits, all-typed}
 use Rattle.typing.specs.OutputRecord.{entry-cell}
 use Rattle.special_maps.specs.Special.{mapsFrom}
 use Rattle.special_maps.specs.SpecialLaws.{map-bit}
@@ -101,12 +100,11 @@ module _ (m : ℕ) (few : m ≤ 8) (e : Expression) (legal : Legal m e) where
 module _ (m : ℕ) (few : m ≤ 8) (e : Expression) (legal : Legal m e) (work : List ℕ) (k : ℕ) (columns : (c : ℕ) → c < 16 → columnAt work k c ≡ cellColumn m e c) where
   -- the output bit of a subset that is allowed
   output-stored : (c s : ℕ) → c < 16 → s < 256 → allowedBit m e c s ≡ true → outputIn (columnAt work k c) s ≡ out plain e c (bit s)
-  unfolding outputBit
-  output-stored c s hc hs allowed = ap (λ (l : List ℕ). outputIn l s) (columns c hc) ∙ cell-output m e c s hs ∙ ap (λ (b : Bool). b && out plain e c (bit s)) allowed
+  output-stored c s hc hs allowed = ap (λ (l : List ℕ). outputIn l s) (columns c hc) ∙ cell-output m e c s hs ∙ output-allowed m e c s allowed
 
   pub map-stored : (subsets : List ℕ) → ((i : ℕ) → getD subsets i 0 < 256) → getD subsets 0 0 ≡ 0 → specialsFit m e subsets ≡ true → storedMap work k subsets ≡ outputMap e (mapsFrom subsets)
-  unfolding storedMap outputMap
-  map-stored subsets small none special = pack-same 16 _ _ each
+  unfolding storedMap
+  map-stored subsets small none special = map-by-bits e (mapsFrom subsets) (λ i. outputIn (columnAt work k i) (getD subsets i 0)) each
     where
       held : (i : ℕ) → i < 16 → out plain e i (specialHolders (mapsFrom subsets) i) ≡ out plain e i (bit (getD subsets i 0))
       held i h = cell-depends plain m e legal i (specialHolders (mapsFrom subsets) i) (bit (getD subsets i 0)) (λ r below. map-bit subsets r i (lt-of-lt-of-le below few) h) .1

@@ -162,6 +162,11 @@ module _ (m : ℕ) (e : Expression) (c s : ℕ) where
   unfolding allowedBit
   allowed-cell h = and-right (ltb s (2 ^ m)) (ok plain e c (bit s)) h
 
+  -- where s is allowed, the output bit says whether the result has the attribute
+  pub output-allowed : allowedBit m e c s ≡ true → outputBit m e c s ≡ out plain e c (bit s)
+  unfolding outputBit
+  output-allowed h = ap (λ (t : Bool). t && out plain e c (bit s)) h
+
   -- "An output bit stands only where the allowed bit does"
   pub output-within : outputBit m e c s ≡ true → allowedBit m e c s ≡ true
   unfolding outputBit

@@ -19,7 +19,8 @@ use Rattle.type_record.specs.Lists.{readList, listed}
 use Rattle.type_record.specs.ListLaws.{list-number}
 use Rattle.schema.specs.declared.reading.Judgement.the-variants.{Read, Refused}
 use Rattle.instantiation.specs.Seen.{nothingSeen, repeatedIn}
-use Rattle.instantiation.specs.Instantiation.{Instantiation, Lists, listsRefused, listsRead, standing, precede, follow, readLists, entriesIn, allListed, subsetsOf, refusedInstantiation, tabled, instantiationReading}
+use Rattle.instantiation.specs.Instantiation.{Instantiation, Lists, listsRefused, listsRead, standing, precede, follow, readLists, entriesIn, allListed, subsetsOf, refusedInstantiation, tabled, instantiationReading, readingOf}
+use Rattle.instantiation.specs.declared.reading.InstantiationReading.{InstantiationReading}
 use Rattle.instantiation.specs.ReadStep.{read-clear, read-stands}
 
 -- an instantiation that was read from these bytes, with its lists
@@ -115,6 +116,21 @@ reading-number bytes r e = long (ltb (length bytes) 47) e
 
 pub read-entries : (bytes : List ℕ) (i : Instantiation) (ls : List (List ℕ)) → ReadInstantiation bytes i ls → i .entries ≡ entriesIn ls
 read-entries bytes i ls r = ap (λ (x : Instantiation). x .entries) (r .is)
+
+-- what is handed on of a reading
+pub record Handed (i : Instantiation) (x : InstantiationReading) : Type 0 where
+  pub judgement : x .judgement ≡ i .judgement
+  pub subsets : x .subsets ≡ i .subsets
+  pub count : x .count ≡ length (i .entries)
+
+pub handed-on : (i : Instantiation) (x : InstantiationReading) → x ≡ readingOf i → Handed i x
+unfolding readingOf
+handed-on i x is =
+    record {
+      judgement = ap (λ (y : InstantiationReading). y .judgement) is;
+      subsets = ap (λ (y : InstantiationReading). y .subsets) is;
+      count = ap (λ (y : InstantiationReading). y .count) is;
+    }
 
 -- ---- the subsets of special attributes
 

@@ -14,10 +14,11 @@ use Rattle.refusal.specs.declared.Refusal.{Refusal}
 use Rattle.refusal.specs.declared.Refusal.the-variants.{TooManyAttributes}
 use Rattle.type_record.specs.Record.{TypeRecord}
 use Rattle.membership.specs.TableLaws.{items-stand}
-use Rattle.schema.specs.Schema.{Schema, Records, recordsRefused, recordsRead, readRecords, noRecord, entriesOf, mapsOf, refusedSchema, tabled, schemaReading, WritesFrom}
+use Rattle.schema.specs.Schema.{Schema, Records, recordsRefused, recordsRead, readRecords, noRecord, entriesOf, mapsOf, refusedSchema, tabled, schemaReading, readingOf, WritesFrom}
 use Rattle.schema.specs.RecordsLaws.{AllRecords, records-read}
 use Rattle.schema.specs.EntriesLaws.{entries-below}
 use Rattle.schema.specs.declared.reading.Judgement.the-variants.{Read}
+use Rattle.schema.specs.declared.reading.SchemaReading.{SchemaReading}
 
 -- a schema of m relations that was read from these bytes, with its records
 pub record ReadSchema (m : ℕ) (bytes : List ℕ) (s : Schema) (records : List TypeRecord) : Type 0 where
@@ -45,6 +46,21 @@ schema-read m bytes e = go (readRecords m bytes) refl e
 pub read-schema : (m : ℕ) (bytes : List ℕ) (ts : List TypeRecord) → readRecords m bytes ≡ recordsRead ts → length (entriesOf ts) ≤ 255 → ReadSchema m bytes (schemaReading m bytes) ts
 unfolding schemaReading
 read-schema m bytes ts read few = record { read = read; few = few; is = rw (read, le-ltb 255 (length (entriesOf ts)) few) }
+
+-- what is handed on of a reading
+pub record Handed (s : Schema) (x : SchemaReading) : Type 0 where
+  pub judgement : x .judgement ≡ s .judgement
+  pub special : x .special ≡ s .special
+  pub count : x .count ≡ length (s .entries)
+
+pub handed-on : (s : Schema) (x : SchemaReading) → x ≡ readingOf s → Handed s x
+unfolding readingOf
+handed-on s x is =
+    record {
+      judgement = ap (λ (y : SchemaReading). y .judgement) is;
+      special = ap (λ (y : SchemaReading). y .special) is;
+      count = ap (λ (y : SchemaReading). y .count) is;
+    }
 
 -- ---- what stands in its table
 

@@ -1,7 +1,7 @@
 -- Laws of the output: an attribute that no relation has, and what a typed table says about each cell.
 use Prim.Native.Nat.{ℕ, _%_, _<_}
 use mathlib.Core.Path.{_≡_, refl, sym, ap, ap₂, fun-ext, _∙_}
-use mathlib.Core.Bool.{true, false, _&&_}
+use mathlib.Core.Bool.{Bool, true, false, _&&_}
 use mathlib.Core.List.{List}
 use native.Mathlib.Nat.{mod-lt}
 use lib.Dec.{lit<}
@@ -9,7 +9,7 @@ use lib.ListN.{length, getD}
 use Rattle.bits.specs.AllBelow.{allBelow, in-all, all-in}
 use Rattle.bits.specs.Bit.{bit, bit-first, bit-none, digit-clear}
 use Rattle.bits.specs.Booleans.{and-left, and-right}
-use Rattle.bits.specs.Pack.{pack, bit-pack}
+use Rattle.bits.specs.Pack.{pack, bit-pack, pack-same}
 use Rattle.algebra.specs.Expression.{Expression, Legal}
 use Rattle.algebra.specs.Cell.{plain, out, ok}
 use Rattle.algebra.specs.CellLaws.{cell-none}
@@ -32,6 +32,11 @@ module _ (m : ℕ) (e : Expression) (legal : Legal m e) where
 
       lacks : bit (pack 16 (λ i. out plain e i (specialHolders special i))) 0 ≡ false
       lacks = bit-pack 16 (λ i. out plain e i (specialHolders special i)) 0 (lit< tt) ∙ rw none (cell-none plain refl refl m e legal .1)
+
+-- the output's map, by its bits
+pub map-by-bits : (e : Expression) (special : List ℕ) (f : ℕ → Bool) → ((i : ℕ) → i < 16 → f i ≡ out plain e i (specialHolders special i)) → pack 16 f ≡ outputMap e special
+unfolding outputMap
+map-by-bits e special f same = pack-same 16 f (λ i. out plain e i (specialHolders special i)) same
 
 -- ---- a typed table: each special attribute and each entry breaks no rule
 

@@ -19,7 +19,7 @@ use Rattle.formula.specs.Expressions.{expressionAt}
 use Rattle.bits.specs.Pack.{pack-below}
 use Rattle.type_record.specs.Record.{TypeRecord, recordSize, recordBytes}
 use Rattle.schema.specs.Schema.{Schema, recordsRead, readRecords, entriesOf, mapsOf, schemaReading, readingOf, EntriesStand, WritesFrom}
-use Rattle.schema.specs.TableLaws.{schema-read, read-schema, read-entries, read-table}
+use Rattle.schema.specs.TableLaws.{schema-read, read-schema, read-entries, handed-on, read-table}
 use Rattle.schema.specs.declared.reading.Judgement.the-variants.{Read, Refused as SchemaRefused}
 use Rattle.schema.specs.declared.reading.SchemaReading.{SchemaReading}
 use Rattle.type_sets.specs.Sets.{widthOf, TypeIn, wordsAt}
@@ -111,8 +111,7 @@ module _ (e : Expression) (s : Schema) (out : List ℕ) where
 
 -- what is found in the bytes, by the reading that was handed on
 pub read-stopped : (m : ℕ) (bytes : List ℕ) (x : SchemaReading) (r : Refusal) → x ≡ readingOf (schemaReading m bytes) → x .judgement ≡ SchemaRefused r → schemaReading m bytes .judgement ≡ SchemaRefused r
-unfolding readingOf
-read-stopped m bytes x r is said = sym (ap (λ (y : SchemaReading). y .judgement) is) ∙ said
+read-stopped m bytes x r is said = sym (handed-on (schemaReading m bytes) x is .judgement) ∙ said
 
 -- a schema that was read has such a table
 pub record TableRead (m : ℕ) (bytes items : List ℕ) (x : SchemaReading) : Type 0 where
@@ -122,11 +121,11 @@ pub record TableRead (m : ℕ) (bytes items : List ℕ) (x : SchemaReading) : Ty
   pub judged : schemaReading m bytes .judgement ≡ Read
 
 pub schema-table : (m : ℕ) (bytes items : List ℕ) (x : SchemaReading) → m ≤ 8 → Bytes bytes → x ≡ readingOf (schemaReading m bytes) → EntriesStand (x .judgement) (schemaReading m bytes .entries) items → x .judgement ≡ Read → TableRead m bytes items x
-unfolding readingOf
 schema-table m bytes items x most below is stands read =
-    let judged = sym (ap (λ (y : SchemaReading). y .judgement) is) ∙ read in
-    let special = ap (λ (y : SchemaReading). y .special) is in
-    let number = ap (λ (y : SchemaReading). y .count) is in
+    let handed = handed-on (schemaReading m bytes) x is in
+    let judged = sym (handed .judgement) ∙ read in
+    let special = handed .special in
+    let number = handed .count in
     let found = schema-read m bytes judged in
     record {
       table = rw (special, number) (read-table m bytes (schemaReading m bytes) (found .0) items most below (found .1) (stands read));

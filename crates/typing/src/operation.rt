@@ -57,8 +57,9 @@ fn type_within(
     Answer::Typed(write_record(out, map, &list[..listed]))
 }
 
-// A node over a membership table, with a slice for the output's attributes.
-pub fn type_table(
+// A node over a membership table that needs many words. The larger slice begins as ones: no word is read before it is
+// written, and so many zeros would be a call of the C library.
+fn type_many(
     file: &[u8],
     m: u8,
     n: u8,
@@ -75,23 +76,7 @@ pub fn type_table(
     ensures { λ r. ⌜ r ≡ tableAnswer (expressionAt (now (file .entry)) node) (now (special .entry)) (take count (now (items .entry))) ⌝ }
     ensures { λ _. ⌜ now (out .exit) ≡ tableOut (expressionAt (now (file .entry)) node) (now (special .entry)) (take count (now (items .entry))) (now (out .entry)) ⌝ }
 {
-    let words = (node as usize + 1) * (2 + (count + 63) / 64);
-    if words <= 24 {
-        let mut sets = [0u64; 24];
-        return type_within(
-            file,
-            m,
-            n,
-            node,
-            special,
-            items,
-            count,
-            list,
-            &mut sets,
-            out,
-        );
-    }
-    if words <= 192 {
+    if (node as usize + 1) * (2 + (count + 63) / 64) <= 192 {
         let mut sets = [0u64; 192];
         return type_within(
             file,
@@ -119,6 +104,42 @@ pub fn type_table(
         &mut sets,
         out,
     )
+}
+
+// A node over a membership table, with a slice for the output's attributes: few words for few nodes and entries.
+pub fn type_table(
+    file: &[u8],
+    m: u8,
+    n: u8,
+    node: u8,
+    special: &[u16],
+    items: &[u32],
+    count: usize,
+    list: &mut [u32],
+    out: &mut [u8],
+) -> Answer
+    requires { ⌜ acceptance (now file) ≡ Accepted m n ⌝ }
+    requires { ⌜ (node < n) × (513 ≤ length (now out)) ⌝ }
+    requires { ⌜ WritesFrom (now special) (now items) count × (count ≤ length (now list)) ⌝ }
+    ensures { λ r. ⌜ r ≡ tableAnswer (expressionAt (now (file .entry)) node) (now (special .entry)) (take count (now (items .entry))) ⌝ }
+    ensures { λ _. ⌜ now (out .exit) ≡ tableOut (expressionAt (now (file .entry)) node) (now (special .entry)) (take count (now (items .entry))) (now (out .entry)) ⌝ }
+{
+    if (node as usize + 1) * (2 + (count + 63) / 64) <= 24 {
+        let mut sets = [0u64; 24];
+        return type_within(
+            file,
+            m,
+            n,
+            node,
+            special,
+            items,
+            count,
+            list,
+            &mut sets,
+            out,
+        );
+    }
+    type_many(file, m, n, node, special, items, count, list, out)
 }
 
 // A node of an accepted file under the schema in these bytes, with two slices for its entries.

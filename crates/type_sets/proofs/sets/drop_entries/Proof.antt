@@ -7,9 +7,6 @@ use Prim.Native.Nat.{_+_, _-_, _≤_}
 use borrow.Author.Needs.{needs}
 use Rattle.type_sets.proofs.sets.drop_entries.Statement.{statement}
 use Rattle.type_sets.proofs.sets.drop_entries.Tie as tie
-use Rattle.type_sets.proofs.sets.drop_entries.Reads as reads
-use Rattle.type_sets.proofs.sets.drop_entries.Lts as lts
-use Rattle.type_sets.proofs.sets.lay_front.Reads as lay-front-reads
 
 abbrev Inv-loop : tie.InvT-loop
 Inv-loop sets₀ from at width broken given whole v₀ sets v = (2 ≤ v) × (v ≤ width) × Laying (λ v. 0) at v sets₀ sets

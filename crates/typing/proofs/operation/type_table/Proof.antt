@@ -6,17 +6,17 @@ use borrow.Author.Needs.{needs}
 use Rattle.typing.proofs.operation.type_table.Statement.{statement}
 use Rattle.typing.proofs.operation.type_table.Tie as tie
 
-add-words : tie.Need-add-words
-add-words c = search needs
+add-if1 : tie.Need-add-if1
+add-if1 c = search needs
 
-add-words-2 : tie.Need-add-words-2
-add-words-2 c = search needs
+add-if1-2 : tie.Need-add-if1-2
+add-if1-2 c = search needs
 
-add-words-3 : tie.Need-add-words-3
-add-words-3 c = search needs
+add-if1-3 : tie.Need-add-if1-3
+add-if1-3 c = search needs
 
-mul-words : tie.Need-mul-words
-mul-words c =
+mul-if1 : tie.Need-mul-if1
+mul-if1 c =
     let nodes = (accepted-file (c .before .before .before .before .before .args .file .now) (c .before .before .before .before .before .args .m) (c .before .before .before .before .before .args .n) (c .before .before .before .before .before .pre .0) .counts .nodes .1) in
     let node = c .before .before .before .before .before .pre .1 .0 .0 in
     let few = c .before .before .before .before .before .pre .1 .1 .0 .few in
@@ -44,17 +44,8 @@ same-length-2 c = search needs
 returns : tie.Need-returns
 returns c = search needs
 
-slice-aggregate-type-within-2 : tie.Need-slice-aggregate-type-within-2
-slice-aggregate-type-within-2 c = search needs
-
-type-within-requires-2 : tie.Need-type-within-requires-2
-type-within-requires-2 c κs =
-    let nodes = (accepted-file (c .before .before .before .before .before .before .before .before .before .before .args .file .now) (c .before .before .before .before .before .before .before .before .before .before .args .m) (c .before .before .before .before .before .before .before .before .before .before .args .n) (c .before .before .before .before .before .before .before .before .before .before .pre .0) .counts .nodes .1) in
-    let node = c .before .before .before .before .before .before .before .before .before .before .pre .1 .0 .0 in
-    let few = c .before .before .before .before .before .before .before .before .before .before .pre .1 .1 .0 .few in
-    let wide = words-most (c .before .before .before .before .before .before .before .before .before .before .args .node) (c .before .before .before .before .before .before .before .before .before .before .args .count) (omega arith) few in
-    let few = c .before .before .before .if2 .taken in
-    (c .before .before .before .before .before .before .before .before .before .before .pre .0, (c .before .before .before .before .before .before .before .before .before .before .pre .1 .0, (c .before .before .before .before .before .before .before .before .before .before .pre .1 .1 .0, (c .before .before .before .before .before .before .before .before .before .before .pre .1 .1 .1, node-words (c .before .before .before .before .before .before .before .before .before .before .args .node) (2 + (c .before .before .before .before .before .before .before .before .before .before .args .count + 63) / 64) _ (omega arith)))))
+type-many-requires : tie.Need-type-many-requires
+type-many-requires c κs = search needs
 
 same-length-3 : tie.Need-same-length-3
 same-length-3 c = search needs
@@ -65,46 +56,20 @@ same-length-4 c = search needs
 returns-2 : tie.Need-returns-2
 returns-2 c = search needs
 
-slice-aggregate-type-within-3 : tie.Need-slice-aggregate-type-within-3
-slice-aggregate-type-within-3 c = search needs
-
-type-within-requires-3 : tie.Need-type-within-requires-3
-type-within-requires-3 c κs =
-    let nodes = (accepted-file (c .before .before .before .before .before .before .before .before .before .before .args .file .now) (c .before .before .before .before .before .before .before .before .before .before .args .m) (c .before .before .before .before .before .before .before .before .before .before .args .n) (c .before .before .before .before .before .before .before .before .before .before .pre .0) .counts .nodes .1) in
-    let node = c .before .before .before .before .before .before .before .before .before .before .pre .1 .0 .0 in
-    let few = c .before .before .before .before .before .before .before .before .before .before .pre .1 .1 .0 .few in
-    let wide = words-most (c .before .before .before .before .before .before .before .before .before .before .args .node) (c .before .before .before .before .before .before .before .before .before .before .args .count) (omega arith) few in
-    (c .before .before .before .before .before .before .before .before .before .before .pre .0, (c .before .before .before .before .before .before .before .before .before .before .pre .1 .0, (c .before .before .before .before .before .before .before .before .before .before .pre .1 .1 .0, (c .before .before .before .before .before .before .before .before .before .before .pre .1 .1 .1, node-words (c .before .before .before .before .before .before .before .before .before .before .args .node) (2 + (c .before .before .before .before .before .before .before .before .before .before .args .count + 63) / 64) _ (omega arith)))))
-
-same-length-5 : tie.Need-same-length-5
-same-length-5 c = search needs
-
-same-length-6 : tie.Need-same-length-6
-same-length-6 c = search needs
-
-returns-3 : tie.Need-returns-3
-returns-3 c = search needs
-
 pub type-table-spec : {M : Type 1} → statement M
 type-table-spec =
     tie.close
     (tie.spec
-    add-words
-    add-words-2
-    add-words-3
-    mul-words
+    add-if1
+    add-if1-2
+    add-if1-3
+    mul-if1
     slice-aggregate-type-within
     type-within-requires
     same-length
     same-length-2
     returns
-    slice-aggregate-type-within-2
-    type-within-requires-2
+    type-many-requires
     same-length-3
     same-length-4
-    returns-2
-    slice-aggregate-type-within-3
-    type-within-requires-3
-    same-length-5
-    same-length-6
-    returns-3)
+    returns-2)
