@@ -17,8 +17,9 @@ fn lesser(a: usize, b: usize) -> usize
     if a < b { a } else { b }
 }
 
-// The list at the front of the bytes, which begin with its count byte. The loop goes over the attributes that are
-// complete in the bytes; an attribute that does not rise is refused before a later one that is cut off.
+// The list at the front of the bytes, which begin with its count byte. The loop judges every attribute that is
+// complete in the bytes, without a way out, so that the compiler can take several at a time. An attribute that does not
+// rise is refused before a later one that is cut off.
 pub fn read_list(bytes: &[u8]) -> ListReading
     ensures { λ r. ⌜ r ≡ readList (now (bytes .entry)) ⌝ }
 {
@@ -30,15 +31,17 @@ pub fn read_list(bytes: &[u8]) -> ListReading
         return ListReading::Refused(Refusal::CountZero);
     }
     let whole = lesser(count, (bytes.len() - 1) / 2);
+    let mut rises = true;
     let mut previous = 15u16;
     let mut i = 0;
     while i < whole {
-        let a = bytes[i * 2 + 1] as u16 + bytes[i * 2 + 2] as u16 * 256;
-        if a <= previous {
-            return ListReading::Refused(Refusal::ListedAttribute);
-        }
+        let a = bits::word_at(bytes, i * 2 + 1);
+        rises = rises & (previous < a);
         previous = a;
         i += 1;
+    }
+    if !rises {
+        return ListReading::Refused(Refusal::ListedAttribute);
     }
     if whole < count {
         return ListReading::Refused(Refusal::InputTruncated);
