@@ -1,12 +1,13 @@
 -- Laws of entering a list: each arm, the order of the entries, and who holds an attribute afterwards.
-use Prim.Native.Nat.{ℕ, suc, _+_, _/_, _≤_, _<_}
+use Prim.Native.Nat.{ℕ, suc, _+_, _*_, _/_, _%_, _≤_, _<_, max}
 use mathlib.Core.Path.{_≡_, refl, sym, ap, _∙_}
 use mathlib.Core.Bool.{Bool, true, false, cond, _&&_, _||_, or-comm, or-false}
 use mathlib.Core.List.{List, [], _∷_}
 use native.Mathlib.Nat.{div-eq-of-lt}
 use native.Mathlib.Omega.{arith}
 use borrow.Author.Tests.{lt-ltb, le-ltb, ltb-true, ltb-false, eqb-true, ne-eqb}
-use lib.Bits.{bitOr, or-shr, or-zero-r}
+use lib.Arith.{bin-ind}
+use lib.Bits.{bitOr, or-self, or-shr, or-step, or-zero-r}
 use lib.Dec.{eqb, ltb}
 use lib.ListN.{length}
 use Rattle.bits.specs.Bit.{bit, bit-low, bit-or, bit-none}
@@ -23,6 +24,17 @@ entry-subset a s h = omega arith
 
 pub joined-attribute : (e s : ℕ) → s < 256 → attributeOf (bitOr e s) ≡ attributeOf e
 joined-attribute e s h = or-shr e s 8 ∙ ap (bitOr (e / 256)) (div-eq-of-lt h) ∙ or-zero-r (e / 256)
+
+-- what is joined once is joined
+pub joined-again : (e s : ℕ) → bitOr (bitOr e s) s ≡ bitOr e s
+joined-again = bin-ind (λ (e : ℕ). (s : ℕ) → bitOr (bitOr e s) s ≡ bitOr e s) or-self (λ e half s. go e s (half (s / 2)))
+  where
+    go : (e s : ℕ) → bitOr (bitOr (e / 2) (s / 2)) (s / 2) ≡ bitOr (e / 2) (s / 2) → bitOr (bitOr e s) s ≡ bitOr e s
+    go e s again =
+        let once = or-step e s in
+        let rest : bitOr e s / 2 ≡ bitOr (e / 2) (s / 2) = omega arith in
+        let twice = or-step (bitOr e s) s ∙ ap (λ (x : ℕ). bitOr x (s / 2) * 2 + max (bitOr e s % 2) (s % 2)) (rest) in
+        omega arith
 
 pub subset-bit : (e q : ℕ) → q < 8 → bit (subsetOf e) q ≡ bit e q
 subset-bit e q h = bit-low 8 e q h

@@ -42,9 +42,6 @@ pub record Merge (s : ℕ) (more es before items : List ℕ) (i j k : ℕ) : Typ
 pub merge-first : (s : ℕ) (more es items : List ℕ) → Merge s more es items items 0 0 0
 merge-first s more es items = record { listed = omega arith; earlier = omega arith; reached = omega arith; fewer = omega arith; written = written-none _ items; rest = refl }
 
-pub merge-number : {s : ℕ} {more es before items : List ℕ} {i n j k : ℕ} → i ≡ n → Merge s more es before items i j k → Merge s more es before items n j k
-merge-number same m = rw same at m
-
 -- ---- a run of earlier entries
 
 -- an entry comes before the attributes of a list, which rise
@@ -153,7 +150,7 @@ module _ {s : ℕ} {more es before items : List ℕ} {i j k : ℕ} (m : Merge s 
   merge-written new n new-is n-is past c = rw n-is (merge-listed past (rw (new-is, n-is) at c))
 
   -- those below the next listed attribute
-  pub merge-lower : {next : List ℕ} {j′ k′ : ℕ} → i < length more → j′ ≤ length es → ((x : ℕ) → j ≤ x → x < j′ → getD es x 0 < getD more i 0 * 256) → Copying es j k items next j′ k′ → Merge s more es before next i j′ k′
+  merge-lower : {next : List ℕ} {j′ k′ : ℕ} → i < length more → j′ ≤ length es → ((x : ℕ) → j ≤ x → x < j′ → getD es x 0 < getD more i 0 * 256) → Copying es j k items next j′ k′ → Merge s more es before next i j′ k′
   merge-lower hi inside low c =
       merge-run inside (λ x above under. rw (drop-cons more i 0 hi) (let less = low x above under in omega arith)) c
 
@@ -188,7 +185,7 @@ module _ {s : ℕ} {more es before items : List ℕ} {i j k : ℕ} (m : Merge s 
         go (no past) = rw (add-one i, drop-cons more i 0 hi, drop-of-length-le es {i = j} (omega arith)) (enter-first s (getD more i 0) (drop (suc i) more))
 
     -- and where it has the same
-    pub merge-equal : j < length es → getD more i 0 ≡ attributeOf (getD es j 0) → Merge s more es before (set items k (bitOr (getD es j 0) s)) (i + 1) (j + 1) (k + 1)
+    merge-equal : j < length es → getD more i 0 ≡ attributeOf (getD es j 0) → Merge s more es before (set items k (bitOr (getD es j 0) s)) (i + 1) (j + 1) (k + 1)
     merge-equal hj same = one-more _ (i + 1) (j + 1) room (omega arith) (omega arith) (omega arith) (rw (add-one i, add-one j, drop-cons more i 0 hi, drop-cons es j 0 hj) (enter-equal s (getD more i 0) (drop (suc i) more) (getD es j 0) (drop (suc j) es) same))
 
   -- both are used up: all entries are written

@@ -1,8 +1,9 @@
-use Rattle.membership.specs.Merging.{merge-first, merge-number, bounds}
-use Rattle.membership.specs.Entering.{Marking, mark-stops, mark-goes-on}
+use Rattle.membership.specs.Entering.{Marking, mark-first, marked-bound, mark-stops, mark-goes-on, mark-all}
+use Rattle.bits.specs.Tab.{tab}
 use Rattle.bits.specs.Word.{word}
-use mathlib.Core.Path.{refl, ap, _∙_}
-use Prim.Native.Nat.{_+_, _-_, _<_}
+use lib.ListN.{length, take}
+use mathlib.Core.Path.{_≡_, refl, _∙_}
+use Prim.Native.Nat.{ℕ, _+_, _-_, _*_, _≤_}
 use borrow.Author.Tests.{not-true, not-false}
 use native.Mathlib.Omega.{arith}
 use borrow.Author.Needs.{needs}
@@ -10,29 +11,27 @@ use Rattle.membership.proofs.entering.mark.Statement.{statement}
 use Rattle.membership.proofs.entering.mark.Tie as tie
 
 abbrev Inv-loop : tie.InvT-loop
-Inv-loop list count subset items₀ old end at₀ j₀ items at j = Marking list count subset items₀ old items at j
+Inv-loop list count subset items₀ old i₀ j₀ items i j = (i ≤ count) × (length items ≡ length items₀) × Marking subset (tab count (λ x. word list (x * 2 + 1))) (take old items₀) (take old items) i j
 
 abbrev μ-loop : tie.MeasureT-loop
-μ-loop list count subset items₀ old end at₀ j₀ items at j = end - at
-
-mul-end : tie.Need-mul-end Inv-loop μ-loop
-mul-end c =
-    let few = c .before .before .pre .few in
-    omega arith
-
-add-end : tie.Need-add-end Inv-loop μ-loop
-add-end c =
-    let few = c .before .before .pre .few in
-    omega arith
+μ-loop list count subset items₀ old i₀ j₀ items i j = count - i
 
 loop-holds : tie.Need-loop-holds Inv-loop μ-loop
-loop-holds c = record { listed = 0; at-is = refl; state = merge-first _ _ _ _ }
+loop-holds c = (omega arith, refl, mark-first _ _ _)
+
+mul-word-at : tie.Need-mul-word-at Inv-loop μ-loop
+mul-word-at c =
+    let few = c .before .before .before .before .pre .few in
+    omega arith
+
+add-word-at : tie.Need-add-word-at Inv-loop μ-loop
+add-word-at c =
+    let few = c .before .before .before .before .pre .few in
+    omega arith
 
 word-at-requires : tie.Need-word-at-requires Inv-loop μ-loop
 word-at-requires c κs =
-    let at = c .before .loop .inv .at-is in
-    let less : c .before .loop .inv .listed < c .before .before .before .before .args .count = omega arith in
-    let fits = c .before .before .before .before .pre .fits (c .before .loop .inv .listed) less in
+    let fits = c .before .before .before .before .pre .fits (c .before .loop .i) (c .loop-test .taken) in
     omega arith
 
 cast-a : tie.Need-cast-a Inv-loop μ-loop
@@ -40,30 +39,24 @@ cast-a c = search needs
 
 mark-one-requires : tie.Need-mark-one-requires Inv-loop μ-loop
 mark-one-requires c κs =
-    let b = bounds (c .before .before .before .before .before .before .args .subset) (c .before .before .before .before .before .before .pre) (c .before .before .before .loop .inv .state) in
-    let upTo = b .1 in
-    let size = b .3 in
     let enough = c .before .before .before .before .before .before .pre .enough in
-    ((upTo, omega arith), omega arith)
+    let size = c .before .before .before .loop .inv .1 in
+    ((marked-bound (c .before .before .before .before .before .before .args .subset) (c .before .before .before .before .before .before .pre) (c .before .before .before .loop .items) (omega arith) (c .before .before .before .loop .inv .2), omega arith), omega arith)
 
 same-length : tie.Need-same-length Inv-loop μ-loop
-same-length c =
-    let at = c .before .before .before .before .before .before .before .before .loop .inv .at-is in
-    let less : c .before .before .before .before .before .before .before .before .loop .inv .listed < c .before .before .before .before .before .before .before .before .before .before .before .args .count = omega arith in
-    let marked = mark-stops (c .before .before .before .before .before .before .before .before .before .before .before .args .subset) (c .before .before .before .before .before .before .before .before .before .before .before .pre) (c .before .before .before .before .before .before .before .before .loop .inv .state) less (c .before .before .before .before .before .before .word-at .ensures ∙ ap (word (c .before .before .before .before .before .before .before .before .before .before .before .args .list .now)) at) (c .before .before .before .before .mark-one .ensures .0) (c .before .before .before .before .mark-one .ensures .1 .1) (not-true (c .before .before .before .before .mark-one .result .found) (c .if1 .taken)) in
-    marked .written .size
+same-length c = c .before .before .before .before .mark-one .kept .0 ∙ c .before .before .before .before .before .before .before .before .loop .inv .1
 
 returns : tie.Need-returns Inv-loop μ-loop
 returns c =
-    let at = c .before .before .before .before .before .before .before .before .loop .inv .at-is in
-    let less : c .before .before .before .before .before .before .before .before .loop .inv .listed < c .before .before .before .before .before .before .before .before .before .before .before .args .count = omega arith in
-    merge-number (omega arith) (mark-stops (c .before .before .before .before .before .before .before .before .before .before .before .args .subset) (c .before .before .before .before .before .before .before .before .before .before .before .pre) (c .before .before .before .before .before .before .before .before .loop .inv .state) less (c .before .before .before .before .before .before .word-at .ensures ∙ ap (word (c .before .before .before .before .before .before .before .before .before .before .before .args .list .now)) at) (c .before .before .before .before .mark-one .ensures .0) (c .before .before .before .before .mark-one .ensures .1 .1) (not-true (c .before .before .before .before .mark-one .result .found) (c .if1 .taken)))
+    let loop = c .before .before .before .before .before .before .before .before .loop in
+    let pre = c .before .before .before .before .before .before .before .before .before .before .before .pre in
+    let marked = c .before .before .before .before .mark-one in
+    let enough = pre .enough in
+    let size = loop .inv .1 in
+    (mark-stops (c .before .before .before .before .before .before .before .before .before .before .before .args .subset) pre (loop .items) (omega arith) (loop .inv .2) _ (marked .ensures .1 .1) (not-true (marked .result .found) (c .if1 .taken)), λ all. absurd (let z : _≡_ {A = ℕ} 0 1 = cc in omega arith))
 
-add-at : tie.Need-add-at Inv-loop μ-loop
-add-at c =
-    let few = c .before .before .before .before .before .before .before .before .before .before .before .pre .few in
-    let at = c .before .before .before .before .before .before .before .before .loop .inv .at-is in
-    omega arith
+add-i : tie.Need-add-i Inv-loop μ-loop
+add-i c = search needs
 
 add-j : tie.Need-add-j Inv-loop μ-loop
 add-j c =
@@ -76,23 +69,23 @@ loop-less c = search needs
 
 loop-again : tie.Need-loop-again Inv-loop μ-loop
 loop-again c =
-    let at = c .before .before .before .before .before .before .before .before .loop .inv .at-is in
-    let less : c .before .before .before .before .before .before .before .before .loop .inv .listed < c .before .before .before .before .before .before .before .before .before .before .before .args .count = omega arith in
-    record {
-      listed = c .before .before .before .before .before .before .before .before .loop .inv .listed + 1;
-      at-is = omega arith;
-      state = mark-goes-on (c .before .before .before .before .before .before .before .before .before .before .before .args .subset) (c .before .before .before .before .before .before .before .before .before .before .before .pre) (c .before .before .before .before .before .before .before .before .loop .inv .state) less (c .before .before .before .before .before .before .word-at .ensures ∙ ap (word (c .before .before .before .before .before .before .before .before .before .before .before .args .list .now)) at) (c .before .before .before .before .mark-one .ensures .0) (c .before .before .before .before .mark-one .ensures .1 .1) (c .before .before .before .before .mark-one .ensures .1 .0) (not-false (c .before .before .before .before .mark-one .result .found) (c .if1 .left));
-    }
+    let loop = c .before .before .before .before .before .before .before .before .loop in
+    let pre = c .before .before .before .before .before .before .before .before .before .before .before .pre in
+    let marked = c .before .before .before .before .mark-one in
+    let enough = pre .enough in
+    let size = loop .inv .1 in
+    (omega arith, marked .kept .0 ∙ size, mark-goes-on (c .before .before .before .before .before .before .before .before .before .before .before .args .subset) pre (loop .items) (omega arith) (loop .inv .2) (c .before .before .before .before .before .before .before .before .before .before .before .fits .subset .fits) (c .before .before .before .before .before .before .before .loop-test .taken) (c .before .before .before .before .before .before .word-at .ensures) (marked .ensures .0) (marked .ensures .1 .1) (marked .ensures .1 .0) (not-false (marked .result .found) (c .if1 .left)))
 
 same-length-2 : tie.Need-same-length-2 Inv-loop μ-loop
-same-length-2 c = c .before .loop .inv .state .written .size
+same-length-2 c = c .before .loop .inv .1
 
 returns-2 : tie.Need-returns-2 Inv-loop μ-loop
 returns-2 c =
-    let b = bounds (c .before .before .before .before .args .subset) (c .before .before .before .before .pre) (c .before .loop .inv .state) in
-    let most = b .0 in
-    let at = c .before .loop .inv .at-is in
-    merge-number (omega arith) (c .before .loop .inv .state)
+    let loop = c .before .loop in
+    let pre = c .before .before .before .before .pre in
+    let enough = pre .enough in
+    let size = loop .inv .1 in
+    (loop .inv .2 .same, λ all. mark-all (c .before .before .before .before .args .subset) pre (loop .items) (omega arith) (loop .inv .2) (omega arith))
 
 pub mark-spec : {M : Type 1} → statement M
 mark-spec =
@@ -100,15 +93,15 @@ mark-spec =
     (tie.spec
     Inv-loop
     μ-loop
-    mul-end
-    add-end
     loop-holds
+    mul-word-at
+    add-word-at
     word-at-requires
     cast-a
     mark-one-requires
     same-length
     returns
-    add-at
+    add-i
     add-j
     loop-less
     loop-again
