@@ -116,7 +116,9 @@ module _ {list : List ℕ} {count : ℕ} {before : List ℕ} {old : ℕ} (subset
     pub mark-stops : {found : Bool} {next : List ℕ} (marked : List ℕ) → next ≡ cond found marked items → found ≡ false → enter subset more (take old next) ≡ enter subset more (take old before)
     mark-stops marked next-is lacks = rw (next-is, lacks) (m .same)
 
-    pub mark-goes-on : {a place : ℕ} {found : Bool} {next : List ℕ} → subset < 256 → i < count → a ≡ word list (i * 2 + 1) → Passed items j old (a * 256) place → next ≡ cond found (set items place (bitOr (getD items place 0) subset)) items → found ≡ hasEntry items place old a → found ≡ true → Marking subset more (take old before) (take old next) (i + 1) (place + 1)
+    pub mark-goes-on : {a place : ℕ} {found : Bool} {next : List ℕ} → subset < 256 → i < count → a ≡ word list (i * 2 + 1)
+        → Passed items j old (a * 256) place → next ≡ cond found (set items place (bitOr (getD items place 0) subset)) items
+        → found ≡ hasEntry items place old a → found ≡ true → Marking subset more (take old before) (take old next) (i + 1) (place + 1)
     mark-goes-on {a} {place} small hi is p next-is found-is has =
         let listed = listed-size subset e in
         let size = length-take-le old items enough in
@@ -170,7 +172,9 @@ pub still-enters : {list : List ℕ} {count : ℕ} {before : List ℕ} {old : �
 still-enters items e same = record { few = e .few; fits = e .fits; most = e .most; enough = let enough = e .enough in omega arith }
 
 -- what is merged fits in a slice as long as the table's
-pub merged-fits : {list : List ℕ} {count : ℕ} {before entered spare : List ℕ} {old n room : ℕ} (subset : ℕ) → Enters list count before old → entered ≡ enter subset (tab count (λ x. word list (x * 2 + 1))) (take old before) → Merged entered spare n → room ≡ length before → CopyFits count old before → (n ≤ length spare) × ((k : ℕ) → k < 256 → k < 0 + n → k < room)
+pub merged-fits : {list : List ℕ} {count : ℕ} {before entered spare : List ℕ} {old n room : ℕ} (subset : ℕ)
+    → Enters list count before old → entered ≡ enter subset (tab count (λ x. word list (x * 2 + 1))) (take old before)
+    → Merged entered spare n → room ≡ length before → CopyFits count old before → (n ≤ length spare) × ((k : ℕ) → k < 256 → k < 0 + n → k < room)
 merged-fits {list} {count} {before} {entered} {spare} {old} {n} {room} subset e same merged size fits =
     let number = merged .number in
     let stands = ap length (merged .stands) in

@@ -17,7 +17,10 @@ merge-into-requires : tie.Need-merge-into-requires
 merge-into-requires c κs = (still-enters _ (c .before .before .before .before .before .before .before .before .before .before .pre .0) (c .before .before .before .before .before .mark .kept .1 .1 .1 .0), c .before .before .before .before .before .before .before .before .before .before .pre .1 .1)
 
 copy-entries-requires : tie.Need-copy-entries-requires
-copy-entries-requires c κs = merged-fits (c .before .before .before .before .before .before .before .before .before .before .before .before .before .before .before .args .subset) (c .before .before .before .before .before .before .before .before .before .before .before .before .before .before .before .pre .0) (c .before .before .before .before .before .before .before .before .before .before .mark .ensures .0) (c .before .before .before .before .merge-into .ensures) (c .before .before .before .before .before .before .before .before .before .before .mark .kept .1 .1 .1 .0) (c .before .before .before .before .before .before .before .before .before .before .before .before .before .before .before .pre .1 .0)
+copy-entries-requires c κs =
+    let pre = c .before .before .before .before .before .before .before .before .before .before .before .before .before .before .before .pre in
+    let marked = c .before .before .before .before .before .before .before .before .before .before .mark in
+    merged-fits (c .before .before .before .before .before .before .before .before .before .before .before .before .before .before .before .args .subset) (pre .0) (marked .ensures .0) (c .before .before .before .before .merge-into .ensures) (marked .kept .1 .1 .1 .0) (pre .1 .0)
 
 same-length-2 : tie.Need-same-length-2
 same-length-2 c = search needs

@@ -51,9 +51,12 @@ returns c =
     let loop = c .before .before .before .before .before .before .before .before .loop in
     let pre = c .before .before .before .before .before .before .before .before .before .before .before .pre in
     let marked = c .before .before .before .before .mark-one in
+    let lacks = not-true (marked .result .found) (c .if1 .taken) in
     let enough = pre .enough in
-    let size = loop .inv .1 in
-    (mark-stops (c .before .before .before .before .before .before .before .before .before .before .before .args .subset) pre (loop .items) (omega arith) (loop .inv .2) _ (marked .ensures .1 .1) (not-true (marked .result .found) (c .if1 .taken)), λ all. absurd (let z : _≡_ {A = ℕ} 0 1 = cc in omega arith))
+    let size = loop .inv .1 in (
+      mark-stops (c .before .before .before .before .before .before .before .before .before .before .before .args .subset) pre (loop .items) (omega arith) (loop .inv .2) _ (marked .ensures .1 .1) lacks,
+      λ all. absurd (let z : _≡_ {A = ℕ} 0 1 = cc in omega arith),
+    )
 
 add-i : tie.Need-add-i Inv-loop μ-loop
 add-i c = search needs
@@ -72,9 +75,16 @@ loop-again c =
     let loop = c .before .before .before .before .before .before .before .before .loop in
     let pre = c .before .before .before .before .before .before .before .before .before .before .before .pre in
     let marked = c .before .before .before .before .mark-one in
+    let has = not-false (marked .result .found) (c .if1 .left) in
+    let is = c .before .before .before .before .before .before .word-at .ensures in
+    let small = c .before .before .before .before .before .before .before .before .before .before .before .fits .subset .fits in
     let enough = pre .enough in
-    let size = loop .inv .1 in
-    (omega arith, marked .kept .0 ∙ size, mark-goes-on (c .before .before .before .before .before .before .before .before .before .before .before .args .subset) pre (loop .items) (omega arith) (loop .inv .2) (c .before .before .before .before .before .before .before .before .before .before .before .fits .subset .fits) (c .before .before .before .before .before .before .before .loop-test .taken) (c .before .before .before .before .before .before .word-at .ensures) (marked .ensures .0) (marked .ensures .1 .1) (marked .ensures .1 .0) (not-false (marked .result .found) (c .if1 .left)))
+    let size = loop .inv .1 in (
+      omega arith,
+      marked .kept .0 ∙ size,
+      mark-goes-on (c .before .before .before .before .before .before .before .before .before .before .before .args .subset) pre (loop .items) (omega arith) (loop .inv .2) small (c .before .before .before .before .before .before .before .loop-test .taken) is
+          (marked .ensures .0) (marked .ensures .1 .1) (marked .ensures .1 .0) has,
+    )
 
 same-length-2 : tie.Need-same-length-2 Inv-loop μ-loop
 same-length-2 c = c .before .loop .inv .1
