@@ -4,7 +4,7 @@ ghost use Prim.Native.Nat.{_≤_};
 ghost use lib.ListN.{length, drop};
 ghost use Rattle.expression.specs.ReadFile.{header, acceptance, answer, collect, readNodes};
 use node::Check;
-use node::check_node;
+use node::check_nodes;
 use refusal::Refusal;
 
 // The counts m and n of a file in which nothing is refused, or the first refusal.
@@ -36,23 +36,15 @@ fn accept_nodes(file: &[u8], m: u8, n: u8) -> Acceptance
     requires { ⌜ 2 ≤ length (now file) ⌝ }
     ensures { λ r. ⌜ r ≡ answer (collect m n (readNodes m n 0 (drop 2 (now (file .entry))))) ⌝ }
 {
-    let mut at = 2;
-    let mut k = 0;
-    while k < n {
-        match check_node(m, k, &file[at..]) {
-            Check::Legal(size) => {
-                at += size;
-                k += 1;
+    match check_nodes(m, 0, n, &file[2..]) {
+        Check::Refused(r) => Acceptance::Refused(r),
+        Check::Legal(size) => {
+            if 2 + size < file.len() {
+                return Acceptance::Refused(Refusal::NodesFollowed);
             }
-            Check::Refused(r) => {
-                return Acceptance::Refused(r);
-            }
+            Acceptance::Accepted(m, n)
         }
     }
-    if at < file.len() {
-        return Acceptance::Refused(Refusal::NodesFollowed);
-    }
-    Acceptance::Accepted(m, n)
 }
 
 // The file's own bytes: refusals 1 to 10.

@@ -2,4 +2,5 @@ pub mod Operators
 pub mod ReadNode
 pub mod Legal
 pub mod Reading
+pub mod NodeSequence
 pub mod Enough

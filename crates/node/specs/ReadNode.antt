@@ -1,10 +1,10 @@
 -- How one node is read: "A node starts with a bit map of one byte; only the fields whose bit stands follow, in bit order." (document 01)
-use Prim.Native.Nat.{ℕ, _+_, _*_, _/_, _%_}
+use Prim.Native.Nat.{ℕ, zero, suc, _+_, _*_, _/_, _%_}
 use mathlib.Core.Path.{_≡_}
 use mathlib.Core.Bool.{Bool, cond, not, _||_}
 use mathlib.Core.List.{List, [], _∷_}
 use lib.Dec.{eqb, ltb, leb}
-use lib.ListN.{length, getD}
+use lib.ListN.{length, getD, drop}
 use Rattle.bits.specs.Bit.{bit}
 use Rattle.attribute_set.specs.AttrSet.{special, setOf}
 use Rattle.refusal.specs.Chain.{refuse}
@@ -125,6 +125,16 @@ checkNode m k bytes =
     refuse Refused (ltb (length bytes) 1) NodeTruncated
     (refuse Refused (not (legal (getD bytes 0 0))) NodeMap
     (checkFields m k (getD bytes 0 0) bytes))
+
+-- what comes after a node that is legal
+abbrev pub afterNode : Check → (ℕ → Check) → Check
+afterNode (Refused r) next = Refused r
+afterNode (Legal size) next = next size
+
+-- the end of so many nodes from node k on, the first of which begins at byte `at`, or the first refusal: "node by node"
+unfoldable pub checkNodes : ℕ → ℕ → ℕ → ℕ → List ℕ → Check
+checkNodes m zero k at bytes = Legal at
+checkNodes m (suc count) k at bytes = afterNode (checkNode m k (drop at bytes)) (λ size. checkNodes m count (k + 1) (at + size) bytes)
 
 -- bytes that begin with a node in which nothing is refused
 pub record Checked (bytes : List ℕ) : Type 0 where

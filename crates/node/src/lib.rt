@@ -7,7 +7,7 @@ pub use nodes::Node;
 pub use nodes::SetOp;
 pub use reader::Check;
 pub use reader::Reading;
-pub use reader::check_node;
+pub use reader::check_nodes;
 pub use reader::decode;
 pub use reader::read_node;
 pub use reader::size_of;

@@ -1,8 +1,9 @@
 // One node, off the front of a part of the file: its check, its decoding, and both.
+ghost use Prim.Native.Nat.{_+_, _≤_};
 ghost use mathlib.Core.Path.{_≡_};
 ghost use mathlib.Core.Bool.{true};
 ghost use lib.ListN.{getD};
-ghost use Rattle.node.specs.ReadNode.{Checked, checkFields, checkNode, legal, nodeOf, readNode, sizeOf};
+ghost use Rattle.node.specs.ReadNode.{Checked, checkFields, checkNode, checkNodes, legal, nodeOf, readNode, sizeOf};
 use crate::nodes::Node;
 use crate::nodes::binary_operator;
 use crate::nodes::set_operator;
@@ -105,7 +106,7 @@ fn check_projecting_out(k: u8, bytes: &[u8]) -> Check
 }
 
 // The check of node `k` of a file with `m` relations, from the bytes that begin with it.
-pub fn check_node(m: u8, k: u8, bytes: &[u8]) -> Check
+fn check_node(m: u8, k: u8, bytes: &[u8]) -> Check
     ensures { λ r. ⌜ r ≡ checkNode m k (now (bytes .entry)) ⌝ }
 {
     if bytes.len() < 1 {
@@ -120,6 +121,29 @@ pub fn check_node(m: u8, k: u8, bytes: &[u8]) -> Check
         34 => check_projecting_out(k, bytes),
         _ => Check::Refused(Refusal::NodeMap),
     }
+}
+
+// The check of `count` nodes of a file with `m` relations, from node `k` on, from the bytes that begin with the first:
+// how many bytes they take together, or the first refusal. It alone calls `check_node`, which the compiler then
+// makes part of the loop.
+pub fn check_nodes(m: u8, k: u8, count: u8, bytes: &[u8]) -> Check
+    requires { ⌜ k + count ≤ 256 ⌝ }
+    ensures { λ r. ⌜ r ≡ checkNodes m count k 0 (now (bytes .entry)) ⌝ }
+{
+    let mut at = 0;
+    let mut i = 0;
+    while i < count {
+        match check_node(m, k + i, &bytes[at..]) {
+            Check::Legal(size) => {
+                at += size;
+                i += 1;
+            }
+            Check::Refused(r) => {
+                return Check::Refused(r);
+            }
+        }
+    }
+    Check::Legal(at)
 }
 
 // The node of checked bytes with map 26.
@@ -166,7 +190,7 @@ pub fn size_of(map: u8) -> usize
 pub fn read_node(m: u8, k: u8, bytes: &[u8]) -> Reading
     ensures { λ r. ⌜ r ≡ readNode m k (now (bytes .entry)) ⌝ }
 {
-    match check_node(m, k, bytes) {
+    match check_nodes(m, k, 1, bytes) {
         Check::Legal(size) => Reading::Read(decode(bytes), size),
         Check::Refused(r) => Reading::Refused(r),
     }
