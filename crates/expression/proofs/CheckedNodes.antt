@@ -16,7 +16,7 @@ use Rattle.node.specs.declared.reader.Check.the-variants.{Legal, Refused as Che
 use Rattle.node.specs.declared.reader.Reading.{Reading}
 use Rattle.node.specs.ReadNode.{checkNode, readNode, afterNode, checkNodes}
 use Rattle.node.specs.Reading.{checked-read, checked-refused}
-use Rattle.node.specs.NodeSequence.{nodes-fit}
+use Rattle.node.specs.NodeSequence.{check-none, check-more, nodes-fit}
 use Rattle.expression.specs.declared.files.Acceptance.{Acceptance}
 use Rattle.expression.specs.declared.files.Acceptance.the-variants.{Accepted, Refused}
 use Rattle.expression.specs.ReadFile.{Nodes, follow, atEnd, readNodes, collect, answer}
@@ -48,9 +48,9 @@ module _ (m n : ℕ) (bytes : List ℕ) where
   Alike count k at = answered m n (readNodes m count k (drop at bytes)) ≡ ended m n bytes (checkNodes m count k at bytes)
 
   nodes-ended : (count k at : ℕ) → Alike count k at
-  unfolding readNodes checkNodes
-  nodes-ended zero k at = end-ended at
-  nodes-ended (suc count) k at = go (nodes-ended count (k + 1)) (checkNode m k (drop at bytes)) refl
+  unfolding readNodes
+  nodes-ended zero k at = rw (check-none m k at bytes) (end-ended at)
+  nodes-ended (suc count) k at = rw (check-more m k at bytes count) (go (nodes-ended count (k + 1)) (checkNode m k (drop at bytes)) refl)
     where
       followed : Reading → Acceptance
       followed reading = answered m n (follow reading (drop at bytes) (λ rest. readNodes m count (k + 1) rest))

@@ -91,6 +91,7 @@ walk-next file m n k at w h =
 pub record Decoded (file : List ℕ) (k at : ℕ) : Type 0 where
   pub checked : Checked (take (length file - at) (drop at file))
   pub node-is : nodeOf (take (length file - at) (drop at file)) ≡ nodeAt file k
+  pub decoding-size : sizeOf (getD (take (length file - at) (drop at file)) 0 0) ≡ sizeAt file k
   pub below : at < length file
   pub map-legal : legal (getD file at 0) ≡ true
   pub size-is : sizeOf (getD file at 0) ≡ sizeAt file k
@@ -106,6 +107,7 @@ read-decoded file m k at e =
     record {
       checked = checked;
       node-is = sym (check .1);
+      decoding-size = sym (check .2);
       below = omega arith;
       map-legal = subst (λ (map : ℕ). legal map ≡ true) first (check .3);
       size-is = sym (check .2 ∙ ap sizeOf first);

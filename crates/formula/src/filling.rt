@@ -28,7 +28,6 @@ use node::BinaryOp;
 use node::Node;
 use node::SetOp;
 use node::decode;
-use node::size_of;
 
 // The formula of node k, an operator of two operands.
 fn fill_binary(op: BinaryOp, l: u8, r: u8, k: u8, work: &mut [u8])
@@ -101,9 +100,10 @@ fn fill_node(file: &[u8], m: u8, k: u8, at: usize, work: &mut [u8]) -> usize
     ensures { λ r. ⌜ r ≡ at + sizeAt (now (file .entry)) k ⌝ }
     ensures { λ _. ⌜ FilledTo (now (file .entry)) m (k * 1024 + 1024) (now (work .entry)) (now (work .exit)) ⌝ }
 {
-    let node = decode(&file[at..]);
+    let decoding = decode(&file[at..]);
+    let node = decoding.node;
     fill_formula(node, m, k, work);
-    at + size_of(file[at])
+    at + decoding.size
 }
 
 // The formulas of all nodes of an accepted file, for operations that have read it.

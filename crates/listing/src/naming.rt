@@ -8,7 +8,6 @@ ghost use Rattle.listing.specs.Naming.{Joined, Named};
 use attribute_set::AttrSet;
 use node::Node;
 use node::decode;
-use node::size_of;
 
 // The attributes of both sets.
 fn join(set: AttrSet, other: AttrSet) -> AttrSet
@@ -53,10 +52,11 @@ pub fn named_attributes(file: &[u8], m: u8, n: u8) -> AttrSet
     let mut at = 2;
     let mut k = 0;
     while k < n {
-        let node = decode(&file[at..]);
+        let decoding = decode(&file[at..]);
+        let node = decoding.node;
         let more = add_named(set, node);
         set = more;
-        at += size_of(file[at]);
+        at += decoding.size;
         k += 1;
     }
     set

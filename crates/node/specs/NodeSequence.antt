@@ -11,6 +11,15 @@ use Rattle.node.specs.declared.reader.Check.the-variants.{Legal, Refused
 use Rattle.node.specs.ReadNode.{checkNode, afterNode, checkNodes}
 use Rattle.node.specs.Legal.{node-passed}
 
+module _ (m k at : ℕ) (bytes : List ℕ) where
+  pub check-none : checkNodes m 0 k at bytes ≡ Legal at
+  unfolding checkNodes
+  check-none = refl
+
+  pub check-more : (count : ℕ) → checkNodes m (suc count) k at bytes ≡ afterNode (checkNode m k (drop at bytes)) (λ size. checkNodes m count (k + 1) (at + size) bytes)
+  unfolding checkNodes
+  check-more count = refl
+
 pub check-one : (m k : ℕ) (bytes : List ℕ) → checkNodes m 1 k 0 bytes ≡ checkNode m k bytes
 unfolding checkNodes
 check-one m k bytes = go (checkNode m k bytes)

@@ -6,6 +6,7 @@ pub use nodes::BinaryOp;
 pub use nodes::Node;
 pub use nodes::SetOp;
 pub use reader::Check;
+pub use reader::Decoding;
 pub use reader::Reading;
 pub use reader::check_nodes;
 pub use reader::decode;

@@ -18,7 +18,13 @@ pub enum Check {
     Refused(Refusal),
 }
 
-// A node with the number of bytes that it takes, or the first refusal.
+// A node with the number of bytes that it takes.
+pub struct Decoding {
+    pub node: Node,
+    pub size: usize,
+}
+
+// The same, or the first refusal.
 pub enum Reading {
     Read(Node, usize),
     Refused(Refusal),
@@ -157,18 +163,34 @@ fn decode_with_set(bytes: &[u8]) -> Node
     }
 }
 
-// The node of bytes that were checked.
-pub fn decode(bytes: &[u8]) -> Node
+// The node of bytes that were checked, and its size.
+pub fn decode(bytes: &[u8]) -> Decoding
     requires { ⌜ Checked (now bytes) ⌝ }
-    ensures { λ r. ⌜ r ≡ nodeOf (now (bytes .entry)) ⌝ }
+    ensures { λ r. ⌜ r .node ≡ nodeOf (now (bytes .entry)) ⌝ }
+    ensures { λ r. ⌜ r .size ≡ sizeOf (getD (now (bytes .entry)) 0 0) ⌝ }
 {
     let map = bytes[0];
     match map {
-        1 => Node::Relation(bytes[1]),
-        14 => Node::Binary(binary_operator(bytes[3]), bytes[1], bytes[2]),
-        26 => decode_with_set(bytes),
-        98 => Node::Renaming(bytes[1], bytes[2], bytes[3]),
-        _ => Node::ProjectingOut(bytes[1], bytes[2]),
+        1 => Decoding {
+            node: Node::Relation(bytes[1]),
+            size: 2,
+        },
+        14 => Decoding {
+            node: Node::Binary(binary_operator(bytes[3]), bytes[1], bytes[2]),
+            size: 4,
+        },
+        26 => Decoding {
+            node: decode_with_set(bytes),
+            size: 5,
+        },
+        98 => Decoding {
+            node: Node::Renaming(bytes[1], bytes[2], bytes[3]),
+            size: 4,
+        },
+        _ => Decoding {
+            node: Node::ProjectingOut(bytes[1], bytes[2]),
+            size: 3,
+        },
     }
 }
 
@@ -191,7 +213,11 @@ pub fn read_node(m: u8, k: u8, bytes: &[u8]) -> Reading
     ensures { λ r. ⌜ r ≡ readNode m k (now (bytes .entry)) ⌝ }
 {
     match check_nodes(m, k, 1, bytes) {
-        Check::Legal(size) => Reading::Read(decode(bytes), size),
+        Check::Legal(size) => {
+            let decoding = decode(bytes);
+            let node = decoding.node;
+            Reading::Read(node, size)
+        }
         Check::Refused(r) => Reading::Refused(r),
     }
 }

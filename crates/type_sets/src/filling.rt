@@ -17,7 +17,6 @@ use crate::sets::lay_renaming;
 use crate::sets::lay_with_set;
 use node::Node;
 use node::decode;
-use node::size_of;
 
 // The words of node k, whose operands' words are there.
 fn lay_node(
@@ -80,9 +79,10 @@ fn fill_node(
     ensures { λ r. ⌜ r ≡ at + sizeAt (now (file .entry)) k ⌝ }
     ensures { λ _. ⌜ Filled (now (file .entry)) (now (special .entry)) (take count (now (items .entry))) width (k + 1) (now (sets .exit)) ⌝ }
 {
-    let node = decode(&file[at..]);
+    let decoding = decode(&file[at..]);
+    let node = decoding.node;
     lay_node(node, m, k, special, items, count, groups, width, sets);
-    at + size_of(file[at])
+    at + decoding.size
 }
 
 // The types of the nodes up to `node`, over a membership table.

@@ -17,21 +17,19 @@ part-decode-end : tie.Need-part-decode-end
 part-decode-end c = search needs
 
 decode-requires : tie.Need-decode-requires
-decode-requires c κs = here-decoded (c .before .before .before .args .file .now) (c .before .before .before .args .m) (c .before .before .before .args .k) (c .before .before .before .args .at) (c .before .before .before .pre .0) .checked
+decode-requires c κs = here-decoded _ _ _ _ (c .before .before .before .pre .0) .checked
 
 fill-formula-requires : tie.Need-fill-formula-requires
-fill-formula-requires c κs = ((c .before .before .before .before .before .pre .0 .relations, subst (LegalNode (c .before .before .before .before .before .args .m) (c .before .before .before .before .before .args .k)) (sym (c .before .decode .ensures ∙ here-decoded (c .before .before .before .before .before .args .file .now) (c .before .before .before .before .before .args .m) (c .before .before .before .before .before .args .k) (c .before .before .before .before .before .args .at) (c .before .before .before .before .before .pre .0) .node-is)) (c .before .before .before .before .before .pre .0 .legal)), c .before .before .before .before .before .pre .1 .0)
-
-shared-slice-read-size-of : tie.Need-shared-slice-read-size-of
-shared-slice-read-size-of c = here-decoded (c .before .before .before .before .before .before .before .before .before .args .file .now) (c .before .before .before .before .before .before .before .before .before .args .m) (c .before .before .before .before .before .before .before .before .before .args .k) (c .before .before .before .before .before .before .before .before .before .args .at) (c .before .before .before .before .before .before .before .before .before .pre .0) .below
-
-size-of-requires : tie.Need-size-of-requires
-size-of-requires c κs = here-decoded (c .before .before .before .before .before .before .before .before .before .args .file .now) (c .before .before .before .before .before .before .before .before .before .args .m) (c .before .before .before .before .before .before .before .before .before .args .k) (c .before .before .before .before .before .before .before .before .before .args .at) (c .before .before .before .before .before .before .before .before .before .pre .0) .map-legal
+fill-formula-requires c κs =
+    let pre = c .before .before .before .before .before .pre in
+    let here = here-decoded _ _ _ _ (pre .0) in
+    ((pre .0 .relations, subst (LegalNode _ _) (sym (c .before .decode .ensures .0 ∙ here .node-is)) (pre .0 .legal)), pre .1 .0)
 
 add-result : tie.Need-add-result
 add-result c =
-    let size = c .size-of .ensures ∙ here-decoded (c .before .before .before .before .before .before .before .before .before .before .args .file .now) (c .before .before .before .before .before .before .before .before .before .before .args .m) (c .before .before .before .before .before .before .before .before .before .before .args .k) (c .before .before .before .before .before .before .before .before .before .before .args .at) (c .before .before .before .before .before .before .before .before .before .before .pre .0) .size-is in
-    let fits = c .before .before .before .before .before .before .before .before .before .before .pre .0 .fits in
+    let pre = c .before .before .before .before .before .before .before .before .before .pre in
+    let fits = pre .0 .fits in
+    let size = c .before .before .before .before .before .decode .ensures .1 ∙ here-decoded _ _ _ _ (pre .0) .decoding-size in
     omega arith
 
 same-length : tie.Need-same-length
@@ -39,9 +37,14 @@ same-length c = search needs
 
 returns : tie.Need-returns
 returns c =
-    let node = c .before .before .before .before .before .before .decode .ensures ∙ here-decoded (c .before .before .before .before .before .before .before .before .before .before .args .file .now) (c .before .before .before .before .before .before .before .before .before .before .args .m) (c .before .before .before .before .before .before .before .before .before .before .args .k) (c .before .before .before .before .before .before .before .before .before .before .args .at) (c .before .before .before .before .before .before .before .before .before .before .pre .0) .node-is in
-    let size = c .size-of .ensures ∙ here-decoded (c .before .before .before .before .before .before .before .before .before .before .args .file .now) (c .before .before .before .before .before .before .before .before .before .before .args .m) (c .before .before .before .before .before .before .before .before .before .before .args .k) (c .before .before .before .before .before .before .before .before .before .before .args .at) (c .before .before .before .before .before .before .before .before .before .before .pre .0) .size-is in
-    (ap (λ (n : ℕ). c .before .before .before .before .before .before .before .before .before .before .args .at + n) size, node-filled (c .before .before .before .before .before .before .before .before .before .before .args .file .now) (c .before .before .before .before .before .before .before .before .before .before .args .m) (c .before .before .before .before .before .before .before .before .before .before .args .k) (c .before .before .before .before .before .before .before .before .before .before .args .work .now) _ (c .before .before .before .before .before .before .before .before .before .before .pre .0 .legal) (c .before .before .before .before .before .before .before .before .before .before .pre .1 .0) (c .before .before .before .before .before .before .before .before .before .before .pre .1 .1) (rw node at (c .before .before .before .before .fill-formula .ensures)))
+    let args = c .before .before .before .before .before .before .before .before .before .args in
+    let pre = c .before .before .before .before .before .before .before .before .before .pre in
+    let here = here-decoded (args .file .now) (args .m) (args .k) (args .at) (pre .0) in
+    let node = c .before .before .before .before .before .decode .ensures .0 ∙ here .node-is in
+    let size = c .before .before .before .before .before .decode .ensures .1 ∙ here .decoding-size in (
+      ap (λ (n : ℕ). args .at + n) size,
+      node-filled (args .file .now) (args .m) (args .k) (args .work .now) _ (pre .0 .legal) (pre .1 .0) (pre .1 .1) (rw node at (c .before .before .before .fill-formula .ensures)),
+    )
 
 pub fill-node-spec : {M : Type 1} → statement M
 fill-node-spec =
@@ -52,8 +55,6 @@ fill-node-spec =
     part-decode-end
     decode-requires
     fill-formula-requires
-    shared-slice-read-size-of
-    size-of-requires
     add-result
     same-length
     returns)

@@ -30,19 +30,18 @@ part-decode-end : tie.Need-part-decode-end Inv-loop μ-loop
 part-decode-end c = search needs
 
 decode-requires : tie.Need-decode-requires Inv-loop μ-loop
-decode-requires c κs = walk-decoded (c .before .before .before .before .before .args .file .now) (c .before .before .before .before .before .args .m) (c .before .before .before .before .before .args .n) (c .before .before .loop .k) (c .before .before .loop .at) (c .before .before .loop .inv .1) (c .before .loop-test .taken) .checked
+decode-requires c κs = walk-decoded _ _ _ _ _ (@loop .inv .1) (@loop-test .taken) .checked
 
 add-named-requires : tie.Need-add-named-requires Inv-loop μ-loop
 add-named-requires c κs = search needs
 
-shared-slice-read-size-of : tie.Need-shared-slice-read-size-of Inv-loop μ-loop
-shared-slice-read-size-of c = walk-decoded (c .before .before .before .before .before .before .before .before .args .file .now) (c .before .before .before .before .before .before .before .before .args .m) (c .before .before .before .before .before .before .before .before .args .n) (c .before .before .before .before .before .loop .k) (c .before .before .before .before .before .loop .at) (c .before .before .before .before .before .loop .inv .1) (c .before .before .before .before .loop-test .taken) .below
-
-size-of-requires : tie.Need-size-of-requires Inv-loop μ-loop
-size-of-requires c κs = walk-decoded (c .before .before .before .before .before .before .before .before .args .file .now) (c .before .before .before .before .before .before .before .before .args .m) (c .before .before .before .before .before .before .before .before .args .n) (c .before .before .before .before .before .loop .k) (c .before .before .before .before .before .loop .at) (c .before .before .before .before .before .loop .inv .1) (c .before .before .before .before .loop-test .taken) .map-legal
-
 add-at : tie.Need-add-at Inv-loop μ-loop
-add-at c = let size = c .size-of .ensures ∙ walk-decoded (c .before .before .before .before .before .before .before .before .before .args .file .now) (c .before .before .before .before .before .before .before .before .before .args .m) (c .before .before .before .before .before .before .before .before .before .args .n) (c .before .before .before .before .before .before .loop .k) (c .before .before .before .before .before .before .loop .at) (c .before .before .before .before .before .before .loop .inv .1) (c .before .before .before .before .before .loop-test .taken) .size-is in let inside = walk-next (c .before .before .before .before .before .before .before .before .before .args .file .now) (c .before .before .before .before .before .before .before .before .before .args .m) (c .before .before .before .before .before .before .before .before .before .args .n) (c .before .before .before .before .before .before .loop .k) (c .before .before .before .before .before .before .loop .at) (c .before .before .before .before .before .before .loop .inv .1) (c .before .before .before .before .before .loop-test .taken) .next .inside in omega arith
+add-at c =
+    let walk = @loop .inv .1 in
+    let more = @loop-test .taken in
+    let size = @decode .ensures .1 ∙ walk-decoded _ _ _ _ _ walk more .decoding-size in
+    let inside = walk-next _ _ _ _ _ walk more .next .inside in
+    omega arith
 
 add-k : tie.Need-add-k Inv-loop μ-loop
 add-k c = search needs
@@ -51,7 +50,16 @@ loop-less : tie.Need-loop-less Inv-loop μ-loop
 loop-less c = search needs
 
 loop-again : tie.Need-loop-again Inv-loop μ-loop
-loop-again c = let node = walk-decoded (c .before .before .before .before .before .before .before .before .before .args .file .now) (c .before .before .before .before .before .before .before .before .before .args .m) (c .before .before .before .before .before .before .before .before .before .args .n) (c .before .before .before .before .before .before .loop .k) (c .before .before .before .before .before .before .loop .at) (c .before .before .before .before .before .before .loop .inv .1) (c .before .before .before .before .before .loop-test .taken) in (omega arith, rw (c .size-of .ensures ∙ node .size-is) (walk-next (c .before .before .before .before .before .before .before .before .before .args .file .now) (c .before .before .before .before .before .before .before .before .before .args .m) (c .before .before .before .before .before .before .before .before .before .args .n) (c .before .before .before .before .before .before .loop .k) (c .before .before .before .before .before .before .loop .at) (c .before .before .before .before .before .before .loop .inv .1) (c .before .before .before .before .before .loop-test .taken) .next), named-next (nodeAt (c .before .before .before .before .before .before .before .before .before .args .file .now)) (c .before .before .before .before .before .before .loop .k) _ (c .before .before .before .before .before .before .loop .set) _ (c .before .before .before .decode .ensures ∙ node .node-is) (c .before .before .before .before .before .before .loop .inv .2) (c .before .before .add-named .ensures))
+loop-again c =
+    let file = @args .file .now in
+    let loop = @loop in
+    let walk = loop .inv .1 in
+    let more = @loop-test .taken in
+    let here = walk-decoded _ _ _ _ _ walk more in
+    let decoding = @decode .ensures in
+    (omega arith,
+    rw (decoding .1 ∙ here .decoding-size) (walk-next _ _ _ _ _ walk more .next),
+    named-next (nodeAt file) (loop .k) _ (loop .set) _ (decoding .0 ∙ here .node-is) (loop .inv .2) (@add-named .ensures))
 
 returns : tie.Need-returns Inv-loop μ-loop
 returns c = let all : c .before .loop .k ≡ c .before .before .before .before .args .n = omega arith in rw all at (c .before .loop .inv .2)
@@ -69,8 +77,6 @@ named-attributes-spec =
     part-decode-end
     decode-requires
     add-named-requires
-    shared-slice-read-size-of
-    size-of-requires
     add-at
     add-k
     loop-less

@@ -1,3 +1,4 @@
+use mathlib.Core.Path.{sym, ap}
 use native.Mathlib.Omega.{arith}
 use Rattle.node.specs.Legal.{last-map}
 use Rattle.node.specs.Reading.{checked-legal, checked-some, checked-long, node-is}
@@ -20,51 +21,64 @@ shared-slice-read-binary-operator c = let long = checked-long (c .before .before
 binary-operator-requires : tie.Need-binary-operator-requires
 binary-operator-requires c κs = search needs
 
-shared-slice-read-t12 : tie.Need-shared-slice-read-t12
+shared-slice-read-t13 : tie.Need-shared-slice-read-t13
 unfolding sizeOf
-shared-slice-read-t12 c = let long = checked-long (c .before .before .before .before .before .before .args .bytes .now) 14 (c .before .before .before .match .keys2) (c .before .before .before .before .before .before .pre) in omega arith
+shared-slice-read-t13 c = let long = checked-long (c .before .before .before .before .before .before .args .bytes .now) 14 (c .before .before .before .match .keys2) (c .before .before .before .before .before .before .pre) in omega arith
 
-shared-slice-read-t14 : tie.Need-shared-slice-read-t14
+shared-slice-read-t15 : tie.Need-shared-slice-read-t15
 unfolding sizeOf
-shared-slice-read-t14 c = let long = checked-long (c .before .before .before .before .before .before .before .args .bytes .now) 14 (c .before .before .before .before .match .keys2) (c .before .before .before .before .before .before .before .pre) in omega arith
+shared-slice-read-t15 c = let long = checked-long (c .before .before .before .before .before .before .before .args .bytes .now) 14 (c .before .before .before .before .match .keys2) (c .before .before .before .before .before .before .before .pre) in omega arith
 
 decode-with-set-requires : tie.Need-decode-with-set-requires
 decode-with-set-requires c κs = (c .before .before .before .pre, c .match .keys3)
 
-shared-slice-read-t16 : tie.Need-shared-slice-read-t16
+shared-slice-read-t19 : tie.Need-shared-slice-read-t19
 unfolding sizeOf
-shared-slice-read-t16 c = let long = checked-long (c .before .before .before .before .args .bytes .now) 98 (c .before .match .keys4) (c .before .before .before .before .pre) in omega arith
+shared-slice-read-t19 c = let long = checked-long (c .before .before .before .before .args .bytes .now) 98 (c .before .match .keys4) (c .before .before .before .before .pre) in omega arith
 
-shared-slice-read-t18 : tie.Need-shared-slice-read-t18
+shared-slice-read-t21 : tie.Need-shared-slice-read-t21
 unfolding sizeOf
-shared-slice-read-t18 c = let long = checked-long (c .before .before .before .before .before .args .bytes .now) 98 (c .before .before .match .keys4) (c .before .before .before .before .before .pre) in omega arith
+shared-slice-read-t21 c = let long = checked-long (c .before .before .before .before .before .args .bytes .now) 98 (c .before .before .match .keys4) (c .before .before .before .before .before .pre) in omega arith
 
-shared-slice-read-t20 : tie.Need-shared-slice-read-t20
+shared-slice-read-t23 : tie.Need-shared-slice-read-t23
 unfolding sizeOf
-shared-slice-read-t20 c = let long = checked-long (c .before .before .before .before .before .before .args .bytes .now) 98 (c .before .before .before .match .keys4) (c .before .before .before .before .before .before .pre) in omega arith
+shared-slice-read-t23 c = let long = checked-long (c .before .before .before .before .before .before .args .bytes .now) 98 (c .before .before .before .match .keys4) (c .before .before .before .before .before .before .pre) in omega arith
 
-shared-slice-read-t22 : tie.Need-shared-slice-read-t22
+shared-slice-read-t26 : tie.Need-shared-slice-read-t26
 unfolding sizeOf
-shared-slice-read-t22 c = let long = checked-long (c .before .before .before .before .args .bytes .now) 34 (last-map _ (checked-legal (c .before .before .before .before .args .bytes .now) (c .before .before .before .before .pre)) (c .before .match .rest .0 .0 .0 .1) (c .before .match .rest .0 .0 .1) (c .before .match .rest .0 .1) (c .before .match .rest .1)) (c .before .before .before .before .pre) in omega arith
+shared-slice-read-t26 c =
+    let is = (last-map _ (checked-legal (c .before .before .before .before .args .bytes .now) (c .before .before .before .before .pre)) (c .before .match .rest .0 .0 .0 .1) (c .before .match .rest .0 .0 .1) (c .before .match .rest .0 .1) (c .before .match .rest .1)) in
+    let long = checked-long (c .before .before .before .before .args .bytes .now) 34 is (c .before .before .before .before .pre) in
+    omega arith
 
-shared-slice-read-t24 : tie.Need-shared-slice-read-t24
+shared-slice-read-t28 : tie.Need-shared-slice-read-t28
 unfolding sizeOf
-shared-slice-read-t24 c = let long = checked-long (c .before .before .before .before .before .args .bytes .now) 34 (last-map _ (checked-legal (c .before .before .before .before .before .args .bytes .now) (c .before .before .before .before .before .pre)) (c .before .before .match .rest .0 .0 .0 .1) (c .before .before .match .rest .0 .0 .1) (c .before .before .match .rest .0 .1) (c .before .before .match .rest .1)) (c .before .before .before .before .before .pre) in omega arith
+shared-slice-read-t28 c =
+    let is = (last-map _ (checked-legal (c .before .before .before .before .before .args .bytes .now) (c .before .before .before .before .before .pre)) (c .before .before .match .rest .0 .0 .0 .1) (c .before .before .match .rest .0 .0 .1) (c .before .before .match .rest .0 .1) (c .before .before .match .rest .1)) in
+    let long = checked-long (c .before .before .before .before .before .args .bytes .now) 34 is (c .before .before .before .before .before .pre) in
+    omega arith
 
 returns : tie.Need-returns
-returns c = node-is (c .before .before .before .before .args .bytes .now) 1 (c .before .match .keys1)
+unfolding sizeOf
+returns c = (node-is (c .before .before .before .before .args .bytes .now) 1 (c .before .match .keys1), ap sizeOf (sym (c .before .match .keys1)))
 
 returns-2 : tie.Need-returns-2
-returns-2 c = rw (c .before .before .binary-operator .ensures) (node-is (c .before .before .before .before .before .before .before .args .bytes .now) 14 (c .before .before .before .before .match .keys2))
+unfolding sizeOf
+returns-2 c = (rw (c .before .before .binary-operator .ensures) (node-is (c .before .before .before .before .before .before .before .args .bytes .now) 14 (c .before .before .before .before .match .keys2)), ap sizeOf (sym (c .before .before .before .before .match .keys2)))
 
 returns-3 : tie.Need-returns-3
-returns-3 c = c .decode-with-set .ensures
+unfolding sizeOf
+returns-3 c = (c .decode-with-set .ensures, ap sizeOf (sym (c .before .match .keys3)))
 
 returns-4 : tie.Need-returns-4
-returns-4 c = node-is (c .before .before .before .before .before .before .args .bytes .now) 98 (c .before .before .before .match .keys4)
+unfolding sizeOf
+returns-4 c = (node-is (c .before .before .before .before .before .before .args .bytes .now) 98 (c .before .before .before .match .keys4), ap sizeOf (sym (c .before .before .before .match .keys4)))
 
 returns-5 : tie.Need-returns-5
-returns-5 c = node-is (c .before .before .before .before .before .args .bytes .now) 34 (last-map _ (checked-legal (c .before .before .before .before .before .args .bytes .now) (c .before .before .before .before .before .pre)) (c .before .before .match .rest .0 .0 .0 .1) (c .before .before .match .rest .0 .0 .1) (c .before .before .match .rest .0 .1) (c .before .before .match .rest .1))
+unfolding sizeOf
+returns-5 c =
+    let is = (last-map _ (checked-legal (c .before .before .before .before .before .args .bytes .now) (c .before .before .before .before .before .pre)) (c .before .before .match .rest .0 .0 .0 .1) (c .before .before .match .rest .0 .0 .1) (c .before .before .match .rest .0 .1) (c .before .before .match .rest .1)) in
+    (node-is (c .before .before .before .before .before .args .bytes .now) 34 is, ap sizeOf (sym is))
 
 pub decode-spec : {M : Type 1} → statement M
 decode-spec =
@@ -74,14 +88,14 @@ decode-spec =
     shared-slice-read-t7
     shared-slice-read-binary-operator
     binary-operator-requires
-    shared-slice-read-t12
-    shared-slice-read-t14
+    shared-slice-read-t13
+    shared-slice-read-t15
     decode-with-set-requires
-    shared-slice-read-t16
-    shared-slice-read-t18
-    shared-slice-read-t20
-    shared-slice-read-t22
-    shared-slice-read-t24
+    shared-slice-read-t19
+    shared-slice-read-t21
+    shared-slice-read-t23
+    shared-slice-read-t26
+    shared-slice-read-t28
     returns
     returns-2
     returns-3

@@ -24,7 +24,7 @@ returns : tie.Need-returns
 returns c =
     let args = c .before .before .before .before .before .before .args in
     let check = sym (check-one (args .m) (args .k) (args .bytes .now)) ∙ sym (c .before .before .before .before .check-nodes .ensures) ∙ c .before .before .size .given .1 in
-    rw (c .decode .ensures) (sym (checked-read _ _ _ _ check))
+    rw (c .decode .ensures .0) (sym (checked-read _ _ _ _ check))
 
 returns-2 : tie.Need-returns-2
 returns-2 c =

@@ -24,18 +24,13 @@ lay-node-requires : tie.Need-lay-node-requires
 lay-node-requires c κs =
     let pre = c .before .before .before .before .before .before .before .before .pre in
     let here = here-decoded _ _ _ _ (pre .0) in
-    ((pre .0 .relations, subst (LegalNode _ _) (sym (c .before .decode .ensures ∙ here .node-is)) (pre .0 .legal)), (pre .1 .0, (pre .1 .1 .0, pre .1 .1 .1 .0)))
-
-shared-slice-read-size-of : tie.Need-shared-slice-read-size-of
-shared-slice-read-size-of c = here-decoded _ _ _ _ (c .before .before .before .before .before .before .before .before .before .before .before .before .pre .0) .below
-
-size-of-requires : tie.Need-size-of-requires
-size-of-requires c κs = here-decoded _ _ _ _ (c .before .before .before .before .before .before .before .before .before .before .before .before .pre .0) .map-legal
+    ((pre .0 .relations, subst (LegalNode _ _) (sym (c .before .decode .ensures .0 ∙ here .node-is)) (pre .0 .legal)), (pre .1 .0, (pre .1 .1 .0, pre .1 .1 .1 .0)))
 
 add-result : tie.Need-add-result
 add-result c =
-    let fits = c .before .before .before .before .before .before .before .before .before .before .before .before .before .pre .0 .fits in
-    let size = c .size-of .ensures ∙ here-decoded _ _ _ _ (c .before .before .before .before .before .before .before .before .before .before .before .before .before .pre .0) .size-is in
+    let pre = c .before .before .before .before .before .before .before .before .before .before .before .before .pre in
+    let fits = pre .0 .fits in
+    let size = c .before .before .before .before .before .decode .ensures .1 ∙ here-decoded _ _ _ _ (pre .0) .decoding-size in
     omega arith
 
 same-length : tie.Need-same-length
@@ -43,12 +38,15 @@ same-length c = search needs
 
 returns : tie.Need-returns
 returns c =
-    let args = c .before .before .before .before .before .before .before .before .before .before .before .before .before .args in
-    let pre = c .before .before .before .before .before .before .before .before .before .before .before .before .before .pre in
+    let args = c .before .before .before .before .before .before .before .before .before .before .before .before .args in
+    let pre = c .before .before .before .before .before .before .before .before .before .before .before .before .pre in
     let here = here-decoded (args .file .now) (args .m) (args .k) (args .at) (pre .0) in
-    let size = c .size-of .ensures ∙ here .size-is in
+    let node = c .before .before .before .before .before .decode .ensures .0 ∙ here .node-is in
+    let size = c .before .before .before .before .before .decode .ensures .1 ∙ here .decoding-size in
     let wide = pre .1 .1 .1 .0 .0 in
-    (ap (λ (n : ℕ). args .at + n) size, filled-node (args .file .now) (args .special .now) (args .items .now) (args .count) (args .width) (args .m) (args .k) (args .sets .now) _ _ (omega arith) (pre .1 .0 .1) (c .before .before .before .before .before .before .decode .ensures ∙ here .node-is) (pre .0 .legal) (λ p. omega (arith, c .before .before .before .before .before .before .before .before .slice-known .given p)) (pre .1 .1 .1 .1) (c .before .before .before .before .lay-node .ensures))
+    (ap (λ (n : ℕ). args .at + n) size,
+    filled-node (args .file .now) (args .special .now) (args .items .now) (args .count) (args .width) (args .m) (args .k) (args .sets .now) _ _ (omega arith) (pre .1 .0 .1) node (pre .0 .legal)
+    (λ p. omega (arith, c .before .before .before .before .before .before .before .slice-known .given p)) (pre .1 .1 .1 .1) (c .before .before .before .lay-node .ensures))
 
 pub fill-node-spec : {M : Type 1} → statement M
 fill-node-spec =
@@ -59,8 +57,6 @@ fill-node-spec =
     part-decode-end
     decode-requires
     lay-node-requires
-    shared-slice-read-size-of
-    size-of-requires
     add-result
     same-length
     returns)
