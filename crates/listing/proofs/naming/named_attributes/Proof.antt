@@ -30,16 +30,16 @@ part-decode-end : tie.Need-part-decode-end Inv-loop μ-loop
 part-decode-end c = search needs
 
 decode-requires : tie.Need-decode-requires Inv-loop μ-loop
-decode-requires c κs = walk-decoded _ _ _ _ _ (@loop .inv .1) (@loop-test .taken) .checked
+decode-requires c κs = walk-decoded _ _ _ _ _ (c .before .before .loop .inv .1) (c .before .loop-test .taken) .checked
 
 add-named-requires : tie.Need-add-named-requires Inv-loop μ-loop
 add-named-requires c κs = search needs
 
 add-at : tie.Need-add-at Inv-loop μ-loop
 add-at c =
-    let walk = @loop .inv .1 in
-    let more = @loop-test .taken in
-    let size = @decode .ensures .1 ∙ walk-decoded _ _ _ _ _ walk more .decoding-size in
+    let walk = c .before .before .before .before .before .loop .inv .1 in
+    let more = c .before .before .before .before .loop-test .taken in
+    let size = c .before .before .decode .ensures .1 ∙ walk-decoded _ _ _ _ _ walk more .decoding-size in
     let inside = walk-next _ _ _ _ _ walk more .next .inside in
     omega arith
 
@@ -51,15 +51,15 @@ loop-less c = search needs
 
 loop-again : tie.Need-loop-again Inv-loop μ-loop
 loop-again c =
-    let file = @args .file .now in
-    let loop = @loop in
+    let file = c .before .before .before .before .before .before .before .before .args .file .now in
+    let loop = c .before .before .before .before .before .loop in
     let walk = loop .inv .1 in
-    let more = @loop-test .taken in
+    let more = c .before .before .before .before .loop-test .taken in
     let here = walk-decoded _ _ _ _ _ walk more in
-    let decoding = @decode .ensures in
+    let decoding = c .before .before .decode .ensures in
     (omega arith,
     rw (decoding .1 ∙ here .decoding-size) (walk-next _ _ _ _ _ walk more .next),
-    named-next (nodeAt file) (loop .k) _ (loop .set) _ (decoding .0 ∙ here .node-is) (loop .inv .2) (@add-named .ensures))
+    named-next (nodeAt file) (loop .k) _ (loop .set) _ (decoding .0 ∙ here .node-is) (loop .inv .2) (c .before .add-named .ensures))
 
 returns : tie.Need-returns Inv-loop μ-loop
 returns c = let all : c .before .loop .k ≡ c .before .before .before .before .args .n = omega arith in rw all at (c .before .loop .inv .2)
