@@ -113,7 +113,58 @@ fn apply_bytes(
     }
 }
 
-// The same with room for as many entries as the bytes can list.
+// The same with room for as many entries as the bytes can list, where they are many.
+fn apply_many(
+    file: &[u8],
+    m: u8,
+    n: u8,
+    node: u8,
+    bytes: &[u8],
+    work: &mut [u8],
+    schema: &mut [u8],
+    out: &mut [u8],
+) -> Application
+    requires { ⌜ acceptance (now file) ≡ Accepted m n ⌝ }
+    requires { ⌜ (node < n) × (n * 1024 ≤ length (now work)) ⌝ }
+    requires { ⌜ (4104 ≤ length (now schema)) × (513 ≤ length (now out)) ⌝ }
+    ensures { λ r. ⌜ r ≡ readApplied m (expressionAt (now (file .entry)) node) (instantiationReading (now (bytes .entry))) ⌝ }
+    ensures { λ _. ⌜ now (work .exit) ≡ readSpace (now (file .entry)) m n (instantiationReading (now (bytes .entry)) .judgement) (now (work .entry)) ⌝ }
+    ensures { λ _. ⌜ now (schema .exit) ≡ readImage m (expressionAt (now (file .entry)) node) (instantiationReading (now (bytes .entry))) (now (schema .entry)) ⌝ }
+    ensures { λ _. ⌜ now (out .exit) ≡ readOutput m (expressionAt (now (file .entry)) node) (instantiationReading (now (bytes .entry))) (now (out .entry)) ⌝ }
+{
+    if bytes.len() <= 256 {
+        let mut items = [0u32; 128];
+        let mut spare = [0u32; 128];
+        return apply_bytes(
+            file,
+            m,
+            n,
+            node,
+            bytes,
+            &mut items,
+            &mut spare,
+            work,
+            schema,
+            out,
+        );
+    }
+    let mut items = [0u32; 256];
+    let mut spare = [0u32; 256];
+    apply_bytes(
+        file,
+        m,
+        n,
+        node,
+        bytes,
+        &mut items,
+        &mut spare,
+        work,
+        schema,
+        out,
+    )
+}
+
+// The same with room for few entries, where the bytes can list no more.
 fn apply_sized(
     file: &[u8],
     m: u8,
@@ -148,20 +199,7 @@ fn apply_sized(
             out,
         );
     }
-    let mut items = [0u32; 256];
-    let mut spare = [0u32; 256];
-    apply_bytes(
-        file,
-        m,
-        n,
-        node,
-        bytes,
-        &mut items,
-        &mut spare,
-        work,
-        schema,
-        out,
-    )
+    apply_many(file, m, n, node, bytes, work, schema, out)
 }
 
 // Apply: refusals 1 to 13, 14 to 17, 19, 18, 20, 21.

@@ -111,6 +111,11 @@ fn recover_sized(
         let mut spare = [0u32; 32];
         return recover_bytes(file, m, n, node, bytes, &mut items, &mut spare, work, out);
     }
+    if bytes.len() <= 256 {
+        let mut items = [0u32; 128];
+        let mut spare = [0u32; 128];
+        return recover_bytes(file, m, n, node, bytes, &mut items, &mut spare, work, out);
+    }
     let mut items = [0u32; 256];
     let mut spare = [0u32; 512];
     recover_bytes(file, m, n, node, bytes, &mut items, &mut spare, work, out)

@@ -183,6 +183,11 @@ fn type_sized(file: &[u8], m: u8, n: u8, node: u8, bytes: &[u8], out: &mut [u8])
         let mut spare = [0u32; 32];
         return type_schema(file, m, n, node, bytes, &mut items, &mut spare, out);
     }
+    if bytes.len() <= 256 {
+        let mut items = [0u32; 128];
+        let mut spare = [0u32; 128];
+        return type_schema(file, m, n, node, bytes, &mut items, &mut spare, out);
+    }
     let mut items = [0u32; 256];
     let mut spare = [0u32; 512];
     type_schema(file, m, n, node, bytes, &mut items, &mut spare, out)

@@ -11,8 +11,9 @@ slice-aggregate-apply-bytes-2 c = search needs
 
 apply-bytes-requires : tie.Need-apply-bytes-requires
 apply-bytes-requires c κs =
+    let pre = c .before .before .before .before .before .before .before .before .before .before .before .pre in
     let short = c .before .before .before .before .before .if1 .taken in
-    (c .before .before .before .before .before .before .before .before .before .before .before .pre .0, (c .before .before .before .before .before .before .before .before .before .before .before .pre .1 .0, (((λ k few fits. omega arith), (λ k few fits. omega arith)), c .before .before .before .before .before .before .before .before .before .before .before .pre .1 .1)))
+    (pre .0, (pre .1 .0, (((λ k few fits. omega arith), (λ k few fits. omega arith)), pre .1 .1)))
 
 same-length : tie.Need-same-length
 same-length c = search needs
@@ -26,14 +27,8 @@ same-length-3 c = search needs
 returns : tie.Need-returns
 returns c = search needs
 
-slice-aggregate-apply-bytes-3 : tie.Need-slice-aggregate-apply-bytes-3
-slice-aggregate-apply-bytes-3 c = search needs
-
-slice-aggregate-apply-bytes-4 : tie.Need-slice-aggregate-apply-bytes-4
-slice-aggregate-apply-bytes-4 c = search needs
-
-apply-bytes-requires-2 : tie.Need-apply-bytes-requires-2
-apply-bytes-requires-2 c κs = (c .before .before .before .before .before .before .before .before .before .before .before .pre .0, (c .before .before .before .before .before .before .before .before .before .before .before .pre .1 .0, (((λ k few fits. omega arith), (λ k few fits. omega arith)), c .before .before .before .before .before .before .before .before .before .before .before .pre .1 .1)))
+apply-many-requires : tie.Need-apply-many-requires
+apply-many-requires c κs = c .before .before .before .before .before .before .before .before .before .pre
 
 same-length-4 : tie.Need-same-length-4
 same-length-4 c = search needs
@@ -45,7 +40,7 @@ same-length-6 : tie.Need-same-length-6
 same-length-6 c = search needs
 
 returns-2 : tie.Need-returns-2
-returns-2 c = search needs
+returns-2 c = c .before .before .before .before .before .before .apply-many .ensures
 
 pub apply-sized-spec : {M : Type 1} → statement M
 apply-sized-spec =
@@ -58,9 +53,7 @@ apply-sized-spec =
     same-length-2
     same-length-3
     returns
-    slice-aggregate-apply-bytes-3
-    slice-aggregate-apply-bytes-4
-    apply-bytes-requires-2
+    apply-many-requires
     same-length-4
     same-length-5
     same-length-6

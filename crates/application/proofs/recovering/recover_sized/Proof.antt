@@ -11,8 +11,9 @@ slice-aggregate-recover-bytes-2 c = search needs
 
 recover-bytes-requires : tie.Need-recover-bytes-requires
 recover-bytes-requires c κs =
+    let pre = c .before .before .before .before .before .before .before .before .before .pre in
     let short = c .before .before .before .before .if1 .taken in
-    (c .before .before .before .before .before .before .before .before .before .pre .0, (c .before .before .before .before .before .before .before .before .before .pre .1 .0, (((λ k few fits. omega arith), (λ k few fits. omega arith)), c .before .before .before .before .before .before .before .before .before .pre .1 .1)))
+    (pre .0, (pre .1 .0, (((λ k few fits. omega arith), (λ k few fits. omega arith)), pre .1 .1)))
 
 same-length : tie.Need-same-length
 same-length c = search needs
@@ -30,7 +31,10 @@ slice-aggregate-recover-bytes-4 : tie.Need-slice-aggregate-recover-bytes-4
 slice-aggregate-recover-bytes-4 c = search needs
 
 recover-bytes-requires-2 : tie.Need-recover-bytes-requires-2
-recover-bytes-requires-2 c κs = (c .before .before .before .before .before .before .before .before .before .pre .0, (c .before .before .before .before .before .before .before .before .before .pre .1 .0, (((λ k few fits. omega arith), (λ k few fits. omega arith)), c .before .before .before .before .before .before .before .before .before .pre .1 .1)))
+recover-bytes-requires-2 c κs =
+    let pre = c .before .before .before .before .before .before .before .before .before .before .pre in
+    let short = c .before .before .before .before .if2 .taken in
+    (pre .0, (pre .1 .0, (((λ k few fits. omega arith), (λ k few fits. omega arith)), pre .1 .1)))
 
 same-length-3 : tie.Need-same-length-3
 same-length-3 c = search needs
@@ -40,6 +44,26 @@ same-length-4 c = search needs
 
 returns-2 : tie.Need-returns-2
 returns-2 c = search needs
+
+slice-aggregate-recover-bytes-5 : tie.Need-slice-aggregate-recover-bytes-5
+slice-aggregate-recover-bytes-5 c = search needs
+
+slice-aggregate-recover-bytes-6 : tie.Need-slice-aggregate-recover-bytes-6
+slice-aggregate-recover-bytes-6 c = search needs
+
+recover-bytes-requires-3 : tie.Need-recover-bytes-requires-3
+recover-bytes-requires-3 c κs =
+    let pre = c .before .before .before .before .before .before .before .before .before .before .pre in
+    (pre .0, (pre .1 .0, (((λ k few fits. omega arith), (λ k few fits. omega arith)), pre .1 .1)))
+
+same-length-5 : tie.Need-same-length-5
+same-length-5 c = search needs
+
+same-length-6 : tie.Need-same-length-6
+same-length-6 c = search needs
+
+returns-3 : tie.Need-returns-3
+returns-3 c = search needs
 
 pub recover-sized-spec : {M : Type 1} → statement M
 recover-sized-spec =
@@ -56,4 +80,10 @@ recover-sized-spec =
     recover-bytes-requires-2
     same-length-3
     same-length-4
-    returns-2)
+    returns-2
+    slice-aggregate-recover-bytes-5
+    slice-aggregate-recover-bytes-6
+    recover-bytes-requires-3
+    same-length-5
+    same-length-6
+    returns-3)

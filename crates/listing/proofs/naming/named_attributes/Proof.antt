@@ -56,10 +56,11 @@ loop-again c =
     let walk = loop .inv .1 in
     let more = c .before .before .before .before .loop-test .taken in
     let here = walk-decoded _ _ _ _ _ walk more in
-    let decoding = c .before .before .decode .ensures in
-    (omega arith,
-    rw (decoding .1 ∙ here .decoding-size) (walk-next _ _ _ _ _ walk more .next),
-    named-next (nodeAt file) (loop .k) _ (loop .set) _ (decoding .0 ∙ here .node-is) (loop .inv .2) (c .before .add-named .ensures))
+    let decoding = c .before .before .decode .ensures in (
+      omega arith,
+      rw (decoding .1 ∙ here .decoding-size) (walk-next _ _ _ _ _ walk more .next),
+      named-next (nodeAt file) (loop .k) _ (loop .set) _ (decoding .0 ∙ here .node-is) (loop .inv .2) (c .before .add-named .ensures),
+    )
 
 returns : tie.Need-returns Inv-loop μ-loop
 returns c = let all : c .before .loop .k ≡ c .before .before .before .before .args .n = omega arith in rw all at (c .before .loop .inv .2)

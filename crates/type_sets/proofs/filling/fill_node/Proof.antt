@@ -43,10 +43,11 @@ returns c =
     let here = here-decoded (args .file .now) (args .m) (args .k) (args .at) (pre .0) in
     let node = c .before .before .before .before .before .decode .ensures .0 ∙ here .node-is in
     let size = c .before .before .before .before .before .decode .ensures .1 ∙ here .decoding-size in
-    let wide = pre .1 .1 .1 .0 .0 in
-    (ap (λ (n : ℕ). args .at + n) size,
-    filled-node (args .file .now) (args .special .now) (args .items .now) (args .count) (args .width) (args .m) (args .k) (args .sets .now) _ _ (omega arith) (pre .1 .0 .1) node (pre .0 .legal)
-    (λ p. omega (arith, c .before .before .before .before .before .before .before .slice-known .given p)) (pre .1 .1 .1 .1) (c .before .before .before .lay-node .ensures))
+    let wide = pre .1 .1 .1 .0 .0 in (
+      ap (λ (n : ℕ). args .at + n) size,
+      filled-node (args .file .now) (args .special .now) (args .items .now) (args .count) (args .width) (args .m) (args .k) (args .sets .now) _ _ (omega arith) (pre .1 .0 .1) node (pre .0 .legal)
+          (λ p. omega (arith, c .before .before .before .before .before .before .before .slice-known .given p)) (pre .1 .1 .1 .1) (c .before .before .before .lay-node .ensures),
+    )
 
 pub fill-node-spec : {M : Type 1} → statement M
 fill-node-spec =
