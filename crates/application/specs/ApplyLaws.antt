@@ -17,7 +17,7 @@ use Rattle.expression.specs.declared.files.Acceptance.the-variants.{Accepted, R
 use Rattle.expression.specs.Admission.{after, sliced}
 use Rattle.expression.specs.AdmissionLaws.{sliced-passed}
 use Rattle.algebra.specs.Expression.{Expression, Legal}
-use Rattle.formulas.specs.Formula.{typeVariable}
+use Rattle.states.specs.Formula.{typeVariable}
 use Rattle.column.specs.Column.{allowedIn}
 use Rattle.formula.specs.Expressions.{expressionAt}
 use Rattle.formula.specs.Storage.{columnAt}

@@ -15,7 +15,7 @@ use Rattle.bits.specs.Bit.{bit, bit-none}
 use Rattle.algebra.specs.Expression.{Expression, Legal}
 use Rattle.algebra.specs.Cell.{plain, out, ok}
 use Rattle.algebra.specs.CellLaws.{cell-depends, cell-none}
-use Rattle.formulas.specs.Formula.{typeVariable}
+use Rattle.states.specs.Formula.{typeVariable}
 use Rattle.column.specs.Column.{allowedIn, outputIn}
 use Rattle.formula.specs.Storage.{columnAt}
 use Rattle.formula.specs.Stored.{allowedBit, cellColumn}

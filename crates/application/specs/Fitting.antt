@@ -10,7 +10,7 @@ use Rattle.bits.specs.AllBelow.{allBelow}
 use Rattle.bits.specs.Bit.{bit}
 use Rattle.bits.specs.Pack.{pack}
 use Rattle.bits.specs.PackFrom.{packFrom, from-none, from-lower, from-below, from-all}
-use Rattle.formulas.specs.Formula.{typeVariable}
+use Rattle.states.specs.Formula.{typeVariable}
 use Rattle.membership.specs.Entries.{subsetOf}
 use Rattle.membership.specs.Holders.{kept}
 use Rattle.column.specs.Column.{allowedIn, outputIn}

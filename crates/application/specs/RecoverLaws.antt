@@ -10,7 +10,7 @@ use Rattle.refusal.specs.declared.Refusal.{Refusal}
 use Rattle.expression.specs.declared.files.Acceptance.the-variants.{Accepted, Refused as FileRefused}
 use Rattle.expression.specs.Admission.{sliced}
 use Rattle.algebra.specs.Expression.{Expression}
-use Rattle.formulas.specs.Formula.{typeVariable}
+use Rattle.states.specs.Formula.{typeVariable}
 use Rattle.column.specs.Column.{allowedIn}
 use Rattle.formula.specs.Expressions.{expressionAt}
 use Rattle.formula.specs.Storage.{columnAt}

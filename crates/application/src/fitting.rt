@@ -3,7 +3,7 @@ ghost use mathlib.Core.Path.{_≡_};
 ghost use Prim.Native.Nat.{_+_, _*_, _≤_, _<_};
 ghost use lib.ListN.{length, getD, take};
 ghost use Rattle.bits.specs.AllBelow.{allBelow};
-ghost use Rattle.formulas.specs.Formula.{typeVariable};
+ghost use Rattle.states.specs.Formula.{typeVariable};
 ghost use mathlib.Core.Bool.{cond};
 ghost use Rattle.column.specs.Column.{allowedIn, outputIn};
 ghost use Rattle.formula.specs.Storage.{columnAt};

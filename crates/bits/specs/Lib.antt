@@ -10,3 +10,6 @@ pub mod Rising
 pub mod PackFrom
 pub mod Booleans
 pub mod AllBelow
+pub mod Truth
+pub mod Search
+pub mod AnyBelow

@@ -22,7 +22,7 @@ use Rattle.expression.specs.AdmissionLaws.{sliced-passes, asked-passes}
 use Rattle.expression.specs.declared.files.Acceptance.{Acceptance}
 use Rattle.expression.specs.declared.files.Acceptance.the-variants.{Accepted, Refused}
 use Rattle.algebra.specs.Expression.{Expression}
-use Rattle.formulas.specs.Truth.{left, right}
+use Rattle.bits.specs.Truth.{left, right}
 use Rattle.formula.specs.Expressions.{expressionAt, earlier}
 use Rattle.formula.specs.Stored.{allowedBit, outputBit, admitted}
 use Rattle.formula.specs.StoredLaws.{admitted-passes}

@@ -4,6 +4,7 @@ use mathlib.Core.Path.{_≡_}
 use mathlib.Core.Bool.{Bool, true, false, _&&_}
 use lib.Dec.{ltb}
 use Rattle.types.specs.Types.{Attrs, Assignment, column, holders}
+use Rattle.states.specs.Formula.{typeVariable}
 
 pub record Formula : Type 0 where
   -- m; "A subset of the relations is a number s, 0 to 2^m − 1"
@@ -11,10 +12,6 @@ pub record Formula : Type 0 where
   -- column, then subset
   pub allowed : ℕ → ℕ → Bool
   pub output : ℕ → ℕ → Bool
-
--- "The type variables are the s above 0 allowed in column 0.": by which subsets column 0 allows
-abbrev pub typeVariable : (ℕ → Bool) → ℕ → Bool
-typeVariable allowed s = ltb 0 s && allowed s
 
 -- of a formula: a subset of its relations
 abbrev pub isVariable : Formula → ℕ → Bool

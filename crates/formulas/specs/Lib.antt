@@ -1,10 +1,4 @@
 pub mod Formula
 pub mod Instantiation
-pub mod Truth
-pub mod Search
-pub mod States
-pub mod Members
-pub mod Instance
-pub mod ImageFits
-pub mod ImageOnce
-pub mod Principal
+pub mod Plain
+pub mod Blocked

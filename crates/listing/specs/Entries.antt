@@ -4,7 +4,7 @@ use mathlib.Core.Bool.{Bool, cond, _&&_}
 use mathlib.Core.List.{List, [], _∷_, _++_}
 use lib.Dec.{ltb}
 use Rattle.bits.specs.Bit.{bit}
-use Rattle.formulas.specs.Formula.{typeVariable}
+use Rattle.states.specs.Formula.{typeVariable}
 use Rattle.column.specs.Column.{allowedIn, outputIn}
 use Rattle.listing.specs.declared.entries.Kind.{Kind}
 use Rattle.listing.specs.declared.entries.Kind.the-variants.{Variables, Output, Signed}

@@ -9,7 +9,7 @@ use Rattle.bits.specs.Bit.{bit}
 use Rattle.attribute_set.specs.declared.AttrSet.{AttrSet}
 use Rattle.attribute_set.specs.AttrSet.{hasAttribute}
 use Rattle.algebra.specs.Expression.{Expression}
-use Rattle.formulas.specs.Formula.{typeVariable}
+use Rattle.states.specs.Formula.{typeVariable}
 use Rattle.expression.specs.ReadFile.{nodeAt}
 use Rattle.formula.specs.Expressions.{expressionAt}
 use Rattle.formula.specs.Storage.{columnAt}

@@ -1,22 +1,22 @@
 -- Demand 3 for expressions: the instantiations of an expression's formula are the assignments that type it, each once, with the type that the rules give.
 use Prim.Native.Nat.{ℕ, _<_, _^_}
-use mathlib.Core.Path.{_≡_, refl, sym, ap₂, _∙_}
-use mathlib.Core.Logic.{_↔_}
-use mathlib.Core.Bool.{true, false, _&&_}
-use lib.Dec.{lit<}
-use lib.Pow.{pow-pos}
-use Rattle.types.specs.Laws.{holders-bit, holders-below}
-use Rattle.bits.specs.Bit.{bit, bit-none}
-use Rattle.types.specs.Types.{Attrs, IsType, Assignment, IsAssignment, column, holders}
+use mathlib.Core.Path.{_≡_, refl, sym, ap, fun-ext, _∙_}
+use mathlib.Core.Logic.{_↔_, Iff·trans, Iff·symm}
+use mathlib.Core.Bool.{Bool, true, false, cond, _&&_}
+use lib.Dec.{T}
+use Rattle.bits.specs.Bit.{bit}
+use Rattle.types.specs.Types.{Attrs, IsType, Assignment, IsAssignment}
 use Rattle.algebra.specs.Expression.{Expression, Legal}
 use Rattle.algebra.specs.Rules.{Typed}
 use Rattle.algebra.specs.Cell.{plain, out, ok}
-use Rattle.algebra.specs.CellLaws.{cell-depends, cell-none}
-use Rattle.algebra.specs.ByAttribute.{CellOf, typed-cells, cells-typed}
+use Rattle.algebra.specs.ByAttribute.{typed-cells, cells-typed}
+use Rattle.states.specs.Coded.{plainCode, valueAt, plain-value}
+use Rattle.states.specs.Instantiation.{Instantiation as StateInstantiation, InImage as InStateImage}
+use Rattle.states.specs.Principal.{FormulaOf as StateFormulaOf, CellOf as StateCellOf, JustOne, cell-fits, fits-cell, grounded as state-grounded, unique as state-unique, principal as state-principal}
 use Rattle.formulas.specs.Formula.{Formula, Fits, Grounded}
 use Rattle.formulas.specs.Instantiation.{Instantiation, InImage, HasImage, HasOutput}
-use Rattle.formulas.specs.States.{column-below}
-use Rattle.formulas.specs.Principal.{instantiate, image-fits, image-once, Blocked, Fitting, Choice, chosen, chosenType, choice-fits, blocked-none, none-blocked}
+use Rattle.formulas.specs.Plain.{up, to, from, types-are, fits-is, image-is, has-image, has-output}
+use Rattle.formulas.specs.Blocked.{Blocked, Fitting, Choice, chosen, chosenType, choice-fits, blocked-none, none-blocked}
 
 -- F is a formula of e: its bits are the cells of e, at the columns and subsets that there are
 pub record FormulaOf (e : Expression) (F : Formula) : Type 0 where
@@ -32,60 +32,65 @@ pub record Typing (m : ℕ) (e : Expression) : Type 0 where
   pub typed : Typed assignment e type
 
 module _ (e : Expression) (F : Formula) (legal : Legal (F .relations) e) (is : FormulaOf e F) where
-  -- ---- an attribute breaks no rule exactly where the formula allows its holders
+  -- ---- from the theory of states, in base 2
 
-  same-cell : (A : Assignment) (a : ℕ) → (ok plain e (column a) (bit (holders (F .relations) A a)) ≡ ok plain e (column a) (λ r. A r a)) × (out plain e (column a) (bit (holders (F .relations) A a)) ≡ out plain e (column a) (λ r. A r a))
-  same-cell A a = cell-depends plain (F .relations) e legal (column a) (bit (holders (F .relations) A a)) (λ r. A r a) (λ r h. holders-bit (F .relations) A a r h)
-
-  cell-fits : (A : Assignment) (t : Attrs) (a : ℕ) → CellOf A e t a → Fits F A t a
-  cell-fits A t a cell =
-      let s = holders (F .relations) A a in
-      let below = holders-below (F .relations) A a in
-      let allowed : ok plain e (column a) (bit s) ≡ true = same-cell A a .0 ∙ cell .allowed in
+  states-formula : StateFormulaOf plainCode e (up F)
+  states-formula =
       record {
-        allowed = is .allowed (column a) s (column-below a) below ∙ allowed;
-        output = is .output (column a) s (column-below a) below ∙ ap₂ _&&_ allowed (same-cell A a .1 ∙ cell .output);
+        allowed = λ c s hc hs. is .allowed c s hc hs ∙ ap (ok plain e c) (values s);
+        output = λ c s hc hs. is .output c s hc hs ∙ either (ok plain e c (bit s)) (out plain e c (bit s)) ∙ ap (λ (held : ℕ → Bool). cond (ok plain e c held) (out plain e c held) false) (values s);
       }
+    where
+      values : (s : ℕ) → bit s ≡ valueAt plainCode s
+      values s = fun-ext λ r. sym (plain-value s r)
 
-  fits-cell : (A : Assignment) (t : Attrs) (a : ℕ) → Fits F A t a → CellOf A e t a
-  fits-cell A t a fits =
-      let s = holders (F .relations) A a in
-      let below = holders-below (F .relations) A a in
-      let allowed : ok plain e (column a) (bit s) ≡ true = sym (is .allowed (column a) s (column-below a) below) ∙ fits .allowed in
-      let output : ok plain e (column a) (bit s) && out plain e (column a) (bit s) ≡ t a = sym (is .output (column a) s (column-below a) below) ∙ fits .output in
-      record {
-        allowed = sym (same-cell A a .0) ∙ allowed;
-        output = sym (same-cell A a .1) ∙ (rw allowed at output);
-      }
+      either : (b v : Bool) → b && v ≡ cond b v false
+      either true v = refl
+      either false v = refl
 
   grounded : Grounded F
-  grounded =
-      let nobody = cell-depends plain (F .relations) e legal 0 (bit 0) (λ r. false) (λ r h. bit-none r) in
-      let none = cell-none plain refl refl (F .relations) e legal in
-      record {
-        allowed = is .allowed 0 0 (lit< tt) (pow-pos (F .relations)) ∙ nobody .0 ∙ none .0;
-        output = is .output 0 0 (lit< tt) (pow-pos (F .relations)) ∙ ap₂ _&&_ (nobody .0 ∙ none .0) (nobody .1 ∙ none .1);
-      }
+  grounded = let ground = state-grounded plainCode e (up F) legal states-formula in record { allowed = ground .allowed; output = ground .output }
 
-  -- the rules give e the type t under A exactly when the formula allows each attribute as A has it, with the output t
+  -- the rules give e the type t under A exactly when no attribute breaks a rule
+  cells : (A : Assignment) (t : Attrs) → Typed A e t ↔ ((a : ℕ) → StateCellOf plain A e t a)
+  cells A t = (
+    (λ typed a. let cell = typed-cells (F .relations) e legal A t typed a in record { allowed = cell .allowed; output = cell .output }),
+    (λ all. cells-typed (F .relations) e legal A t (λ a. record { allowed = all a .allowed; output = all a .output })),
+  )
+
+  -- and exactly when the formula allows each attribute as A has it, with the output t
   pub typed-fits : (A : Assignment) (t : Attrs) → Typed A e t ↔ ((a : ℕ) → Fits F A t a)
   typed-fits A t = (
-    (λ typed a. cell-fits A t a (typed-cells (F .relations) e legal A t typed a)),
-    (λ fits. cells-typed (F .relations) e legal A t (λ a. fits-cell A t a (fits a))),
+    (λ typed a. fits-is F A t a .0 (cell-fits plainCode e (up F) legal states-formula A t a (cells A t .0 typed a))),
+    (λ fits. cells A t .1 (λ a. fits-cell plainCode e (up F) legal states-formula A t a (fits-is F A t a .1 (fits a)))),
   )
 
   -- ---- demand 3
 
-  -- principal: the rules give e the type t under A exactly when an instantiation has that image and that output
-  pub principal : (A : Assignment) → IsAssignment (F .relations) A → (t : Attrs) → IsType t → Typed A e t ↔ ((I : Instantiation F) × (HasImage I A × HasOutput I t))
-  principal A types t type = (
-    (λ typed. instantiate F grounded A types t (typed-fits A t .0 typed)),
-    (λ found. typed-fits A t .1 (image-fits F grounded A types t type (found .0) (found .1 .0) (found .1 .1))),
-  )
-
   -- unique: no two instantiations have one image
   pub unique : (I J : Instantiation F) → ((r : ℕ) → r < F .relations → (a : ℕ) → InImage I r a ↔ InImage J r a) → I ≡ J
-  unique I J same = image-once F I J same
+  unique I J same = ap (λ (I : StateInstantiation plainCode (up F)). from I) (state-unique plainCode e (up F) legal states-formula (to I) (to J) (λ r below a v. go r below a v))
+    where
+      go : (r : ℕ) → r < F .relations → (a : ℕ) (v : Bool) → T v → InStateImage (to I) r a v ↔ InStateImage (to J) r a v
+      go r below a true k = Iff·trans (Iff·symm (image-is I r a)) (Iff·trans (same r below a) (image-is J r a))
+      go r below a false k = absurd k
+
+  -- principal: the rules give e the type t under A exactly when an instantiation has that image and that output
+  pub principal : (A : Assignment) → IsAssignment (F .relations) A → (t : Attrs) → IsType t → Typed A e t ↔ ((I : Instantiation F) × (HasImage I A × HasOutput I t))
+  principal A types t type = Iff·trans (cells A t) (Iff·trans (state-principal plainCode e (up F) legal states-formula A (types-are (F .relations) A types) t) (out-of, into))
+    where
+      out-of : JustOne plainCode (up F) A t → (I : Instantiation F) × (HasImage I A × HasOutput I t)
+      out-of one = let I = from (one .instantiation) in (I, (has-image I A .1 (one .image), has-output I t .1 (one .output)))
+
+      into : (I : Instantiation F) × (HasImage I A × HasOutput I t) → JustOne plainCode (up F) A t
+      into found =
+          let image = has-image (found .0) A .0 (found .1 .0) in
+          record {
+            instantiation = to (found .0);
+            image = image;
+            output = has-output (found .0) t .0 (found .1 .1);
+            only = λ J has gives. state-unique plainCode e (up F) legal states-formula J (to (found .0)) (λ r below a v h. Iff·trans (Iff·symm (has r below a v h)) (image r below a v h));
+          }
 
   fitting-typing : Fitting F → Typing (F .relations) e
   fitting-typing f =

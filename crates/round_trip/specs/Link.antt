@@ -17,13 +17,14 @@ use Rattle.bits.specs.Word.{Bytes}
 use Rattle.attribute_set.specs.AttrSet.{special}
 use Rattle.attribute_set.specs.Laws.{special-range, special-above}
 use Rattle.types.specs.Types.{IsType, Assignment, holders}
+use Rattle.types.specs.Attributes.{special-ordinary}
 use Rattle.algebra.specs.Expression.{Legal}
 use Rattle.expression.specs.Accepted.{accepted-file}
 use Rattle.formulas.specs.Formula.{Formula, isVariable}
 use Rattle.formulas.specs.Instantiation.{Instantiation, HasImage, HasOutput}
-use Rattle.formulas.specs.Members.{Place, inSubset, inList, nowhere, place, image-special, image-listed, any-proof}
-use Rattle.formulas.specs.States.{holders-is, special-ordinary, variable}
-use Rattle.formulas.specs.Truth.{is-true, is-false, by-true, same-test}
+use Rattle.formulas.specs.Plain.{to, holders-is, variable, image-is, image-special, image-listed}
+use Rattle.states.specs.Members.{Place, inState, inList, nowhere, place}
+use Rattle.bits.specs.Truth.{is-true, is-false, by-true, same-test, any-proof}
 use Rattle.formula.specs.Expressions.{expressionAt, expression-legal}
 use Rattle.formula.specs.Stored.{formulaSpace}
 use Rattle.verdict.specs.StoredFormula.{formulaIn}
@@ -167,7 +168,7 @@ module _ (file : List ℕ) (k : ℕ) (bytes work schema out : List ℕ) (m n : �
     list-bytes s v x l = by-true (sym (owner s x (variable F s .0 v .some)) ∙ eq-eqb (holdersIn (entriesIn ls) x) s (listed-holders s v x l))
 
     bytes-list : (s : ℕ) (v : T (isVariable F s)) (x : ℕ) → T (member x (getD ls s [])) → T (I .list s v x)
-    bytes-list s v x l = go (place I x)
+    bytes-list s v x l = go (place (to I) x)
       where
         plain : special x ≡ false
         plain = plain-listed s x l
@@ -181,11 +182,11 @@ module _ (file : List ℕ) (k : ℕ) (bytes work schema out : List ℕ) (m n : �
         moved : (s′ : ℕ) → s′ ≡ s → (v′ : T (isVariable F s′)) → T (I .list s′ v′ x) → T (I .list s v x)
         moved s′ e v′ t = subst (λ (q : ℕ). (w : T (isVariable F q)) → T (I .list q w x)) e (λ w. any-proof (isVariable F s′) (λ w. T (I .list s′ w x)) v′ w t) v
 
-        go : Place I x → T (I .list s v x)
-        go (inSubset h) = absurd (subst T plain h)
+        go : Place (to I) x → T (I .list s v x)
+        go (inState h) = absurd (subst T plain h)
         go (inList s′ v′ t) = moved s′ (sym (listed-holders s′ v′ x t) ∙ held) v′ t
         go (nowhere k none silent) =
-            let nobody = holders-is m A x 0 (pow-pos m) (λ r less. same-test (A r x) (bit 0 r) ((λ t. absurd (none r (has-image r (rw relations less) x .0 t))), (λ t. absurd (subst T (bit-none r) t)))) in
+            let nobody = holders-is m A x 0 (pow-pos m) (λ r less. same-test (A r x) (bit 0 r) ((λ t. absurd (none r true (image-is I r x .0 (has-image r (rw relations less) x .0 t)))), (λ t. absurd (subst T (bit-none r) t)))) in
             let same = sym held ∙ sym (holders-are x plain) ∙ nobody in
             let least = some in
             absurd (omega arith)

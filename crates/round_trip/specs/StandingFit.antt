@@ -15,7 +15,7 @@ use Rattle.refusal.specs.declared.Refusal.the-variants.{TypeVariable, SpecialSu
 use Rattle.expression.specs.declared.files.Acceptance.the-variants.{Accepted}
 use Rattle.expression.specs.Admission.{sliced}
 use Rattle.algebra.specs.Expression.{Expression}
-use Rattle.formulas.specs.Formula.{typeVariable}
+use Rattle.states.specs.Formula.{typeVariable}
 use Rattle.formula.specs.Expressions.{expressionAt}
 use Rattle.formula.specs.Stored.{allowedBit, admitted, formulaSpace}
 use Rattle.formula.specs.StoredLaws.{allowed-below, admitted-passes, admitted-space}

@@ -21,8 +21,8 @@ use Rattle.types.specs.Types.{Attrs, IsType, Assignment}
 use Rattle.algebra.specs.Expression.{Expression, Legal}
 use Rattle.algebra.specs.Rules.{Typed}
 use Rattle.formulas.specs.Formula.{Formula}
-use Rattle.formulas.specs.Truth.{is-true, by-true}
-use Rattle.formulas.specs.Principal.{Blocked, Choice, chosen, chosenType, choice-types, choice-type}
+use Rattle.bits.specs.Truth.{is-true, by-true}
+use Rattle.formulas.specs.Blocked.{Blocked, Choice, chosen, chosenType, choice-types, choice-type}
 use Rattle.principal.specs.Principal as Theorem
 use Rattle.formula.specs.Stored.{allowedBit, outputBit}
 use Rattle.formula.specs.StoredLaws.{allowed-is, allowed-below, output-is}

@@ -7,7 +7,7 @@ use lib.ListN.{getD}
 use Rattle.bits.specs.AllBelow.{allBelow, all-next, not-all}
 use Rattle.formula.specs.Storage.{columnAt}
 use Rattle.membership.specs.Entries.{subsetOf}
-use Rattle.formulas.specs.Formula.{typeVariable}
+use Rattle.states.specs.Formula.{typeVariable}
 use Rattle.column.specs.Column.{allowedIn}
 use borrow.Author.Needs.{needs}
 use Rattle.application.proofs.fitting.entries_allowed.Statement.{statement}

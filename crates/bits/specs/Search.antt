@@ -6,7 +6,7 @@ use mathlib.Core.Logic.{_⊎_, inl, inr}
 use native.Mathlib.Nat.{eq-or-lt-of-le, le-of-suc-le-suc}
 use native.Mathlib.Omega.{arith}
 use lib.Dec.{T}
-use Rattle.formulas.specs.Truth.{decided}
+use Rattle.bits.specs.Truth.{decided}
 
 pub data Below (n : ℕ) (test : ℕ → Bool) : Type 0 where
   found : (s : ℕ) → s < n → T (test s) → Below n test

@@ -1,39 +1,19 @@
--- What the instantiations of a formula are good for: they are the assignments that fit it, each once.
+-- A plain formula without an assignment that fits, and one of special attributes alone that does.
 use Prim.Native.Nat.{ℕ, _<_, _^_}
-use mathlib.Core.Path.{_≡_, refl, sym, ap, fun-ext, _∙_}
-use mathlib.Core.Logic.{_↔_, _⊎_, inl, inr}
+use mathlib.Core.Path.{_≡_, refl, sym, ap, _∙_}
+use mathlib.Core.Logic.{_⊎_, inl, inr}
 use mathlib.Core.Bool.{Bool, true, false, not, _&&_}
 use native.Mathlib.Omega.{arith}
 use lib.Dec.{T, T-not}
-use Rattle.types.specs.Laws.{holders-below}
 use Rattle.bits.specs.Bit.{bit}
+use Rattle.bits.specs.Truth.{is-true, is-false, by-true, by-false, decided, not-not, both, left, right}
+use Rattle.bits.specs.Search.{Below, found, missing, search-below, taken, isFound, found-taken, found-none}
 use Rattle.attribute_set.specs.AttrSet.{special}
 use Rattle.types.specs.Types.{Attrs, IsType, Assignment, IsAssignment, holders}
+use Rattle.types.specs.Laws.{holders-below}
+use Rattle.types.specs.Attributes.{special-bounds, special-type, column-special, column-other}
 use Rattle.formulas.specs.Formula.{Formula, Fits, Grounded}
-use Rattle.formulas.specs.Instantiation.{Instantiation, InImage, HasImage, HasOutput}
-use Rattle.formulas.specs.Truth.{is-true, is-false, by-true, by-false, decided, not-not, both, left, right}
-use Rattle.formulas.specs.Search.{Below, found, missing, search-below, taken, isFound, found-taken, found-none}
-use Rattle.formulas.specs.States.{special-bounds, special-type, column-special, column-other, holders-is, holders-none, fits-at}
-use Rattle.formulas.specs.Members.{place}
-use Rattle.formulas.specs.Instance.{instance, instance-image, instance-output}
-use Rattle.formulas.specs.ImageFits.{fits}
-use Rattle.formulas.specs.ImageOnce.{same-subset, same-list, same-data}
-
--- an assignment that fits is the image of an instantiation, with that output
-pub instantiate : (F : Formula) → Grounded F → (A : Assignment) → IsAssignment (F .relations) A → (t : Attrs) → ((a : ℕ) → Fits F A t a) → (I : Instantiation F) × (HasImage I A × HasOutput I t)
-instantiate F ground A types t fits =
-    (instance F ground A types t fits, (instance-image F ground A types t fits, instance-output F ground A types t fits))
-
--- the image of an instantiation fits, with its output
-pub image-fits : (F : Formula) → Grounded F → (A : Assignment) → IsAssignment (F .relations) A → (t : Attrs) → IsType t → (I : Instantiation F) → HasImage I A → HasOutput I t → (a : ℕ) → Fits F A t a
-image-fits F ground A types t type I image output a = fits F ground A t I image output a (place I a)
-
--- no two instantiations have one image
-pub image-once : (F : Formula) (I J : Instantiation F) → ((r : ℕ) → r < F .relations → (a : ℕ) → InImage I r a ↔ InImage J r a) → I ≡ J
-image-once F I J same =
-    same-data F I J
-    (fun-ext λ i. fun-ext λ h. same-subset F I J same i h)
-    (fun-ext λ s. fun-ext λ v. fun-ext λ a. same-list F I J same s v a)
+use Rattle.formulas.specs.Plain.{holders-is, holders-none, fits-at}
 
 -- a special column that allows nothing
 pub record Blocked (F : Formula) : Type 0 where

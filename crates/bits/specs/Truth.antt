@@ -2,7 +2,7 @@
 use mathlib.Core.Path.{_≡_, refl, sym, subst}
 use mathlib.Core.Bool.{Bool, true, false, not, _&&_}
 use mathlib.Core.Logic.{_↔_, _⊎_, inl, inr}
-use lib.Dec.{T}
+use lib.Dec.{T, T-prop}
 
 pub is-true : (b : Bool) → T b → b ≡ true
 is-true true h = refl
@@ -47,3 +47,7 @@ left false b h = h
 pub right : (a b : Bool) → T (a && b) → T b
 right true b h = h
 right false b h = absurd h
+
+-- what holds with one proof of a test holds with any
+pub any-proof : (b : Bool) (P : T b → Type 0) (h k : T b) → P h → P k
+any-proof b P h k p = subst P (T-prop b h k) p

@@ -1,0 +1,13 @@
+pub mod Digits
+pub mod Coded
+pub mod Formula
+pub mod Instantiation
+pub mod States
+pub mod Members
+pub mod Instance
+pub mod ImageFits
+pub mod ImageOnce
+pub mod Principal
+pub mod Filled
+pub mod Choice
+pub mod Reach

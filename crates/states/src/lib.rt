@@ -1,0 +1,1 @@
+// Formulas and instantiations over any kinds whose values are digits: theory only.
