@@ -1,19 +1,15 @@
 -- A column: "32 bytes say which s are allowed (bit s mod 8 of byte s div 8) and 32 say which put the attribute in the output" (document 01).
-use Prim.Native.Nat.{ℕ, _+_, _-_, _*_, _/_, _%_}
+use Prim.Native.Nat.{ℕ, _+_, _-_, _/_, _%_}
 use mathlib.Core.Bool.{Bool, cond, _&&_}
 use mathlib.Core.List.{List}
 use lib.Dec.{ltb}
 use lib.ListN.{getD}
 use Rattle.bits.specs.Bit.{bit}
-use Rattle.bits.specs.Pack.{pack}
 use Rattle.bits.specs.Tab.{tab}
+use Rattle.planes.specs.Planes.{mapByte}
 use Rattle.column.specs.declared.steps.Unary.{Unary}
 use Rattle.column.specs.declared.steps.Combination.{Combination}
 use Rattle.column.specs.Steps.{unaryAllowed, unaryOutput, combinedAllowed, combinedOutput}
-
--- byte j of the map of a test on subsets
-unfoldable pub mapByte : (ℕ → Bool) → ℕ → ℕ
-mapByte test j = pack 8 (λ i. test (j * 8 + i))
 
 -- the column of two tests on subsets
 unfoldable pub columnOf : (ℕ → Bool) → (ℕ → Bool) → List ℕ

@@ -1,20 +1,22 @@
 -- The bytes that the steps compute are those of the columns' maps.
-use Prim.Native.Nat.{ℕ, _+_, _*_, _/_, _%_, _<_}
-use mathlib.Core.Path.{_≡_, refl, sym, ap₂, _∙_}
+use Prim.Native.Nat.{ℕ, zero, suc, _+_, _*_, _<_}
+use mathlib.Core.Path.{_≡_, refl, sym, ap, ap₂, _∙_}
 use mathlib.Core.Bool.{Bool, _&&_}
 use mathlib.Core.List.{List}
-use native.Mathlib.Nat.{lt-of-le-of-lt}
+use native.Mathlib.Nat.{lt-of-le-of-lt, zero-add}
 use native.Mathlib.Omega.{arith}
 use lib.Bits.{bitAnd, and-le-l}
 use lib.Dec.{ltb}
 use lib.ListN.{getD}
 use Rattle.bits.specs.Bit.{bit, bit-and}
 use Rattle.bits.specs.Pack.{pack, bit-pack, pack-below, pack-same, byte-is}
+use Rattle.planes.specs.Planes.{mapByte, bitIn}
+use Rattle.planes.specs.PlaneLaws.{map-step, map-step2}
+use Rattle.column.specs.declared.steps.Unary.{Unary}
 use Rattle.column.specs.declared.steps.Combination.{Combination}
 use Rattle.column.specs.Tables.{memberByte, subsetByte}
-use Rattle.column.specs.Steps.{combinedAllowed, combinedOutput}
-use Rattle.column.specs.StepLaws.{MadeBy}
-use Rattle.column.specs.Column.{mapByte, allowedIn, outputIn}
+use Rattle.column.specs.Steps.{unaryStep, combinedStep}
+use Rattle.column.specs.StepLaws.{unary-local, combined-local}
 
 -- ---- a relation
 
@@ -29,38 +31,24 @@ relation-output count r j =
     (lt-of-le-of-lt (and-le-l (pack 8 (λ i. ltb (j * 8 + i) count)) (pack 8 (λ i. bit (j * 8 + i) r))) (pack-below 8 (λ i. ltb (j * 8 + i) count)))
     (λ i h. bit-and (pack 8 (λ i. ltb (j * 8 + i) count)) (pack 8 (λ i. bit (j * 8 + i) r)) i ∙ ap₂ _&&_ (bit-pack 8 (λ i. ltb (j * 8 + i) count) i h) (bit-pack 8 (λ i. bit (j * 8 + i) r) i h))
 
--- ---- a step on two or four bits, made at each subset of byte j
+-- ---- a step, made at each subset of byte j
 
-allowed-byte : (column : List ℕ) (j i : ℕ) → i < 8 → allowedIn column (j * 8 + i) ≡ bit (getD column j 0) i
-unfolding allowedIn
-allowed-byte column j i h =
-    let byte : (j * 8 + i) / 8 ≡ j = omega arith in
-    let place : (j * 8 + i) % 8 ≡ i = omega arith in
-    rw (byte, place)
+-- the bits at place i of an allowed byte and of the output byte that goes with it
+abbrev two : ℕ → ℕ → ℕ → ℕ → Bool
+two allowed output i zero = bit allowed i
+two allowed output i (suc p) = bit output i
 
-output-byte : (column : List ℕ) (j i : ℕ) → i < 8 → outputIn column (j * 8 + i) ≡ bit (getD column (32 + j) 0) i
-unfolding outputIn
-output-byte column j i h =
-    let byte : (j * 8 + i) / 8 ≡ j = omega arith in
-    let place : (j * 8 + i) % 8 ≡ i = omega arith in
-    rw (byte, place)
+two-is : (column : List ℕ) (j i q : ℕ) → q < 2 → two (getD column j 0) (getD column (32 + j) 0) i q ≡ bit (getD column (q * 32 + j) 0) i
+two-is column j i zero h = ap (λ (k : ℕ). bit (getD column k 0) i) (sym (zero-add j))
+two-is column j i (suc zero) h = refl
+two-is column j i (suc (suc q)) h = absurd (omega arith)
 
-pub map-step : (step : Bool → Bool → Bool) (column : List ℕ) (j : ℕ) → pack 8 (λ i. step (bit (getD column j 0) i) (bit (getD column (32 + j) 0) i)) ≡ mapByte (λ s. step (allowedIn column s) (outputIn column s)) j
-unfolding mapByte
-map-step step column j =
-    pack-same 8 (λ i. step (bit (getD column j 0) i) (bit (getD column (32 + j) 0) i)) (λ i. step (allowedIn column (j * 8 + i)) (outputIn column (j * 8 + i)))
-    (λ i h. ap₂ step (sym (allowed-byte column j i h)) (sym (output-byte column j i h)))
+pub unary-map : (u : Unary) (column : List ℕ) (j p : ℕ) → pack 8 (λ i. unaryStep u (two (getD column j 0) (getD column (32 + j) 0) i) p) ≡ mapByte (λ s. unaryStep u (bitIn column s) p) j
+unary-map u column j p =
+    pack-same 8 _ (λ i. unaryStep u (λ q. bit (getD column (q * 32 + j) 0) i) p) (λ i h. unary-local u _ _ (two-is column j i) p)
+    ∙ map-step (λ x. unaryStep u x p) column j
 
-map-step2 : (step : Bool → Bool → Bool → Bool → Bool) (left right : List ℕ) (j : ℕ) → pack 8 (λ i. step (bit (getD left j 0) i) (bit (getD left (32 + j) 0) i) (bit (getD right j 0) i) (bit (getD right (32 + j) 0) i)) ≡ mapByte (λ s. step (allowedIn left s) (outputIn left s) (allowedIn right s) (outputIn right s)) j
-unfolding mapByte
-map-step2 step left right j =
-    pack-same 8
-    (λ i. step (bit (getD left j 0) i) (bit (getD left (32 + j) 0) i) (bit (getD right j 0) i) (bit (getD right (32 + j) 0) i))
-    (λ i. step (allowedIn left (j * 8 + i)) (outputIn left (j * 8 + i)) (allowedIn right (j * 8 + i)) (outputIn right (j * 8 + i)))
-    (λ i h. rw (allowed-byte left j i h, output-byte left j i h, allowed-byte right j i h, output-byte right j i h))
-
-pub combined-allowed : (c : Combination) (left right : List ℕ) (j x y : ℕ) → MadeBy c (getD left j 0) (getD left (32 + j) 0) (getD right j 0) (getD right (32 + j) 0) x y → x ≡ mapByte (λ s. combinedAllowed c (allowedIn left s) (outputIn left s) (allowedIn right s) (outputIn right s)) j
-combined-allowed c left right j x y made = made .allowed ∙ map-step2 (combinedAllowed c) left right j
-
-pub combined-output : (c : Combination) (left right : List ℕ) (j x y : ℕ) → MadeBy c (getD left j 0) (getD left (32 + j) 0) (getD right j 0) (getD right (32 + j) 0) x y → y ≡ mapByte (λ s. combinedOutput c (allowedIn left s) (outputIn left s) (allowedIn right s) (outputIn right s)) j
-combined-output c left right j x y made = made .output ∙ map-step2 (combinedOutput c) left right j
+pub combined-map : (c : Combination) (left right : List ℕ) (j p : ℕ) → pack 8 (λ i. combinedStep c (two (getD left j 0) (getD left (32 + j) 0) i) (two (getD right j 0) (getD right (32 + j) 0) i) p) ≡ mapByte (λ s. combinedStep c (bitIn left s) (bitIn right s) p) j
+combined-map c left right j p =
+    pack-same 8 _ (λ i. combinedStep c (λ q. bit (getD left (q * 32 + j) 0) i) (λ q. bit (getD right (q * 32 + j) 0) i) p) (λ i h. combined-local c _ _ _ _ (two-is left j i) (two-is right j i) p)
+    ∙ map-step2 (λ x y. combinedStep c x y p) left right j

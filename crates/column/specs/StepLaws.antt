@@ -1,46 +1,19 @@
--- Whole bytes do what their bits do: the bytes of a step are packed from the step of each bit.
-use Prim.Native.Nat.{ℕ, _-_, _<_}
-use mathlib.Core.Path.{_≡_, refl, sym, ap, ap₂, _∙_}
-use mathlib.Core.Bool.{Bool, false, not, _&&_, _||_}
-use native.Mathlib.Nat.{lt-of-le-of-lt}
-use native.Mathlib.Omega.{arith}
-use lib.Bits.{bitAnd, bitOr, bitXor, and-le-l, or-lt, xor-lt}
-use Rattle.bits.specs.Bit.{bit, differs, bit-and, bit-or, bit-xor, bit-not}
-use Rattle.bits.specs.Pack.{pack, byte-is, byte-same}
+-- What operators make of bytes, bit by bit; and that their steps look at two planes and leave clear bits clear.
+use Prim.Native.Nat.{ℕ, zero, suc, _-_, _<_}
+use mathlib.Core.Path.{_≡_, refl}
+use mathlib.Core.Bool.{Bool, false, not, _&&_, _||_, and-false}
+use lib.Bits.{bitAnd, bitOr, bitXor}
+use lib.Dec.{lit<}
+use Rattle.bits.specs.Bit.{bit, differs}
+use Rattle.bits.specs.Pack.{pack}
+use Rattle.planes.specs.Bytes.{ByteOf, byte-of, own-bits, and-bits, or-bits, xor-bits, not-bits}
+use Rattle.column.specs.declared.steps.Unary.{Unary}
+use Rattle.column.specs.declared.steps.Unary.the-variants.{Kept, Required, Removed, Introduced, Dropped, Contradicted}
 use Rattle.column.specs.declared.steps.Combination.{Combination}
 use Rattle.column.specs.declared.steps.Combination.the-variants.{Agreeing, Merging, Disjoint}
-use Rattle.column.specs.Steps.{combinedAllowed, combinedOutput}
+use Rattle.column.specs.Steps.{combinedAllowed, combinedOutput, unaryStep, combinedStep}
 
--- a byte whose bit i is f i
-pub record ByteOf (x : ℕ) (f : ℕ → Bool) : Type 0 where
-  pub below : x < 256
-  pub bits : (i : ℕ) → i < 8 → bit x i ≡ f i
-
-pub byte-of : {x : ℕ} {f : ℕ → Bool} → ByteOf x f → x ≡ pack 8 f
-byte-of {x} {f} b = byte-is x f (b .below) (b .bits)
-
--- ---- the operations of code on bytes
-
-pub own-bits : (x : ℕ) → x < 256 → ByteOf x (bit x)
-own-bits x h = record { below = h; bits = λ i below. refl }
-
-pub no-bits : 0 ≡ pack 8 (λ i. false)
-no-bits = sym (byte-same false)
-
-module _ {x y : ℕ} {f g : ℕ → Bool} (b : ByteOf x f) (d : ByteOf y g) where
-  pub and-bits : ByteOf (bitAnd x y) (λ i. f i && g i)
-  and-bits = record { below = lt-of-le-of-lt (and-le-l x y) (b .below); bits = λ i h. bit-and x y i ∙ ap₂ _&&_ (b .bits i h) (d .bits i h) }
-
-  pub or-bits : ByteOf (bitOr x y) (λ i. f i || g i)
-  or-bits = record { below = or-lt 8 x y (b .below) (d .below); bits = λ i h. bit-or x y i ∙ ap₂ _||_ (b .bits i h) (d .bits i h) }
-
-  pub xor-bits : ByteOf (bitXor x y) (λ i. differs (f i) (g i))
-  xor-bits = record { below = xor-lt 8 x y (b .below) (d .below); bits = λ i h. bit-xor x y i ∙ ap₂ differs (b .bits i h) (d .bits i h) }
-
-pub not-bits : {x : ℕ} {f : ℕ → Bool} → ByteOf x f → ByteOf (255 - x) (λ i. not (f i))
-not-bits {x} {f} b = record { below = omega arith; bits = λ i h. bit-not x i (b .below) h ∙ ap not (b .bits i h) }
-
--- ---- operators of two operands
+-- ---- the bytes of two operands
 
 -- the bytes that an operator makes of its operands' bytes
 pub record MadeBy (c : Combination) (la lo ra ro x y : ℕ) : Type 0 where
@@ -68,3 +41,45 @@ module _ (la lo ra ro : ℕ) (ha : la < 256) (hl : lo < 256) (hb : ra < 256) (hr
 
   pub made-disjoint : MadeBy Disjoint la lo ra ro (bitAnd (bitAnd la ra) (255 - bitAnd lo ro)) (bitAnd (bitAnd (bitAnd la ra) (255 - bitAnd lo ro)) (bitOr lo ro))
   made-disjoint = record { allowed = byte-of disjoint; output = byte-of (and-bits disjoint either) }
+
+-- ---- steps on planes
+
+-- they look at planes 0 and 1 alone
+pub unary-local : (u : Unary) (x x′ : ℕ → Bool) → ((q : ℕ) → q < 2 → x q ≡ x′ q) → (p : ℕ) → unaryStep u x p ≡ unaryStep u x′ p
+unary-local u x x′ e zero = rw (e 0 (lit< tt), e 1 (lit< tt))
+unary-local u x x′ e (suc p) = rw (e 0 (lit< tt), e 1 (lit< tt))
+
+pub combined-local : (c : Combination) (x x′ y y′ : ℕ → Bool) → ((q : ℕ) → q < 2 → x q ≡ x′ q) → ((q : ℕ) → q < 2 → y q ≡ y′ q) → (p : ℕ) → combinedStep c x y p ≡ combinedStep c x′ y′ p
+combined-local c x x′ y y′ e f zero = rw (e 0 (lit< tt), e 1 (lit< tt), f 0 (lit< tt), f 1 (lit< tt))
+combined-local c x x′ y y′ e f (suc p) = rw (e 0 (lit< tt), e 1 (lit< tt), f 0 (lit< tt), f 1 (lit< tt))
+
+-- where an operand's bits are clear so are the result's
+pub unary-clear : (u : Unary) (p : ℕ) → unaryStep u (λ q. false) p ≡ false
+unary-clear Kept zero = refl
+unary-clear Kept (suc p) = refl
+unary-clear Required zero = refl
+unary-clear Required (suc p) = refl
+unary-clear Removed zero = refl
+unary-clear Removed (suc p) = refl
+unary-clear Introduced zero = refl
+unary-clear Introduced (suc p) = refl
+unary-clear Dropped zero = refl
+unary-clear Dropped (suc p) = refl
+unary-clear Contradicted zero = refl
+unary-clear Contradicted (suc p) = refl
+
+pub left-clear : (c : Combination) (y : ℕ → Bool) (p : ℕ) → combinedStep c (λ q. false) y p ≡ false
+left-clear Agreeing y zero = refl
+left-clear Agreeing y (suc p) = refl
+left-clear Merging y zero = refl
+left-clear Merging y (suc p) = refl
+left-clear Disjoint y zero = refl
+left-clear Disjoint y (suc p) = refl
+
+pub right-clear : (c : Combination) (x : ℕ → Bool) (p : ℕ) → combinedStep c x (λ q. false) p ≡ false
+right-clear Agreeing x zero = rw (and-false (x 0))
+right-clear Agreeing x (suc p) = rw (and-false (x 0))
+right-clear Merging x zero = rw (and-false (x 0))
+right-clear Merging x (suc p) = rw (and-false (x 0))
+right-clear Disjoint x zero = rw (and-false (x 0))
+right-clear Disjoint x (suc p) = rw (and-false (x 0))

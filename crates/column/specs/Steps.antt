@@ -1,4 +1,5 @@
 -- Each operator on one attribute: on the allowed and output bits of its operands.
+use Prim.Native.Nat.{ℕ, zero, suc}
 use mathlib.Core.Bool.{Bool, false, cond, not, _&&_, _||_}
 use Rattle.bits.specs.Bit.{differs}
 use Rattle.node.specs.declared.nodes.BinaryOp.{BinaryOp}
@@ -66,3 +67,13 @@ abbrev pub combinedOutput : Combination → Bool → Bool → Bool → Bool → 
 combinedOutput Agreeing la lo ra ro = combinedAllowed Agreeing la lo ra ro && lo
 combinedOutput Merging la lo ra ro = combinedAllowed Merging la lo ra ro && (lo || ro)
 combinedOutput Disjoint la lo ra ro = combinedAllowed Disjoint la lo ra ro && (lo || ro)
+
+-- ---- as steps on planes: plane 0 is allowed, plane 1 output
+
+abbrev pub unaryStep : Unary → (ℕ → Bool) → ℕ → Bool
+unaryStep u x zero = unaryAllowed u (x 0) (x 1)
+unaryStep u x (suc p) = unaryOutput u (x 0) (x 1)
+
+abbrev pub combinedStep : Combination → (ℕ → Bool) → (ℕ → Bool) → ℕ → Bool
+combinedStep c x y zero = combinedAllowed c (x 0) (x 1) (y 0) (y 1)
+combinedStep c x y (suc p) = combinedOutput c (x 0) (x 1) (y 0) (y 1)

@@ -1,1 +1,1 @@
-// Formulas and instantiations over any kinds whose values are digits: theory only.
+// Formulas and instantiations over any kinds whose values are coded by digits: definitions and theorems only.

@@ -1,22 +1,23 @@
 use Prim.Native.Nat.{_-_, _≤_}
-use mathlib.Core.Path.{_≡_, refl}
+use mathlib.Core.Path.{refl, sym, _∙_}
 use native.Mathlib.Omega.{arith}
-use Rattle.column.specs.Steps.{combinedAllowed, combinedOutput}
-use Rattle.column.specs.Column.{allowedIn, outputIn, combinedColumn}
-use Rattle.column.specs.ColumnLaws.{Filling, filling-none, filling-more, filling-done}
-use Rattle.column.specs.ColumnBytes.{combined-allowed, combined-output}
+use Rattle.planes.specs.Planes.{bitIn, steppedColumn2}
+use Rattle.planes.specs.PlaneLaws.{Filling, filling-none}
+use Rattle.column.specs.Steps.{combinedStep}
+use Rattle.column.specs.ColumnLaws.{plain-combined, filling-both, filling-end}
+use Rattle.column.specs.ColumnBytes.{combined-map}
 use borrow.Author.Needs.{needs}
 use Rattle.column.proofs.columns.combined_column.Statement.{statement}
 use Rattle.column.proofs.columns.combined_column.Tie as tie
 
 abbrev Inv-loop : tie.InvT-loop
-Inv-loop c left right column₀ j₀ column j = (j ≤ 32) × Filling (λ s. combinedAllowed c (allowedIn left s) (outputIn left s) (allowedIn right s) (outputIn right s)) (λ s. combinedOutput c (allowedIn left s) (outputIn left s) (allowedIn right s) (outputIn right s)) j column
+Inv-loop c left right column₀ j₀ column j = (j ≤ 32) × Filling 2 (λ p s. combinedStep c (bitIn left s) (bitIn right s) p) j 0 column
 
 abbrev μ-loop : tie.MeasureT-loop
 μ-loop c left right column₀ j₀ column j = 32 - j
 
 loop-holds : tie.Need-loop-holds Inv-loop μ-loop
-loop-holds c = (omega arith, filling-none (λ s. combinedAllowed (c .args .c) (allowedIn (c .args .t2) s) (outputIn (c .args .t2) s) (allowedIn (c .args .t3) s) (outputIn (c .args .t3) s)) (λ s. combinedOutput (c .args .c) (allowedIn (c .args .t2) s) (outputIn (c .args .t2) s) (allowedIn (c .args .t3) s) (outputIn (c .args .t3) s)) _ refl)
+loop-holds c = (omega arith, filling-none 2 _ _ refl)
 
 array-read-t14 : tie.Need-array-read-t14 Inv-loop μ-loop
 array-read-t14 c = search needs
@@ -55,11 +56,16 @@ loop-less : tie.Need-loop-less Inv-loop μ-loop
 loop-less c = search needs
 
 loop-again : tie.Need-loop-again Inv-loop μ-loop
-loop-again c = (omega arith, filling-more (λ s. combinedAllowed (c .before .before .before .args .c) (allowedIn (c .before .before .before .args .t2) s) (outputIn (c .before .before .before .args .t2) s) (allowedIn (c .before .before .before .args .t3) s) (outputIn (c .before .before .before .args .t3) s)) (λ s. combinedOutput (c .before .before .before .args .c) (allowedIn (c .before .before .before .args .t2) s) (outputIn (c .before .before .before .args .t2) s) (allowedIn (c .before .before .before .args .t3) s) (outputIn (c .before .before .before .args .t3) s)) (c .before .before .loop .j) (c .before .before .loop .column) _ _ (c .before .loop-test .taken) (c .before .before .loop .inv .1) (combined-allowed (c .before .before .before .args .c) (c .before .before .before .args .t2) (c .before .before .before .args .t3) (c .before .before .loop .j) _ _ (c .combined-bytes .ensures)) (combined-output (c .before .before .before .args .c) (c .before .before .before .args .t2) (c .before .before .before .args .t3) (c .before .before .loop .j) _ _ (c .combined-bytes .ensures)))
+loop-again c =
+    let args = c .before .before .before .args in
+    let loop = c .before .before .loop in
+    let made = c .combined-bytes .ensures in
+    let map = combined-map (args .c) (args .t2) (args .t3) (loop .j) in
+    (omega arith, filling-both _ (loop .j) (loop .column) _ _ (c .before .loop-test .taken) (made .allowed ∙ map 0) (made .output ∙ map 1) (loop .inv .1))
 
 returns : tie.Need-returns Inv-loop μ-loop
-unfolding combinedColumn
-returns c = let all : c .before .loop .j ≡ 32 = omega arith in filling-done (λ s. combinedAllowed (c .before .before .args .c) (allowedIn (c .before .before .args .t2) s) (outputIn (c .before .before .args .t2) s) (allowedIn (c .before .before .args .t3) s) (outputIn (c .before .before .args .t3) s)) (λ s. combinedOutput (c .before .before .args .c) (allowedIn (c .before .before .args .t2) s) (outputIn (c .before .before .args .t2) s) (allowedIn (c .before .before .args .t3) s) (outputIn (c .before .before .args .t3) s)) (c .before .loop .column) (rw all at (c .before .loop .inv .1))
+unfolding steppedColumn2
+returns c = filling-end _ _ _ (omega arith) (c .before .loop .inv .1) ∙ sym (plain-combined (c .before .before .args .c) (c .before .before .args .t2) (c .before .before .args .t3))
 
 pub combined-column-spec : {M : Type 1} → statement M
 combined-column-spec =

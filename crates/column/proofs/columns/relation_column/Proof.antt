@@ -1,5 +1,5 @@
 use Prim.Native.Nat.{ℕ, _-_, _≤_}
-use mathlib.Core.Path.{_≡_, refl, ap, ap₂, _∙_}
+use mathlib.Core.Path.{_≡_, refl, sym, ap, ap₂, _∙_}
 use mathlib.Core.Bool.{_&&_}
 use mathlib.Core.List.{List}
 use native.Mathlib.Omega.{arith}
@@ -9,15 +9,15 @@ use lib.ListN.{getD}
 use Rattle.bits.specs.Bit.{bit}
 use Rattle.bits.specs.Tab.{tab, getD-tab}
 use Rattle.column.specs.Tables.{memberByte}
-use Rattle.column.specs.Column.{relationColumn}
-use Rattle.column.specs.ColumnLaws.{Filling, filling-none, filling-more, filling-done}
+use Rattle.planes.specs.PlaneLaws.{Filling, filling-none}
+use Rattle.column.specs.ColumnLaws.{pair, plain-relation, filling-both, filling-end}
 use Rattle.column.specs.ColumnBytes.{relation-allowed, relation-output}
 use borrow.Author.Needs.{needs}
 use Rattle.column.proofs.columns.relation_column.Statement.{statement}
 use Rattle.column.proofs.columns.relation_column.Tie as tie
 
 abbrev Inv-loop : tie.InvT-loop
-Inv-loop count r members column₀ j₀ column j = (j ≤ 32) × Filling (λ s. ltb s count) (λ s. ltb s count && bit s r) j column × (members ≡ tab 32 (memberByte r))
+Inv-loop count r members column₀ j₀ column j = (j ≤ 32) × Filling 2 (pair (λ s. ltb s count) (λ s. ltb s count && bit s r)) j 0 column × (members ≡ tab 32 (memberByte r))
 
 abbrev μ-loop : tie.MeasureT-loop
 μ-loop count r members column₀ j₀ column j = 32 - j
@@ -26,7 +26,7 @@ member-map-requires : tie.Need-member-map-requires Inv-loop μ-loop
 member-map-requires c κs = search needs
 
 loop-holds : tie.Need-loop-holds Inv-loop μ-loop
-loop-holds c = (omega arith, filling-none (λ s. ltb s (c .before .args .count)) (λ s. ltb s (c .before .args .count) && bit s (c .before .args .r)) _ refl, c .member-map .ensures)
+loop-holds c = (omega arith, filling-none 2 _ _ refl, c .member-map .ensures)
 
 cast-i : tie.Need-cast-i Inv-loop μ-loop
 cast-i c = search needs
@@ -54,17 +54,17 @@ loop-less c = search needs
 
 loop-again : tie.Need-loop-again Inv-loop μ-loop
 loop-again c =
-    let members = ap (λ (l : List ℕ). getD l (c .before .before .loop .j) 0) (c .before .before .loop .inv .2) ∙ getD-tab 32 (memberByte (c .before .before .before .before .args .r)) (c .before .before .loop .j) 0 (c .before .loop-test .taken) in (
+    let args = c .before .before .before .before .args in
+    let loop = c .before .before .loop in
+    let byte = c .subset-byte .ensures in
+    let member = ap (λ (l : List ℕ). getD l (loop .j) 0) (loop .inv .2) ∙ getD-tab 32 (memberByte (args .r)) (loop .j) 0 (c .before .loop-test .taken) in (
       omega arith,
-      filling-more (λ s. ltb s (c .before .before .before .before .args .count)) (λ s. ltb s (c .before .before .before .before .args .count) && bit s (c .before .before .before .before .args .r)) (c .before .before .loop .j) (c .before .before .loop .column) _ _ (c .before .loop-test .taken) (c .before .before .loop .inv .1)
-          (c .subset-byte .ensures ∙ relation-allowed (c .before .before .before .before .args .count) (c .before .before .loop .j))
-          (ap₂ bitAnd (c .subset-byte .ensures) members ∙ relation-output (c .before .before .before .before .args .count) (c .before .before .before .before .args .r) (c .before .before .loop .j)),
-      c .before .before .loop .inv .2,
+      filling-both _ (loop .j) (loop .column) _ _ (c .before .loop-test .taken) (byte ∙ relation-allowed (args .count) (loop .j)) (ap₂ bitAnd byte member ∙ relation-output (args .count) (args .r) (loop .j)) (loop .inv .1),
+      loop .inv .2,
     )
 
 returns : tie.Need-returns Inv-loop μ-loop
-unfolding relationColumn
-returns c = let all : c .before .loop .j ≡ 32 = omega arith in filling-done (λ s. ltb s (c .before .before .before .args .count)) (λ s. ltb s (c .before .before .before .args .count) && bit s (c .before .before .before .args .r)) (c .before .loop .column) (rw all at (c .before .loop .inv .1))
+returns c = filling-end _ _ _ (omega arith) (c .before .loop .inv .1) ∙ sym (plain-relation (c .before .before .before .args .count) (c .before .before .before .args .r))
 
 pub relation-column-spec : {M : Type 1} → statement M
 relation-column-spec =

@@ -1,22 +1,23 @@
 use Prim.Native.Nat.{_-_, _≤_}
-use mathlib.Core.Path.{_≡_, refl, _∙_}
+use mathlib.Core.Path.{refl, sym, _∙_}
 use native.Mathlib.Omega.{arith}
-use Rattle.column.specs.Steps.{unaryAllowed, unaryOutput}
-use Rattle.column.specs.Column.{allowedIn, outputIn, unaryColumn}
-use Rattle.column.specs.ColumnLaws.{Filling, filling-none, filling-more, filling-done}
-use Rattle.column.specs.ColumnBytes.{map-step}
+use Rattle.planes.specs.Planes.{bitIn, steppedColumn}
+use Rattle.planes.specs.PlaneLaws.{Filling, filling-none}
+use Rattle.column.specs.Steps.{unaryStep}
+use Rattle.column.specs.ColumnLaws.{plain-unary, filling-both, filling-end}
+use Rattle.column.specs.ColumnBytes.{unary-map}
 use borrow.Author.Needs.{needs}
 use Rattle.column.proofs.columns.unary_column.Statement.{statement}
 use Rattle.column.proofs.columns.unary_column.Tie as tie
 
 abbrev Inv-loop : tie.InvT-loop
-Inv-loop u operand column₀ j₀ column j = (j ≤ 32) × Filling (λ s. unaryAllowed u (allowedIn operand s) (outputIn operand s)) (λ s. unaryOutput u (allowedIn operand s) (outputIn operand s)) j column
+Inv-loop u operand column₀ j₀ column j = (j ≤ 32) × Filling 2 (λ p s. unaryStep u (bitIn operand s) p) j 0 column
 
 abbrev μ-loop : tie.MeasureT-loop
 μ-loop u operand column₀ j₀ column j = 32 - j
 
 loop-holds : tie.Need-loop-holds Inv-loop μ-loop
-loop-holds c = (omega arith, filling-none (λ s. unaryAllowed (c .args .u) (allowedIn (c .args .t2) s) (outputIn (c .args .t2) s)) (λ s. unaryOutput (c .args .u) (allowedIn (c .args .t2) s) (outputIn (c .args .t2) s)) _ refl)
+loop-holds c = (omega arith, filling-none 2 _ _ refl)
 
 array-read-unary-bytes : tie.Need-array-read-unary-bytes Inv-loop μ-loop
 array-read-unary-bytes c = search needs
@@ -46,11 +47,16 @@ loop-less : tie.Need-loop-less Inv-loop μ-loop
 loop-less c = search needs
 
 loop-again : tie.Need-loop-again Inv-loop μ-loop
-loop-again c = (omega arith, filling-more (λ s. unaryAllowed (c .before .before .before .args .u) (allowedIn (c .before .before .before .args .t2) s) (outputIn (c .before .before .before .args .t2) s)) (λ s. unaryOutput (c .before .before .before .args .u) (allowedIn (c .before .before .before .args .t2) s) (outputIn (c .before .before .before .args .t2) s)) (c .before .before .loop .j) (c .before .before .loop .column) _ _ (c .before .loop-test .taken) (c .before .before .loop .inv .1) (c .unary-bytes .ensures .0 ∙ map-step (unaryAllowed (c .before .before .before .args .u)) (c .before .before .before .args .t2) (c .before .before .loop .j)) (c .unary-bytes .ensures .1 ∙ map-step (unaryOutput (c .before .before .before .args .u)) (c .before .before .before .args .t2) (c .before .before .loop .j)))
+loop-again c =
+    let args = c .before .before .before .args in
+    let loop = c .before .before .loop in
+    let bytes = c .unary-bytes .ensures in
+    let map = unary-map (args .u) (args .t2) (loop .j) in
+    (omega arith, filling-both _ (loop .j) (loop .column) _ _ (c .before .loop-test .taken) (bytes .0 ∙ map 0) (bytes .1 ∙ map 1) (loop .inv .1))
 
 returns : tie.Need-returns Inv-loop μ-loop
-unfolding unaryColumn
-returns c = let all : c .before .loop .j ≡ 32 = omega arith in filling-done (λ s. unaryAllowed (c .before .before .args .u) (allowedIn (c .before .before .args .t2) s) (outputIn (c .before .before .args .t2) s)) (λ s. unaryOutput (c .before .before .args .u) (allowedIn (c .before .before .args .t2) s) (outputIn (c .before .before .args .t2) s)) (c .before .loop .column) (rw all at (c .before .loop .inv .1))
+unfolding steppedColumn
+returns c = filling-end _ _ _ (omega arith) (c .before .loop .inv .1) ∙ sym (plain-unary (c .before .before .args .u) (c .before .before .args .t2))
 
 pub unary-column-spec : {M : Type 1} → statement M
 unary-column-spec =

@@ -1,5 +1,5 @@
 use borrow.Author.Needs.{needs}
-use Rattle.column.specs.StepLaws.{byte-of, own-bits, no-bits, and-bits, not-bits}
+use Rattle.planes.specs.Bytes.{byte-of, own-bits, no-bits, and-bits, not-bits}
 use Rattle.column.proofs.steps.unary_bytes.Statement.{statement}
 use Rattle.column.proofs.steps.unary_bytes.Tie as tie
 
