@@ -1,22 +1,27 @@
 -- The column of a node, from the columns of its operands; and that it is the column of the node's cells.
-use Prim.Native.Nat.{ℕ, _^_, _<_}
-use mathlib.Core.Path.{_≡_, refl, _∙_}
-use mathlib.Core.Bool.{Bool, not, _&&_}
+use Prim.Native.Nat.{ℕ, zero, suc, _^_, _<_}
+use mathlib.Core.Path.{_≡_, refl, sym, ap, ap₂, fun-ext, _∙_}
+use mathlib.Core.Bool.{Bool, true, false, cond, not, _&&_, and-true}
 use mathlib.Core.List.{List}
+use native.Mathlib.Omega.{arith}
 use lib.Dec.{eqb, ltb}
 use Rattle.bits.specs.Bit.{bit}
 use Rattle.attribute_set.specs.AttrSet.{hasAttribute}
 use Rattle.algebra.specs.Expression.{Expression, relation, binary, withSet, renaming, projectingOut}
 use Rattle.algebra.specs.Cell.{plain, out, ok}
+use Rattle.states.specs.Coded.{plainCode, valueAt, plain-value, bit-back}
+use Rattle.planes.specs.Planes.{planesOf, steppedColumn, steppedColumn2}
+use Rattle.planes.specs.PlaneLaws.{planes-same}
+use Rattle.planes.specs.Steps.{UnaryStep, planeBit, cellBits, cellColumn as planesColumn, relation-cells as planes-relation, binary-cells as planes-binary, unary-cells as planes-unary}
 use Rattle.node.specs.declared.nodes.BinaryOp.{BinaryOp}
 use Rattle.node.specs.declared.nodes.Node.{Node}
 use Rattle.node.specs.declared.nodes.Node.the-variants.{Relation, Binary, WithSet, Renaming, ProjectingOut}
 use Rattle.node.specs.Legal.{LegalNode}
 use Rattle.column.specs.declared.steps.Unary.{Unary}
-use Rattle.column.specs.Steps.{setStep, renamingStep, projectingOutStep, combinationOf}
-use Rattle.formula.specs.StepCells.{StepIs, set-is, renaming-is, projecting-out-is, unary-bits, binary-bits, relation-bit, named-is}
+use Rattle.column.specs.Steps.{setStep, renamingStep, projectingOutStep, combinationOf, unaryStep, combinedStep}
 use Rattle.column.specs.Column.{columnOf, allowedIn, outputIn, relationColumn, unaryColumn, combinedColumn}
-use Rattle.column.specs.ColumnLaws.{allowed-in, output-in, relation-is, unary-is, combined-is}
+use Rattle.column.specs.ColumnLaws.{pair, plain-column, plain-relation, plain-unary, plain-combined, allowed-in, output-in}
+use Rattle.formula.specs.StepCells.{binary-step, set-step, renaming-step, projecting-out-step, named-is}
 use Rattle.formula.specs.Expressions.{operatorOf, setOperatorOf, named, ofNode}
 use Rattle.formula.specs.Storage.{columnAt}
 use Rattle.formula.specs.Stored.{allowedBit, outputBit, cellColumn}
@@ -44,32 +49,41 @@ pub cell-output : (m : ℕ) (e : Expression) (c s : ℕ) → s < 256 → outputI
 unfolding cellColumn
 cell-output m e c s h = output-in (allowedBit m e c) (outputBit m e c) s h
 
-relation-cells : (m r c : ℕ) → relationColumn (2 ^ m) r ≡ cellColumn m (relation r) c
-unfolding cellColumn allowedBit outputBit
-relation-cells m r c =
-    relation-is (allowedBit m (relation r) c) (outputBit m (relation r) c) (2 ^ m) r
-    (λ s h. relation-bit (ltb s (2 ^ m)) (bit s r) .0)
-    (λ s h. relation-bit (ltb s (2 ^ m)) (bit s r) .1)
+-- ---- as columns of two planes
 
-cells-are : (m : ℕ) (e : Expression) (c : ℕ) → columnOf (allowedBit m e c) (outputBit m e c) ≡ cellColumn m e c
-unfolding cellColumn
-cells-are m e c = refl
+values : (s : ℕ) → bit s ≡ valueAt plainCode s
+values s = fun-ext λ r. sym (plain-value s r)
+
+cells-are : (m : ℕ) (e : Expression) (c : ℕ) → cellColumn m e c ≡ planesColumn plainCode m e c
+unfolding cellColumn allowedBit outputBit planesColumn cellBits
+cells-are m e c = plain-column _ _ ∙ planes-same 2 _ _ at
+  where
+    at : (p s : ℕ) → p < 2 → s < 256 → pair (λ s. ltb s (2 ^ m) && ok plain e c (bit s)) (λ s. ltb s (2 ^ m) && ok plain e c (bit s) && out plain e c (bit s)) p s ≡ (ltb s (2 ^ m) && ok plain e c (valueAt plainCode s) && planeBit plainCode (out plain e c (valueAt plainCode s)) p)
+    at zero s hp hs = rw (values s) (sym (and-true (ltb s (2 ^ m) && ok plain e c (valueAt plainCode s))))
+    at (suc zero) s hp hs = rw (values s) (ap (λ (b : Bool). ltb s (2 ^ m) && ok plain e c (valueAt plainCode s) && b) (sym (bit-back (out plain e c (valueAt plainCode s)))))
+    at (suc (suc p)) s hp hs = absurd (omega arith)
+
+relation-cells : (m r c : ℕ) → relationColumn (2 ^ m) r ≡ cellColumn m (relation r) c
+relation-cells m r c = plain-relation (2 ^ m) r ∙ planes-same 2 _ _ at ∙ planes-relation plainCode m c r ∙ sym (cells-are m (relation r) c)
+  where
+    at : (p s : ℕ) → p < 2 → s < 256 → pair (λ s. ltb s (2 ^ m)) (λ s. ltb s (2 ^ m) && bit s r) p s ≡ (ltb s (2 ^ m) && planeBit plainCode (valueAt plainCode s r) p)
+    at zero s hp hs = sym (and-true (ltb s (2 ^ m)))
+    at (suc zero) s hp hs = ap (λ (b : Bool). ltb s (2 ^ m) && b) (sym (plain-value s r) ∙ sym (bit-back (valueAt plainCode s r)))
+    at (suc (suc p)) s hp hs = absurd (omega arith)
 
 binary-cells : (m : ℕ) (op : BinaryOp) (e f : Expression) (c : ℕ) → combinedColumn (combinationOf op) (cellColumn m e c) (cellColumn m f c) ≡ cellColumn m (binary (operatorOf op) e f) c
-unfolding allowedBit outputBit
 binary-cells m op e f c =
-    combined-is (allowedBit m (binary (operatorOf op) e f) c) (outputBit m (binary (operatorOf op) e f) c) (combinationOf op) (cellColumn m e c) (cellColumn m f c)
-    (λ s h. rw (cell-allowed m e c s h, cell-output m e c s h, cell-allowed m f c s h, cell-output m f c s h) (binary-bits op (ltb s (2 ^ m)) (ok plain e c (bit s)) (out plain e c (bit s)) (ok plain f c (bit s)) (out plain f c (bit s)) .0))
-    (λ s h. rw (cell-allowed m e c s h, cell-output m e c s h, cell-allowed m f c s h, cell-output m f c s h) (binary-bits op (ltb s (2 ^ m)) (ok plain e c (bit s)) (out plain e c (bit s)) (ok plain f c (bit s)) (out plain f c (bit s)) .1))
-    ∙ cells-are m (binary (operatorOf op) e f) c
+    plain-combined (combinationOf op) (cellColumn m e c) (cellColumn m f c)
+    ∙ ap₂ (steppedColumn2 2 (combinedStep (combinationOf op))) (cells-are m e c) (cells-are m f c)
+    ∙ planes-binary plainCode m c e f (operatorOf op) (combinedStep (combinationOf op)) (binary-step op)
+    ∙ sym (cells-are m (binary (operatorOf op) e f) c)
 
-unary-cells : (m : ℕ) (e g : Expression) (c : ℕ) (u : Unary) (broken given : Bool → Bool) → StepIs u broken given → ((held : ℕ → Bool) → ok plain g c held ≡ ok plain e c held && not (broken (out plain e c held))) → ((held : ℕ → Bool) → out plain g c held ≡ given (out plain e c held)) → unaryColumn u (cellColumn m e c) ≡ cellColumn m g c
-unfolding allowedBit outputBit
+unary-cells : (m : ℕ) (e g : Expression) (c : ℕ) (u : Unary) (broken given : Bool → Bool) → UnaryStep plainCode broken given (unaryStep u) → ((held : ℕ → Bool) → ok plain g c held ≡ ok plain e c held && not (broken (out plain e c held))) → ((held : ℕ → Bool) → out plain g c held ≡ given (out plain e c held)) → unaryColumn u (cellColumn m e c) ≡ cellColumn m g c
 unary-cells m e g c u broken given step isOk isOut =
-    unary-is (allowedBit m g c) (outputBit m g c) u (cellColumn m e c)
-    (λ s h. rw (cell-allowed m e c s h, cell-output m e c s h, isOk (bit s)) (unary-bits u broken given step (ltb s (2 ^ m)) (ok plain e c (bit s)) (out plain e c (bit s)) .0))
-    (λ s h. rw (cell-allowed m e c s h, cell-output m e c s h, isOk (bit s), isOut (bit s)) (unary-bits u broken given step (ltb s (2 ^ m)) (ok plain e c (bit s)) (out plain e c (bit s)) .1))
-    ∙ cells-are m g c
+    plain-unary u (cellColumn m e c)
+    ∙ ap (steppedColumn 2 (unaryStep u)) (cells-are m e c)
+    ∙ planes-unary plainCode m c e g broken given (unaryStep u) step isOk isOut
+    ∙ sym (cells-are m g c)
 
 -- over operands' columns of cells, a node's column is that of its cells
 pub node-cells : (m k c : ℕ) (node : Node) (operand : ℕ → List ℕ) (e : ℕ → Expression) → c < 16 → LegalNode m k node → ((l : ℕ) → l < k → operand l ≡ cellColumn m (e l) c) → nodeColumn (2 ^ m) node c operand ≡ cellColumn m (ofNode node e) c
@@ -77,10 +91,10 @@ node-cells m k c (Relation r) operand e h legal same = relation-cells m r c
 node-cells m k c (Binary op l r) operand e h legal same = rw (same l (legal .0), same r (legal .1)) (binary-cells m op (e l) (e r) c)
 node-cells m k c (WithSet op l s) operand e h legal same =
     rw (same l (legal .0), ← named-is s c (legal .1) h)
-    (unary-cells m (e l) (withSet (setOperatorOf op) (named s) (e l)) c (setStep op (named s c)) _ _ (set-is op (named s c)) (λ held. refl) (λ held. refl))
+    (unary-cells m (e l) (withSet (setOperatorOf op) (named s) (e l)) c (setStep op (named s c)) _ _ (set-step op (named s c)) (λ held. refl) (λ held. refl))
 node-cells m k c (Renaming l old new) operand e h legal same =
     rw (same l (legal .0))
-    (unary-cells m (e l) (renaming old new (e l)) c (renamingStep (eqb c old) (eqb c new)) _ _ (renaming-is (eqb c old) (eqb c new)) (λ held. refl) (λ held. refl))
+    (unary-cells m (e l) (renaming old new (e l)) c (renamingStep (eqb c old) (eqb c new)) _ _ (renaming-step (eqb c old) (eqb c new)) (λ held. refl) (λ held. refl))
 node-cells m k c (ProjectingOut l old) operand e h legal same =
     rw (same l (legal .0))
-    (unary-cells m (e l) (projectingOut old (e l)) c (projectingOutStep (eqb c old)) _ _ (projecting-out-is (eqb c old)) (λ held. refl) (λ held. refl))
+    (unary-cells m (e l) (projectingOut old (e l)) c (projectingOutStep (eqb c old)) _ _ (projecting-out-step (eqb c old)) (λ held. refl) (λ held. refl))

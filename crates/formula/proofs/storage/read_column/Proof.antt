@@ -3,7 +3,7 @@ use mathlib.Core.Path.{_≡_, refl}
 use native.Mathlib.Omega.{arith}
 use lib.ListN.{length, getD, length-set}
 use Rattle.formula.specs.Storage.{columnAt}
-use Rattle.formula.specs.StorageLaws.{copied-more, copied-done}
+use Rattle.planes.specs.Storage.{copied-more, copied-done}
 use borrow.Author.Needs.{needs}
 use Rattle.formula.proofs.storage.read_column.Statement.{statement}
 use Rattle.formula.proofs.storage.read_column.Tie as tie
