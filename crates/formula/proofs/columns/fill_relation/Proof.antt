@@ -6,7 +6,7 @@ use native.Mathlib.Omega.{arith}
 use borrow.Rule.Slice.PartMut.{mid-len}
 use lib.ListN.{length}
 use mathlib.Core.Path.{refl}
-use Rattle.formula.specs.Columns.{Columns, columns-none, columns-more}
+use Rattle.formula.specs.Columns.{Columns, columns-none, column-made}
 use borrow.Author.Needs.{needs}
 use Rattle.formula.proofs.columns.fill_relation.Statement.{statement}
 use Rattle.formula.proofs.columns.fill_relation.Tie as tie
@@ -52,10 +52,7 @@ loop-less c = search needs
 
 loop-again : tie.Need-loop-again Inv-loop μ-loop
 loop-again c =
-    let size = c .before .before .before .before .before .loop .inv .1 .size in
-    let fits = c .before .before .before .before .before .before .before .pre in
-    let taken = c .before .before .before .before .loop-test .taken in
-    (omega arith, columns-more (column (c .before .before .before .before .before .before .before .args .own)) (c .before .before .before .before .before .before .before .args .k * 1024) (c .before .before .before .before .before .before .before .args .work .now) (c .before .before .before .before .before .loop .c) (c .before .before .before .before .before .loop .work) (c .before .before .before .before .before .before .before .args .own) _ (c .before .before .before .before .loop-test .taken) (omega arith) (search needs) (refl) (c .before .before .write-column .ensures) (c .before .before .before .before .before .loop .inv .1))
+    (omega arith, column-made (c .before .before .before .before .before .before .before .pre) (c .before .before .before .before .loop-test .taken) (search needs) (λ earlier. refl) (c .before .before .write-column .ensures) (c .before .before .before .before .before .loop .inv .1))
 
 same-length : tie.Need-same-length Inv-loop μ-loop
 same-length c = c .before .loop .inv .1 .size

@@ -8,7 +8,7 @@ use lib.ListN.{length}
 use Rattle.column.specs.declared.steps.Combination.the-variants.{Agreeing}
 use Rattle.column.specs.Column.{combinedColumn}
 use Rattle.formula.specs.Storage.{columnAt}
-use Rattle.formula.specs.Columns.{Columns, columns-none, columns-more, columns-before}
+use Rattle.formula.specs.Columns.{Columns, columns-none, column-made}
 use borrow.Author.Needs.{needs}
 use Rattle.formula.proofs.columns.fill_union.Statement.{statement}
 use Rattle.formula.proofs.columns.fill_union.Tie as tie
@@ -73,14 +73,11 @@ loop-less c = search needs
 
 loop-again : tie.Need-loop-again Inv-loop μ-loop
 loop-again c =
-    let size = c .before .before .before .before .before .before .before .before .before .before .loop .inv .1 .size in
-    let fits = c .before .before .before .before .before .before .before .before .before .before .before .before .pre .0 in
-    let below0 = c .before .before .before .before .before .before .before .before .before .before .before .before .pre .1 .0 in
-    let below1 = c .before .before .before .before .before .before .before .before .before .before .before .before .pre .1 .1 in
-    let taken = c .before .before .before .before .before .before .before .before .before .loop-test .taken in
-    let operand0 = c .before .before .before .before .before .before .before .read-column .ensures ∙ columns-before (column (c .before .before .before .before .before .before .before .before .before .before .before .before .args .l) (c .before .before .before .before .before .before .before .before .before .before .before .before .args .r) (c .before .before .before .before .before .before .before .before .before .before .before .before .args .work .now)) (c .before .before .before .before .before .before .before .before .before .before .before .before .args .k * 1024) (c .before .before .before .before .before .before .before .before .before .before .before .before .args .work .now) (c .before .before .before .before .before .before .before .before .before .before .loop .c) (c .before .before .before .before .before .before .before .before .before .before .before .before .args .l) (c .before .before .before .before .before .before .before .before .before .before .loop .c) (c .before .before .before .before .before .before .before .before .before .before .loop .work) (omega arith) (omega arith) (c .before .before .before .before .before .before .before .before .before .loop-test .taken) (c .before .before .before .before .before .before .before .before .before .before .loop .inv .1) in
-    let operand1 = c .before .before .before .before .before .read-column2 .ensures ∙ columns-before (column (c .before .before .before .before .before .before .before .before .before .before .before .before .args .l) (c .before .before .before .before .before .before .before .before .before .before .before .before .args .r) (c .before .before .before .before .before .before .before .before .before .before .before .before .args .work .now)) (c .before .before .before .before .before .before .before .before .before .before .before .before .args .k * 1024) (c .before .before .before .before .before .before .before .before .before .before .before .before .args .work .now) (c .before .before .before .before .before .before .before .before .before .before .loop .c) (c .before .before .before .before .before .before .before .before .before .before .before .before .args .r) (c .before .before .before .before .before .before .before .before .before .before .loop .c) (c .before .before .before .before .before .before .before .before .before .before .loop .work) (omega arith) (omega arith) (c .before .before .before .before .before .before .before .before .before .loop-test .taken) (c .before .before .before .before .before .before .before .before .before .before .loop .inv .1) in
-    (omega arith, columns-more (column (c .before .before .before .before .before .before .before .before .before .before .before .before .args .l) (c .before .before .before .before .before .before .before .before .before .before .before .before .args .r) (c .before .before .before .before .before .before .before .before .before .before .before .before .args .work .now)) (c .before .before .before .before .before .before .before .before .before .before .before .before .args .k * 1024) (c .before .before .before .before .before .before .before .before .before .before .before .before .args .work .now) (c .before .before .before .before .before .before .before .before .before .before .loop .c) (c .before .before .before .before .before .before .before .before .before .before .loop .work) (c .before .before .before .before .combined-column .result) _ (c .before .before .before .before .before .before .before .before .before .loop-test .taken) (omega arith) (search needs) (c .before .before .before .before .combined-column .ensures ∙ ap₂ (combinedColumn Agreeing) operand0 operand1) (c .before .before .write-column .ensures) (c .before .before .before .before .before .before .before .before .before .before .loop .inv .1))
+    let below = c .before .before .before .before .before .before .before .before .before .before .before .before .pre .1 in
+    (omega arith,
+    column-made (c .before .before .before .before .before .before .before .before .before .before .before .before .pre .0) (c .before .before .before .before .before .before .before .before .before .loop-test .taken) (search needs)
+    (λ earlier. c .before .before .before .before .combined-column .ensures ∙ ap₂ (combinedColumn Agreeing) (c .before .before .before .before .before .before .before .read-column .ensures ∙ earlier _ (below .0)) (c .before .before .before .before .before .read-column2 .ensures ∙ earlier _ (below .1)))
+    (c .before .before .write-column .ensures) (c .before .before .before .before .before .before .before .before .before .before .loop .inv .1))
 
 same-length : tie.Need-same-length Inv-loop μ-loop
 same-length c = c .before .loop .inv .1 .size
