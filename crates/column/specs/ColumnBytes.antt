@@ -11,7 +11,7 @@ use lib.ListN.{getD}
 use Rattle.bits.specs.Bit.{bit, bit-and}
 use Rattle.bits.specs.Pack.{pack, bit-pack, pack-below, pack-same, byte-is}
 use Rattle.planes.specs.Planes.{mapByte, bitIn}
-use Rattle.planes.specs.PlaneLaws.{map-step, map-step2}
+use Rattle.planes.specs.PlaneLaws.{map-byte, map-step, map-step2}
 use Rattle.column.specs.declared.steps.Unary.{Unary}
 use Rattle.column.specs.declared.steps.Combination.{Combination}
 use Rattle.column.specs.Tables.{memberByte, subsetByte}
@@ -21,15 +21,16 @@ use Rattle.column.specs.StepLaws.{unary-local, combined-local}
 -- ---- a relation
 
 pub relation-allowed : (count j : ℕ) → subsetByte count j ≡ mapByte (λ s. ltb s count) j
-unfolding subsetByte mapByte
-relation-allowed count j = refl
+unfolding subsetByte
+relation-allowed count j = sym (map-byte (λ s. ltb s count) j)
 
 pub relation-output : (count r j : ℕ) → bitAnd (subsetByte count j) (memberByte r j) ≡ mapByte (λ s. ltb s count && bit s r) j
-unfolding subsetByte memberByte mapByte
+unfolding subsetByte memberByte
 relation-output count r j =
     byte-is (bitAnd (pack 8 (λ i. ltb (j * 8 + i) count)) (pack 8 (λ i. bit (j * 8 + i) r))) (λ i. ltb (j * 8 + i) count && bit (j * 8 + i) r)
     (lt-of-le-of-lt (and-le-l (pack 8 (λ i. ltb (j * 8 + i) count)) (pack 8 (λ i. bit (j * 8 + i) r))) (pack-below 8 (λ i. ltb (j * 8 + i) count)))
     (λ i h. bit-and (pack 8 (λ i. ltb (j * 8 + i) count)) (pack 8 (λ i. bit (j * 8 + i) r)) i ∙ ap₂ _&&_ (bit-pack 8 (λ i. ltb (j * 8 + i) count) i h) (bit-pack 8 (λ i. bit (j * 8 + i) r) i h))
+    ∙ sym (map-byte (λ s. ltb s count && bit s r) j)
 
 -- ---- a step, made at each subset of byte j
 

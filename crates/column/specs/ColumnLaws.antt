@@ -11,7 +11,7 @@ use lib.ListN.{length, getD, set}
 use Rattle.bits.specs.Bit.{bit}
 use Rattle.bits.specs.Tab.{length-tab, getD-tab}
 use Rattle.planes.specs.Planes.{mapByte, planesOf, bitIn, steppedColumn, steppedColumn2}
-use Rattle.planes.specs.PlaneLaws.{bit-in, Filling, filling-plane, filling-next, filling-done, planes-same}
+use Rattle.planes.specs.PlaneLaws.{bit-at, bit-in, Filling, filling-plane, filling-next, filling-done, planes-same, stepped-is, stepped-is2}
 use Rattle.column.specs.Column.{columnOf, allowedIn, outputIn, relationColumn, unaryColumn, combinedColumn}
 use Rattle.column.specs.Steps.{unaryAllowed, unaryOutput, combinedAllowed, combinedOutput, unaryStep, combinedStep}
 use Rattle.column.specs.declared.steps.Unary.{Unary}
@@ -55,12 +55,10 @@ unfolding outputIn
 output-bit column s = refl
 
 plain-allowed : (column : List ℕ) (s : ℕ) → allowedIn column s ≡ bitIn column s 0
-unfolding allowedIn bitIn
-plain-allowed column s = ap (λ (k : ℕ). bit (getD column k 0) (s % 8)) (sym (zero-add (s / 8)))
+plain-allowed column s = allowed-bit column s ∙ ap (λ (k : ℕ). bit (getD column k 0) (s % 8)) (sym (zero-add (s / 8))) ∙ sym (bit-at column s 0)
 
 plain-output : (column : List ℕ) (s : ℕ) → outputIn column s ≡ bitIn column s 1
-unfolding outputIn bitIn
-plain-output column s = refl
+plain-output column s = output-bit column s ∙ sym (bit-at column s 1)
 
 module _ (allowed output : ℕ → Bool) (s : ℕ) (h : s < 256) where
   pub allowed-in : allowedIn (columnOf allowed output) s ≡ allowed s
@@ -76,16 +74,16 @@ unfolding relationColumn
 plain-relation count r = plain-column (λ s. ltb s count) (λ s. ltb s count && bit s r)
 
 pub plain-unary : (u : Unary) (column : List ℕ) → unaryColumn u column ≡ steppedColumn 2 (unaryStep u) column
-unfolding unaryColumn steppedColumn
-plain-unary u column = plain-column _ _ ∙ planes-same 2 _ _ at
+unfolding unaryColumn
+plain-unary u column = plain-column _ _ ∙ planes-same 2 _ _ at ∙ stepped-is 2 (unaryStep u) column
   where
     at : (p s : ℕ) → p < 2 → s < 256 → pair (λ s. unaryAllowed u (allowedIn column s) (outputIn column s)) (λ s. unaryOutput u (allowedIn column s) (outputIn column s)) p s ≡ unaryStep u (bitIn column s) p
     at zero s hp hs = rw (plain-allowed column s, plain-output column s)
     at (suc p) s hp hs = rw (plain-allowed column s, plain-output column s)
 
 pub plain-combined : (c : Combination) (left right : List ℕ) → combinedColumn c left right ≡ steppedColumn2 2 (combinedStep c) left right
-unfolding combinedColumn steppedColumn2
-plain-combined c left right = plain-column _ _ ∙ planes-same 2 _ _ at
+unfolding combinedColumn
+plain-combined c left right = plain-column _ _ ∙ planes-same 2 _ _ at ∙ stepped-is2 2 (combinedStep c) left right
   where
     at : (p s : ℕ) → p < 2 → s < 256 → pair (λ s. combinedAllowed c (allowedIn left s) (outputIn left s) (allowedIn right s) (outputIn right s)) (λ s. combinedOutput c (allowedIn left s) (outputIn left s) (allowedIn right s) (outputIn right s)) p s ≡ combinedStep c (bitIn left s) (bitIn right s) p
     at zero s hp hs = rw (plain-allowed left s, plain-output left s, plain-allowed right s, plain-output right s)

@@ -1,7 +1,7 @@
 -- The column of a node, from the columns of its operands; and that it is the column of the node's cells.
 use Prim.Native.Nat.{ℕ, zero, suc, _^_, _<_}
 use mathlib.Core.Path.{_≡_, refl, sym, ap, ap₂, fun-ext, _∙_}
-use mathlib.Core.Bool.{Bool, true, false, cond, not, _&&_, and-true}
+use mathlib.Core.Bool.{Bool, true, not, _&&_, and-true}
 use mathlib.Core.List.{List}
 use native.Mathlib.Omega.{arith}
 use lib.Dec.{eqb, ltb}
@@ -10,9 +10,8 @@ use Rattle.attribute_set.specs.AttrSet.{hasAttribute}
 use Rattle.algebra.specs.Expression.{Expression, relation, binary, withSet, renaming, projectingOut}
 use Rattle.algebra.specs.Cell.{plain, out, ok}
 use Rattle.states.specs.Coded.{plainCode, valueAt, plain-value, bit-back}
-use Rattle.planes.specs.Planes.{planesOf, steppedColumn, steppedColumn2}
-use Rattle.planes.specs.PlaneLaws.{planes-same}
-use Rattle.planes.specs.Steps.{UnaryStep, planeBit, cellBits, cellColumn as planesColumn, relation-cells as planes-relation, binary-cells as planes-binary, unary-cells as planes-unary}
+use Rattle.planes.specs.Planes.{steppedColumn, steppedColumn2}
+use Rattle.planes.specs.Steps.{UnaryStep, storedBits, cellColumn as planesColumn, column-of-cells, binary-cells as planes-binary, unary-cells as planes-unary}
 use Rattle.node.specs.declared.nodes.BinaryOp.{BinaryOp}
 use Rattle.node.specs.declared.nodes.Node.{Node}
 use Rattle.node.specs.declared.nodes.Node.the-variants.{Relation, Binary, WithSet, Renaming, ProjectingOut}
@@ -55,20 +54,20 @@ values : (s : ℕ) → bit s ≡ valueAt plainCode s
 values s = fun-ext λ r. sym (plain-value s r)
 
 cells-are : (m : ℕ) (e : Expression) (c : ℕ) → cellColumn m e c ≡ planesColumn plainCode m e c
-unfolding cellColumn allowedBit outputBit planesColumn cellBits
-cells-are m e c = plain-column _ _ ∙ planes-same 2 _ _ at
+unfolding cellColumn allowedBit outputBit
+cells-are m e c = plain-column _ _ ∙ column-of-cells plainCode m c e _ at
   where
-    at : (p s : ℕ) → p < 2 → s < 256 → pair (λ s. ltb s (2 ^ m) && ok plain e c (bit s)) (λ s. ltb s (2 ^ m) && ok plain e c (bit s) && out plain e c (bit s)) p s ≡ (ltb s (2 ^ m) && ok plain e c (valueAt plainCode s) && planeBit plainCode (out plain e c (valueAt plainCode s)) p)
+    at : (p s : ℕ) → p < 2 → s < 256 → pair (λ s. ltb s (2 ^ m) && ok plain e c (bit s)) (λ s. ltb s (2 ^ m) && ok plain e c (bit s) && out plain e c (bit s)) p s ≡ storedBits plainCode (ltb s (2 ^ m)) (ok plain e c (valueAt plainCode s)) (out plain e c (valueAt plainCode s)) p
     at zero s hp hs = rw (values s) (sym (and-true (ltb s (2 ^ m) && ok plain e c (valueAt plainCode s))))
     at (suc zero) s hp hs = rw (values s) (ap (λ (b : Bool). ltb s (2 ^ m) && ok plain e c (valueAt plainCode s) && b) (sym (bit-back (out plain e c (valueAt plainCode s)))))
     at (suc (suc p)) s hp hs = absurd (omega arith)
 
 relation-cells : (m r c : ℕ) → relationColumn (2 ^ m) r ≡ cellColumn m (relation r) c
-relation-cells m r c = plain-relation (2 ^ m) r ∙ planes-same 2 _ _ at ∙ planes-relation plainCode m c r ∙ sym (cells-are m (relation r) c)
+relation-cells m r c = plain-relation (2 ^ m) r ∙ column-of-cells plainCode m c (relation r) _ at ∙ sym (cells-are m (relation r) c)
   where
-    at : (p s : ℕ) → p < 2 → s < 256 → pair (λ s. ltb s (2 ^ m)) (λ s. ltb s (2 ^ m) && bit s r) p s ≡ (ltb s (2 ^ m) && planeBit plainCode (valueAt plainCode s r) p)
-    at zero s hp hs = sym (and-true (ltb s (2 ^ m)))
-    at (suc zero) s hp hs = ap (λ (b : Bool). ltb s (2 ^ m) && b) (sym (plain-value s r) ∙ sym (bit-back (valueAt plainCode s r)))
+    at : (p s : ℕ) → p < 2 → s < 256 → pair (λ s. ltb s (2 ^ m)) (λ s. ltb s (2 ^ m) && bit s r) p s ≡ storedBits plainCode (ltb s (2 ^ m)) true (valueAt plainCode s r) p
+    at zero s hp hs = sym (and-true (ltb s (2 ^ m) && true) ∙ and-true (ltb s (2 ^ m)))
+    at (suc zero) s hp hs = ap₂ _&&_ (sym (and-true (ltb s (2 ^ m)))) (sym (plain-value s r) ∙ sym (bit-back (valueAt plainCode s r)))
     at (suc (suc p)) s hp hs = absurd (omega arith)
 
 binary-cells : (m : ℕ) (op : BinaryOp) (e f : Expression) (c : ℕ) → combinedColumn (combinationOf op) (cellColumn m e c) (cellColumn m f c) ≡ cellColumn m (binary (operatorOf op) e f) c

@@ -1,6 +1,6 @@
 -- Laws of columns in the work space: column c of node k is column k * 16 + c of all, and a run of bytes replaced in the part that starts with a node.
 use Prim.Native.Nat.{ℕ, _+_, _-_, _*_, _≤_, _<_}
-use mathlib.Core.Path.{_≡_, ap, _∙_}
+use mathlib.Core.Path.{_≡_, sym, _∙_}
 use mathlib.Core.List.{List, append-assoc, append-nil}
 use native.Mathlib.Nat.{add-assoc}
 use native.Mathlib.Omega.{arith}
@@ -8,7 +8,7 @@ use borrow.Rule.Slice.PartMut.{putMid, midOf}
 use lib.ListN.{length, getD, take, drop, length-drop, drop-of-length-le}
 use lib.Seq.{paste, take-add, drop-drop}
 use Rattle.bits.specs.Part.{part-from}
-use Rattle.planes.specs.Storage.{columnAt as columnOfWidth, column-byte as byte-of-width, column-size as size-of-width, column-is as is-of-width}
+use Rattle.planes.specs.Storage.{columnAt as columnOfWidth, column-part, column-byte as byte-of-width, column-size as size-of-width, column-is as is-of-width}
 use Rattle.formula.specs.Storage.{columnAt}
 
 -- in the part from `start` on: in the whole
@@ -24,8 +24,8 @@ place : (k c : ℕ) → (k * 16 + c) * 64 ≡ k * 1024 + c * 64
 place k c = omega arith
 
 pub column-number : (work : List ℕ) (k c : ℕ) → columnAt work k c ≡ columnOfWidth 64 work (k * 16 + c)
-unfolding columnAt columnOfWidth
-column-number work k c = rw (place k c)
+unfolding columnAt
+column-number work k c = sym (column-part 64 work (k * 16 + c) ∙ rw (place k c))
 
 pub column-byte : (work : List ℕ) (k c i : ℕ) → i < 64 → getD (columnAt work k c) i 0 ≡ getD work (k * 1024 + c * 64 + i) 0
 column-byte work k c i h = rw (column-number work k c, ← place k c) (byte-of-width 64 work (k * 16 + c) i h)

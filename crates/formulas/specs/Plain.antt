@@ -7,13 +7,14 @@ use lib.Dec.{T}
 use Rattle.bits.specs.Bit.{bit}
 use Rattle.bits.specs.Truth.{is-true, by-true}
 use Rattle.attribute_set.specs.AttrSet.{special}
-use Rattle.types.specs.Types.{Attrs, Assignment, IsAssignment, Finite, column, holders}
+use Rattle.types.specs.Types.{Attrs, Assignment, IsAssignment, column, holders}
+use Rattle.types.specs.Laws.{finite-bound, holders-packed}
 use Rattle.algebra.specs.Cell.{plain}
 use Rattle.states.specs.Coded.{plainCode, valueAt, plain-value, plain-state}
-use Rattle.states.specs.Formula.{Formula as StateFormula, IsAssignment as IsStateAssignment, Finite as StateFinite, Fits as StateFits, holders as stateHolders}
+use Rattle.states.specs.Formula.{Formula as StateFormula, IsAssignment as IsStateAssignment, Fits as StateFits, holders as stateHolders}
 use Rattle.states.specs.Instantiation.{Instantiation as StateInstantiation, InImage as InStateImage, InOutput as InStateOutput, HasImage as HasStateImage, HasOutput as HasStateOutput}
 use Rattle.states.specs.Members.{image-special as state-image-special, image-listed as state-image-listed}
-use Rattle.states.specs.States.{Variable, holders-is as state-holders-is, holders-none as state-holders-none, variable as state-variable, fits-at as state-fits-at}
+use Rattle.states.specs.States.{Variable, bound-finite, holders-is as state-holders-is, holders-none as state-holders-none, variable as state-variable, fits-at as state-fits-at}
 use Rattle.formulas.specs.Formula.{Formula, Fits, isVariable}
 use Rattle.formulas.specs.Instantiation.{Instantiation, InImage, InOutput, HasImage, HasOutput}
 
@@ -23,12 +24,10 @@ up F = record { relations = F .relations; allowed = F .allowed; output = F .outp
 -- ---- assignments, and what fits
 
 pub types-are : (m : ℕ) (A : Assignment) → IsAssignment m A → IsStateAssignment plain m A
-unfolding Finite StateFinite
-types-are m A types r below = record { positive = types r below .positive; finite = types r below .finite }
+types-are m A types r below = record { positive = types r below .positive; finite = bound-finite plain (finite-bound (types r below .finite)) }
 
 holders-are : (m : ℕ) (A : Assignment) (a : ℕ) → stateHolders plainCode m A a ≡ holders m A a
-unfolding holders
-holders-are m A a = plain-state m (λ r. A r a)
+holders-are m A a = plain-state m (λ r. A r a) ∙ sym (holders-packed m A a)
 
 pub holders-is : (m : ℕ) (A : Assignment) (a s : ℕ) → s < 2 ^ m → ((r : ℕ) → r < m → A r a ≡ bit s r) → holders m A a ≡ s
 holders-is m A a s h e = sym (holders-are m A a) ∙ state-holders-is plainCode m A a s h (λ r below. e r below ∙ sym (plain-value s r))

@@ -14,7 +14,15 @@ use Rattle.bits.specs.Pack.{pack, bit-pack, pack-same}
 use Rattle.bits.specs.Tab.{length-tab, getD-tab, tab-is}
 use Rattle.planes.specs.Planes.{mapByte, planesOf, bitIn, steppedColumn, steppedColumn2}
 
-pub map-bit : (test : ℕ → Bool) (s : ℕ) → bit (mapByte test (s / 8)) (s % 8) ≡ test s
+pub map-byte : (test : ℕ → Bool) (j : ℕ) → mapByte test j ≡ pack 8 (λ i. test (j * 8 + i))
+unfolding mapByte
+map-byte test j = refl
+
+pub bit-at : (column : List ℕ) (s p : ℕ) → bitIn column s p ≡ bit (getD column (p * 32 + s / 8) 0) (s % 8)
+unfolding bitIn
+bit-at column s p = refl
+
+map-bit : (test : ℕ → Bool) (s : ℕ) → bit (mapByte test (s / 8)) (s % 8) ≡ test s
 unfolding mapByte
 map-bit test s =
     let whole : s / 8 * 8 + s % 8 ≡ s = omega arith in
@@ -119,3 +127,13 @@ unfolding mapByte
 map-step2 step left right j =
     pack-same 8 _ (λ i. step (bitIn left (j * 8 + i)) (bitIn right (j * 8 + i)))
     (λ i h. ap₂ step (fun-ext λ p. sym (plane-bit left j i p h)) (fun-ext λ p. sym (plane-bit right j i p h)))
+
+-- ---- the column that a step makes, by its planes
+
+pub stepped-is : (b : ℕ) (step : (ℕ → Bool) → ℕ → Bool) (column : List ℕ) → planesOf b (λ p s. step (bitIn column s) p) ≡ steppedColumn b step column
+unfolding steppedColumn
+stepped-is b step column = refl
+
+pub stepped-is2 : (b : ℕ) (step : (ℕ → Bool) → (ℕ → Bool) → ℕ → Bool) (left right : List ℕ) → planesOf b (λ p s. step (bitIn left s) (bitIn right s) p) ≡ steppedColumn2 b step left right
+unfolding steppedColumn2
+stepped-is2 b step left right = refl

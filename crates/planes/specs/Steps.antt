@@ -59,6 +59,11 @@ module _ {K : Kinds} (C : Coded K) (m c : ℕ) where
   unfolding cellColumn
   cell-bit e p s hp hs = bit-in (C .base) (cellBits C m e c) p s hp hs
 
+  -- planes that say what the cells do are the column of the cells
+  pub column-of-cells : (e : Expression) (tests : ℕ → ℕ → Bool) → ((p s : ℕ) → p < C .base → s < 256 → tests p s ≡ storedBits C (ltb s (C .base ^ m)) (ok K e c (valueAt C s)) (out K e c (valueAt C s)) p) → planesOf (C .base) tests ≡ cellColumn C m e c
+  unfolding cellColumn cellBits
+  column-of-cells e tests same = planes-same (C .base) tests _ same
+
   -- the step's column of two operands' columns is the column of the node's cells
   pub binary-cells : (e f : Expression) (op : Operator) (step : (ℕ → Bool) → (ℕ → Bool) → ℕ → Bool) → BinaryStep C op step → steppedColumn2 (C .base) step (cellColumn C m e c) (cellColumn C m f c) ≡ cellColumn C m (binary op e f) c
   unfolding steppedColumn2 cellColumn cellBits
@@ -66,10 +71,6 @@ module _ {K : Kinds} (C : Coded K) (m c : ℕ) where
       planes-same (C .base) _ _ (λ p s hp hs.
       is .local (bitIn (cellColumn C m e c) s) (λ q. cellBits C m e c q s) (bitIn (cellColumn C m f c) s) (λ q. cellBits C m f c q s) (λ q h. cell-bit e q s h hs) (λ q h. cell-bit f q s h hs) p
       ∙ binary-bits is (ltb s (C .base ^ m)) (ok K e c (valueAt C s)) (out K e c (valueAt C s)) (ok K f c (valueAt C s)) (out K f c (valueAt C s)) p hp)
-
-  pub relation-cells : (r : ℕ) → planesOf (C .base) (λ p s. ltb s (C .base ^ m) && planeBit C (valueAt C s r) p) ≡ cellColumn C m (relation r) c
-  unfolding cellColumn cellBits
-  relation-cells r = planes-same (C .base) _ _ (λ p s hp hs. ap (λ (b : Bool). b && planeBit C (valueAt C s r) p) (sym (and-true (ltb s (C .base ^ m)))))
 
   -- of one operand, where an attribute breaks the node's rule as `broken` says of its value in e and comes out as `given`
   pub unary-cells : (e g : Expression) (broken : K .Value → Bool) (given : K .Value → K .Value) (step : (ℕ → Bool) → ℕ → Bool) → UnaryStep C broken given step → ((held : ℕ → K .Value) → ok K g c held ≡ ok K e c held && not (broken (out K e c held))) → ((held : ℕ → K .Value) → out K g c held ≡ given (out K e c held)) → steppedColumn (C .base) step (cellColumn C m e c) ≡ cellColumn C m g c

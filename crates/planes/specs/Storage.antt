@@ -83,6 +83,10 @@ module _ (w : ℕ) where
   one-more : (c : ℕ) → (c + 1) * w ≡ c * w + w
   one-more c = rw (add-mul c 1 w, one-mul w)
 
+  pub column-part : (work : List ℕ) (q : ℕ) → columnAt w work q ≡ take w (drop (q * w) work)
+  unfolding columnAt
+  column-part work q = refl
+
   pub column-byte : (work : List ℕ) (q i : ℕ) → i < w → getD (columnAt w work q) i 0 ≡ getD work (q * w + i) 0
   unfolding columnAt
   column-byte work q i h = getD-take w (drop (q * w) work) i 0 h ∙ getD-drop (q * w) work i 0

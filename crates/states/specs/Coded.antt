@@ -6,7 +6,7 @@ use lib.Dec.{eqb, ltb, lit<}
 use native.Mathlib.Omega.{arith}
 use borrow.Author.Tests.{ltb-false}
 use Rattle.bits.specs.Bit.{bit, bit-test}
-use Rattle.bits.specs.Pack.{pack, bit-pack, pack-below}
+use Rattle.bits.specs.Pack.{pack, bit-pack, pack-below, bits-once}
 use Rattle.algebra.specs.Cell.{Kinds, plain, sameBool}
 use Rattle.states.specs.Digits.{digit, digit-is, digit-none, digit-below, fromDigits, digit-from, from-below, digits-once}
 
@@ -119,6 +119,6 @@ unfolding valueAt
 plain-value s r = ap (λ (d : ℕ). eqb d 1) (digit-is 2 s r) ∙ bit-test s r
 
 pub plain-state : (m : ℕ) (f : ℕ → Bool) → stateOf plainCode m f ≡ pack m f
-unfolding stateOf fromDigits pack
-plain-state zero f = refl
-plain-state (suc m) f = ap (λ (x : ℕ). cond (f 0) 1 0 + x * 2) (plain-state m (λ r. f (suc r)))
+plain-state m f =
+    bits-once m (stateOf plainCode m f) (pack m f) (state-below plainCode m f) (pack-below m f)
+    (λ r h. sym (plain-value (stateOf plainCode m f) r) ∙ value-state plainCode m f r h ∙ sym (bit-pack m f r h))

@@ -57,6 +57,10 @@ pub finite-bound : (K : Kinds) {t : TypeOver K} → Finite K t → ∥ ((bound :
 unfolding Finite
 finite-bound K f = f
 
+pub bound-finite : (K : Kinds) {t : TypeOver K} → ∥ ((bound : ℕ) × ((a : ℕ) → bound ≤ a → t a ≡ K .none)) ∥₁ → Finite K t
+unfolding Finite
+bound-finite K b = b
+
 -- from some attribute on no relation has any
 pub bounded : (K : Kinds) (m : ℕ) (A : AssignmentOver K) → IsAssignment K m A → ∥ ((bound : ℕ) × ((a : ℕ) → bound ≤ a → (r : ℕ) → r < m → A r a ≡ K .none)) ∥₁
 bounded K zero A types = ∣ (0, λ a h r below. absurd (omega arith)) ∣₁

@@ -1,8 +1,8 @@
 use Prim.Native.Nat.{_-_, _≤_}
 use mathlib.Core.Path.{refl, sym, _∙_}
 use native.Mathlib.Omega.{arith}
-use Rattle.planes.specs.Planes.{bitIn, steppedColumn2}
-use Rattle.planes.specs.PlaneLaws.{Filling, filling-none}
+use Rattle.planes.specs.Planes.{bitIn}
+use Rattle.planes.specs.PlaneLaws.{Filling, filling-none, stepped-is2}
 use Rattle.column.specs.Steps.{combinedStep}
 use Rattle.column.specs.ColumnLaws.{plain-combined, filling-both, filling-end}
 use Rattle.column.specs.ColumnBytes.{combined-map}
@@ -64,8 +64,7 @@ loop-again c =
     (omega arith, filling-both _ (loop .j) (loop .column) _ _ (c .before .loop-test .taken) (made .allowed ∙ map 0) (made .output ∙ map 1) (loop .inv .1))
 
 returns : tie.Need-returns Inv-loop μ-loop
-unfolding steppedColumn2
-returns c = filling-end _ _ _ (omega arith) (c .before .loop .inv .1) ∙ sym (plain-combined (c .before .before .args .c) (c .before .before .args .t2) (c .before .before .args .t3))
+returns c = filling-end _ _ _ (omega arith) (c .before .loop .inv .1) ∙ stepped-is2 2 _ _ _ ∙ sym (plain-combined (c .before .before .args .c) (c .before .before .args .t2) (c .before .before .args .t3))
 
 pub combined-column-spec : {M : Type 1} → statement M
 combined-column-spec =

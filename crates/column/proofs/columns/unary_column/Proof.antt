@@ -1,8 +1,8 @@
 use Prim.Native.Nat.{_-_, _≤_}
 use mathlib.Core.Path.{refl, sym, _∙_}
 use native.Mathlib.Omega.{arith}
-use Rattle.planes.specs.Planes.{bitIn, steppedColumn}
-use Rattle.planes.specs.PlaneLaws.{Filling, filling-none}
+use Rattle.planes.specs.Planes.{bitIn}
+use Rattle.planes.specs.PlaneLaws.{Filling, filling-none, stepped-is}
 use Rattle.column.specs.Steps.{unaryStep}
 use Rattle.column.specs.ColumnLaws.{plain-unary, filling-both, filling-end}
 use Rattle.column.specs.ColumnBytes.{unary-map}
@@ -55,8 +55,7 @@ loop-again c =
     (omega arith, filling-both _ (loop .j) (loop .column) _ _ (c .before .loop-test .taken) (bytes .0 ∙ map 0) (bytes .1 ∙ map 1) (loop .inv .1))
 
 returns : tie.Need-returns Inv-loop μ-loop
-unfolding steppedColumn
-returns c = filling-end _ _ _ (omega arith) (c .before .loop .inv .1) ∙ sym (plain-unary (c .before .before .args .u) (c .before .before .args .t2))
+returns c = filling-end _ _ _ (omega arith) (c .before .loop .inv .1) ∙ stepped-is 2 _ _ ∙ sym (plain-unary (c .before .before .args .u) (c .before .before .args .t2))
 
 pub unary-column-spec : {M : Type 1} → statement M
 unary-column-spec =

@@ -73,11 +73,12 @@ loop-less c = search needs
 
 loop-again : tie.Need-loop-again Inv-loop μ-loop
 loop-again c =
-    let below = c .before .before .before .before .before .before .before .before .before .before .before .before .pre .1 in
-    (omega arith,
-    column-made (c .before .before .before .before .before .before .before .before .before .before .before .before .pre .0) (c .before .before .before .before .before .before .before .before .before .loop-test .taken) (search needs)
-    (λ earlier. c .before .before .before .before .combined-column .ensures ∙ ap₂ (combinedColumn Merging) (c .before .before .before .before .before .before .before .read-column .ensures ∙ earlier _ (below .0)) (c .before .before .before .before .before .read-column2 .ensures ∙ earlier _ (below .1)))
-    (c .before .before .write-column .ensures) (c .before .before .before .before .before .before .before .before .before .before .loop .inv .1))
+    let below = c .before .before .before .before .before .before .before .before .before .before .before .before .pre .1 in (
+      omega arith,
+      column-made (c .before .before .before .before .before .before .before .before .before .before .before .before .pre .0) (c .before .before .before .before .before .before .before .before .before .loop-test .taken) (search needs)
+          (λ earlier. c .before .before .before .before .combined-column .ensures ∙ ap₂ (combinedColumn Merging) (c .before .before .before .before .before .before .before .read-column .ensures ∙ earlier _ (below .0)) (c .before .before .before .before .before .read-column2 .ensures ∙ earlier _ (below .1)))
+          (c .before .before .write-column .ensures) (c .before .before .before .before .before .before .before .before .before .before .loop .inv .1),
+    )
 
 same-length : tie.Need-same-length Inv-loop μ-loop
 same-length c = c .before .loop .inv .1 .size

@@ -73,11 +73,12 @@ loop-less : tie.Need-loop-less Inv-loop μ-loop
 loop-less c = search needs
 
 loop-again : tie.Need-loop-again Inv-loop μ-loop
-loop-again c =
-    (omega arith,
-    column-made (c .before .before .before .before .before .before .before .before .before .before .before .before .pre .0) (c .before .before .before .before .before .before .before .before .before .loop-test .taken) (search needs)
-    (λ earlier. c .before .before .before .before .unary-column .ensures ∙ ap₂ unaryColumn (c .before .before .before .before .before .before .before .set-step .ensures ∙ ap (setStep Selection) (c .before .before .before .before .before .before .before .before .has .ensures)) (c .before .before .before .before .before .read-column .ensures ∙ earlier _ (c .before .before .before .before .before .before .before .before .before .before .before .before .pre .1)))
-    (c .before .before .write-column .ensures) (c .before .before .before .before .before .before .before .before .before .before .loop .inv .1))
+loop-again c = (
+  omega arith,
+  column-made (c .before .before .before .before .before .before .before .before .before .before .before .before .pre .0) (c .before .before .before .before .before .before .before .before .before .loop-test .taken) (search needs)
+      (λ earlier. c .before .before .before .before .unary-column .ensures ∙ ap₂ unaryColumn (c .before .before .before .before .before .before .before .set-step .ensures ∙ ap (setStep Selection) (c .before .before .before .before .before .before .before .before .has .ensures)) (c .before .before .before .before .before .read-column .ensures ∙ earlier _ (c .before .before .before .before .before .before .before .before .before .before .before .before .pre .1)))
+      (c .before .before .write-column .ensures) (c .before .before .before .before .before .before .before .before .before .before .loop .inv .1),
+)
 
 same-length : tie.Need-same-length Inv-loop μ-loop
 same-length c = c .before .loop .inv .1 .size
