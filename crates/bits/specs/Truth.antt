@@ -26,13 +26,10 @@ pub not-not : (b : Bool) → (T (not b) → ⊥) → T b
 not-not true h = tt
 not-not false h = h tt
 
--- tests that pass together are equal, and the other way round
+-- tests that pass together are equal
 pub same-test : (x y : Bool) → T x ↔ T y → x ≡ y
 same-test true y h = sym (is-true y (h .0 tt))
 same-test false y h = sym (is-false y (h .1))
-
-pub test-same : {x y : Bool} → x ≡ y → T x ↔ T y
-test-same e = (λ h. subst T e h, λ h. subst T (sym e) h)
 
 -- ---- both
 

@@ -12,9 +12,11 @@ use Rattle.types.specs.Types.{ordinary, column}
 use Rattle.bits.specs.Truth.{is-true, is-false, by-true, decided, both}
 use Rattle.types.specs.Attributes.{Kind, isSpecial, isOrdinary, isZero, kind, special-bounds, special-ordinary, zero-other, column-special, column-other}
 use Rattle.algebra.specs.Cell.{Kinds}
+use Rattle.bits.specs.Booleans.{and-left, and-right}
 use Rattle.bits.specs.AnyBelow.{anyBelow, in-any, any-in}
 use Rattle.states.specs.Coded.{Coded, valueAt, value-none}
 use Rattle.states.specs.Formula.{TypeOver, AssignmentOver, Finite, IsType, IsAssignment, Filled, Formula, holders, isVariable, Fits, Grounded}
+use Rattle.states.specs.Instance.{not-zero}
 use Rattle.states.specs.States.{held-none, holders-value, holders-below, holders-is, holders-none, variable, fits-at}
 
 pub record Choice {K : Kinds} (C : Coded K) (F : Formula K) (state : ℕ → ℕ) : Type 0 where
@@ -44,8 +46,7 @@ abbrev pub covers : {K : Kinds} (C : Coded K) (F : Formula K) → (ℕ → ℕ) 
 covers C F state r = anyBelow 16 (byState C state r) || anyBelow (C .base ^ F .relations) (byList C F r)
 
 pub split : (a b : Bool) → a && b ≡ true → (a ≡ true) × (b ≡ true)
-split true b h = (refl, h)
-split false b h = absurd (let z : _≡_ {A = ℕ} 0 1 = cc in omega arith)
+split a b h = (and-left a b h, and-right a b h)
 
 either : (a b : Bool) → a || b ≡ true → (a ≡ true) ⊎ (b ≡ true)
 either true b h = inl refl
@@ -160,9 +161,6 @@ module _ {K : Kinds} (C : Coded K) (F : Formula K) (ground : Grounded F) where
 
         some : (a : ℕ) → T (K .has (A r a)) → 0 < holders C (F .relations) A a
         some a h = not-zero (holders C (F .relations) A a) (λ e. held-none C (A r a) h (sym (holders-value C (F .relations) A a r below) ∙ ap (λ (s : ℕ). valueAt C s r) e ∙ value-none C r))
-          where
-            not-zero : (s : ℕ) → (s ≡ 0 → ⊥) → 0 < s
-            not-zero s h = omega arith
 
         go : (a : ℕ) → T (K .has (A r a)) → Kind a → covers C F (holders C (F .relations) A) r ≡ true
         go a h (isSpecial k) = ap (λ (b : Bool). b || anyBelow (C .base ^ F .relations) (byList C F r)) (in-any 16 (byState C (holders C (F .relations) A) r) a (let b = special-bounds a k in omega arith) (ap₂ _&&_ (is-true (special a) k) (held a h)))

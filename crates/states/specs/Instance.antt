@@ -16,7 +16,7 @@ use Rattle.states.specs.Formula.{TypeOver, AssignmentOver, IsAssignment,
 use Rattle.states.specs.Instantiation.{Instantiation, InImage, InOutput, HasImage, HasOutput}
 use Rattle.states.specs.States.{held-none, holders-value, holders-below, holders-none, bounded, variable, fits-at}
 
-not-zero : (s : ℕ) → (s ≡ 0 → ⊥) → 0 < s
+pub not-zero : (s : ℕ) → (s ≡ 0 → ⊥) → 0 < s
 not-zero s h = omega arith
 
 column-ordinary : (a : ℕ) → T (ordinary a) → column a ≡ 0

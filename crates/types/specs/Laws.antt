@@ -3,8 +3,7 @@ use Prim.Native.Nat.{ℕ, _≤_, _<_, _^_}
 use mathlib.Core.Path.{_≡_, refl, ap}
 use mathlib.Core.Bool.{Bool, true, false, cond}
 use mathlib.Core.Logic.{∥∥₁-prop}
-use Rattle.bits.specs.Bit.{bit}
-use Rattle.bits.specs.Pack.{pack, bit-pack, pack-below}
+use Rattle.bits.specs.Pack.{pack, pack-below}
 use Rattle.attribute_set.specs.AttrSet.{special}
 use Rattle.types.specs.Types.{Attrs, Assignment, Finite, column, holders}
 
@@ -31,14 +30,10 @@ pub column-of-other : (a : ℕ) → special a ≡ false → column a ≡ 0
 unfolding column
 column-of-other a e = ap (λ (b : Bool). cond b a 0) e
 
--- relation r holds an attribute if bit r stands
+-- the subset of the relations that hold an attribute
 pub holders-packed : (m : ℕ) (A : Assignment) (a : ℕ) → holders m A a ≡ pack m (λ r. A r a)
 unfolding holders
 holders-packed m A a = refl
-
-pub holders-bit : (m : ℕ) (A : Assignment) (a r : ℕ) → r < m → bit (holders m A a) r ≡ A r a
-unfolding holders
-holders-bit m A a r h = bit-pack m (λ r. A r a) r h
 
 pub holders-below : (m : ℕ) (A : Assignment) (a : ℕ) → holders m A a < 2 ^ m
 unfolding holders
