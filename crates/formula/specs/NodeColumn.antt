@@ -1,6 +1,6 @@
 -- The column of a node, from the columns of its operands; and that it is the column of the node's cells.
 use Prim.Native.Nat.{ℕ, zero, suc, _^_, _<_}
-use mathlib.Core.Path.{_≡_, refl, sym, ap, ap₂, fun-ext, _∙_}
+use mathlib.Core.Path.{_≡_, refl, sym, ap, ap₂, _∙_}
 use mathlib.Core.Bool.{Bool, true, not, _&&_, and-true}
 use mathlib.Core.List.{List}
 use native.Mathlib.Omega.{arith}
@@ -9,7 +9,7 @@ use Rattle.bits.specs.Bit.{bit}
 use Rattle.attribute_set.specs.AttrSet.{hasAttribute}
 use Rattle.algebra.specs.Expression.{Expression, relation, binary, withSet, renaming, projectingOut}
 use Rattle.algebra.specs.Cell.{plain, out, ok}
-use Rattle.states.specs.Coded.{plainCode, valueAt, plain-value, bit-back}
+use Rattle.states.specs.Coded.{plainCode, valueAt, plain-value, plain-values, bit-back}
 use Rattle.planes.specs.Planes.{steppedColumn, steppedColumn2}
 use Rattle.planes.specs.Steps.{UnaryStep, storedBits, cellColumn as planesColumn, column-of-cells, binary-cells as planes-binary, unary-cells as planes-unary}
 use Rattle.node.specs.declared.nodes.BinaryOp.{BinaryOp}
@@ -18,7 +18,7 @@ use Rattle.node.specs.declared.nodes.Node.the-variants.{Relation, Binary, WithS
 use Rattle.node.specs.Legal.{LegalNode}
 use Rattle.column.specs.declared.steps.Unary.{Unary}
 use Rattle.column.specs.Steps.{setStep, renamingStep, projectingOutStep, combinationOf, unaryStep, combinedStep}
-use Rattle.column.specs.Column.{columnOf, allowedIn, outputIn, relationColumn, unaryColumn, combinedColumn}
+use Rattle.column.specs.Column.{allowedIn, outputIn, relationColumn, unaryColumn, combinedColumn}
 use Rattle.column.specs.ColumnLaws.{pair, plain-column, plain-relation, plain-unary, plain-combined, allowed-in, output-in}
 use Rattle.formula.specs.StepCells.{binary-step, set-step, renaming-step, projecting-out-step, named-is}
 use Rattle.formula.specs.Expressions.{operatorOf, setOperatorOf, named, ofNode}
@@ -50,16 +50,13 @@ cell-output m e c s h = output-in (allowedBit m e c) (outputBit m e c) s h
 
 -- ---- as columns of two planes
 
-values : (s : ℕ) → bit s ≡ valueAt plainCode s
-values s = fun-ext λ r. sym (plain-value s r)
-
 cells-are : (m : ℕ) (e : Expression) (c : ℕ) → cellColumn m e c ≡ planesColumn plainCode m e c
 unfolding cellColumn allowedBit outputBit
 cells-are m e c = plain-column _ _ ∙ column-of-cells plainCode m c e _ at
   where
     at : (p s : ℕ) → p < 2 → s < 256 → pair (λ s. ltb s (2 ^ m) && ok plain e c (bit s)) (λ s. ltb s (2 ^ m) && ok plain e c (bit s) && out plain e c (bit s)) p s ≡ storedBits plainCode (ltb s (2 ^ m)) (ok plain e c (valueAt plainCode s)) (out plain e c (valueAt plainCode s)) p
-    at zero s hp hs = rw (values s) (sym (and-true (ltb s (2 ^ m) && ok plain e c (valueAt plainCode s))))
-    at (suc zero) s hp hs = rw (values s) (ap (λ (b : Bool). ltb s (2 ^ m) && ok plain e c (valueAt plainCode s) && b) (sym (bit-back (out plain e c (valueAt plainCode s)))))
+    at zero s hp hs = rw (plain-values s) (sym (and-true (ltb s (2 ^ m) && ok plain e c (valueAt plainCode s))))
+    at (suc zero) s hp hs = rw (plain-values s) (ap (λ (b : Bool). ltb s (2 ^ m) && ok plain e c (valueAt plainCode s) && b) (sym (bit-back (out plain e c (valueAt plainCode s)))))
     at (suc (suc p)) s hp hs = absurd (omega arith)
 
 relation-cells : (m r c : ℕ) → relationColumn (2 ^ m) r ≡ cellColumn m (relation r) c

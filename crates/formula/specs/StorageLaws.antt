@@ -5,7 +5,7 @@ use mathlib.Core.List.{List, append-assoc, append-nil}
 use native.Mathlib.Nat.{add-assoc}
 use native.Mathlib.Omega.{arith}
 use borrow.Rule.Slice.PartMut.{putMid, midOf}
-use lib.ListN.{length, getD, take, drop, length-drop, drop-of-length-le}
+use lib.ListN.{length, getD, drop, length-drop, drop-of-length-le}
 use lib.Seq.{paste, take-add, drop-drop}
 use Rattle.bits.specs.Part.{part-from}
 use Rattle.planes.specs.Storage.{columnAt as columnOfWidth, column-part, column-byte as byte-of-width, column-size as size-of-width, column-is as is-of-width}

@@ -1,12 +1,11 @@
 -- Stored bits of a cell, and steps on them, for any kinds: a step that does to coded values what the cell does, and clears where an operand is clear, keeps stored bits those of the cell.
 use Prim.Native.Nat.{ℕ, zero, suc, _^_, _<_}
-use mathlib.Core.Path.{_≡_, refl, sym, ap, _∙_}
-use mathlib.Core.Bool.{Bool, true, false, not, _&&_, and-true}
+use mathlib.Core.Path.{_≡_, sym, _∙_}
+use mathlib.Core.Bool.{Bool, true, false, not, _&&_}
 use mathlib.Core.List.{List}
 use lib.Dec.{eqb, ltb}
-use Rattle.types.specs.Types.{Attrs}
-use Rattle.algebra.specs.Expression.{Expression, Operator, SetOperator, relation, binary, withSet, projectingOut}
-use Rattle.algebra.specs.Cell.{Kinds, sameBool, out, ok, breaks, yields, breaksSet, yieldsSet, breaksOut, yieldsOut}
+use Rattle.algebra.specs.Expression.{Expression, Operator, binary}
+use Rattle.algebra.specs.Cell.{Kinds, sameBool, out, ok, breaks, yields}
 use Rattle.bits.specs.AllBelow.{allBelow, all-in}
 use Rattle.states.specs.Coded.{Coded, valueAt, bit-only}
 use Rattle.planes.specs.Planes.{planesOf, bitIn, steppedColumn, steppedColumn2}

@@ -22,7 +22,7 @@ use Rattle.algebra.specs.Expression.{Legal}
 use Rattle.expression.specs.Accepted.{accepted-file}
 use Rattle.formulas.specs.Formula.{Formula, isVariable}
 use Rattle.formulas.specs.Instantiation.{Instantiation, HasImage, HasOutput}
-use Rattle.formulas.specs.Plain.{to, holders-is, variable, image-is, image-special, image-listed}
+use Rattle.formulas.specs.Plain.{toStates, holders-is, variable, image-is, image-special, image-listed}
 use Rattle.states.specs.Members.{Place, inState, inList, nowhere, place}
 use Rattle.bits.specs.Truth.{is-true, is-false, by-true, same-test, any-proof}
 use Rattle.formula.specs.Expressions.{expressionAt, expression-legal}
@@ -168,7 +168,7 @@ module _ (file : List ℕ) (k : ℕ) (bytes work schema out : List ℕ) (m n : �
     list-bytes s v x l = by-true (sym (owner s x (variable F s .0 v .some)) ∙ eq-eqb (holdersIn (entriesIn ls) x) s (listed-holders s v x l))
 
     bytes-list : (s : ℕ) (v : T (isVariable F s)) (x : ℕ) → T (member x (getD ls s [])) → T (I .list s v x)
-    bytes-list s v x l = go (place (to I) x)
+    bytes-list s v x l = go (place (toStates I) x)
       where
         plain : special x ≡ false
         plain = plain-listed s x l
@@ -182,7 +182,7 @@ module _ (file : List ℕ) (k : ℕ) (bytes work schema out : List ℕ) (m n : �
         moved : (s′ : ℕ) → s′ ≡ s → (v′ : T (isVariable F s′)) → T (I .list s′ v′ x) → T (I .list s v x)
         moved s′ e v′ t = subst (λ (q : ℕ). (w : T (isVariable F q)) → T (I .list q w x)) e (λ w. any-proof (isVariable F s′) (λ w. T (I .list s′ w x)) v′ w t) v
 
-        go : Place (to I) x → T (I .list s v x)
+        go : Place (toStates I) x → T (I .list s v x)
         go (inState h) = absurd (subst T plain h)
         go (inList s′ v′ t) = moved s′ (sym (listed-holders s′ v′ x t) ∙ held) v′ t
         go (nowhere k none silent) =

@@ -1,23 +1,23 @@
 -- A choice of an allowed state for each special attribute, with an ordinary attribute for every variable: the assignment that it gives fits, and some filled assignment fits exactly when some choice covers every relation.
 use Prim.Native.Nat.{ℕ, _+_, _-_, _≤_, _<_, _^_}
-use mathlib.Core.Path.{_≡_, refl, sym, ap, ap₂, subst, _∙_}
+use mathlib.Core.Path.{_≡_, refl, sym, ap, ap₂, _∙_}
 use mathlib.Core.Bool.{Bool, true, false, cond, _&&_, _||_, or-true}
-use mathlib.Core.Logic.{_↔_, _⊎_, inl, inr, ∥∥₁-elim}
+use mathlib.Core.Logic.{_⊎_, inl, inr, ∥∥₁-elim}
 use native.Mathlib.Omega.{arith}
 use borrow.Author.Tests.{le-leb}
 use lib.Dec.{T, T-prop, leb→le}
 use Rattle.attribute_set.specs.AttrSet.{special}
 use Rattle.attribute_set.specs.Laws.{special-above}
 use Rattle.types.specs.Types.{ordinary, column}
-use Rattle.bits.specs.Truth.{is-true, is-false, by-true, decided, both}
+use Rattle.bits.specs.Truth.{is-true, by-true, both}
 use Rattle.types.specs.Attributes.{Kind, isSpecial, isOrdinary, isZero, kind, special-bounds, special-ordinary, zero-other, column-special, column-other}
 use Rattle.algebra.specs.Cell.{Kinds}
 use Rattle.bits.specs.Booleans.{and-left, and-right}
 use Rattle.bits.specs.AnyBelow.{anyBelow, in-any, any-in}
 use Rattle.states.specs.Coded.{Coded, valueAt, value-none}
-use Rattle.states.specs.Formula.{TypeOver, AssignmentOver, Finite, IsType, IsAssignment, Filled, Formula, holders, isVariable, Fits, Grounded}
+use Rattle.states.specs.Formula.{TypeOver, AssignmentOver, Finite, IsAssignment, Filled, Formula, holders, isVariable, Fits, Grounded}
 use Rattle.states.specs.Instance.{not-zero}
-use Rattle.states.specs.States.{held-none, holders-value, holders-below, holders-is, holders-none, variable, fits-at}
+use Rattle.states.specs.States.{held-none, holders-value, holders-below, holders-is, variable, fits-at}
 
 pub record Choice {K : Kinds} (C : Coded K) (F : Formula K) (state : ℕ → ℕ) : Type 0 where
   pub below : (i : ℕ) → T (special i) → state i < C .base ^ F .relations

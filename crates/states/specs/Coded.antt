@@ -1,7 +1,7 @@
 -- Kinds whose values are coded by digits, and the states of m relations: numbers of m digits, relation 0 lowest.
-use Prim.Native.Nat.{ℕ, zero, suc, _+_, _*_, _^_, _<_}
-use mathlib.Core.Path.{_≡_, refl, sym, ap, _∙_}
-use mathlib.Core.Bool.{Bool, true, false, cond, not, _&&_}
+use Prim.Native.Nat.{ℕ, zero, suc, _^_, _<_}
+use mathlib.Core.Path.{_≡_, refl, sym, ap, fun-ext, _∙_}
+use mathlib.Core.Bool.{Bool, true, false, cond}
 use lib.Dec.{eqb, ltb, lit<}
 use native.Mathlib.Omega.{arith}
 use borrow.Author.Tests.{ltb-false}
@@ -117,6 +117,9 @@ module _ {K : Kinds} (C : Coded K) where
 pub plain-value : (s r : ℕ) → valueAt plainCode s r ≡ bit s r
 unfolding valueAt
 plain-value s r = ap (λ (d : ℕ). eqb d 1) (digit-is 2 s r) ∙ bit-test s r
+
+pub plain-values : (s : ℕ) → bit s ≡ valueAt plainCode s
+plain-values s = fun-ext λ r. sym (plain-value s r)
 
 pub plain-state : (m : ℕ) (f : ℕ → Bool) → stateOf plainCode m f ≡ pack m f
 plain-state m f =

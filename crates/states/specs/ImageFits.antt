@@ -1,13 +1,13 @@
 -- The image of an instantiation fits.
 use Prim.Native.Nat.{ℕ, _^_}
-use mathlib.Core.Path.{_≡_, sym, _∙_}
+use mathlib.Core.Path.{sym, _∙_}
 use mathlib.Core.Logic.{Iff·trans}
 use lib.Dec.{T, ltb→lt}
 use Rattle.attribute_set.specs.AttrSet.{special}
 use Rattle.bits.specs.Truth.{is-true, is-false}
 use Rattle.types.specs.Attributes.{special-ordinary, column-special, column-other}
 use Rattle.algebra.specs.Cell.{Kinds}
-use Rattle.states.specs.Coded.{Coded, valueAt, only-none}
+use Rattle.states.specs.Coded.{Coded, only-none}
 use Rattle.states.specs.Formula.{TypeOver, AssignmentOver, Formula, Fits, Grounded, isVariable}
 use Rattle.states.specs.Instantiation.{Instantiation, InImage, InOutput, HasImage, HasOutput}
 use Rattle.states.specs.States.{same-value, holders-is, holders-none, variable, fits-at}

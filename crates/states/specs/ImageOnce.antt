@@ -1,7 +1,7 @@
 -- Two instantiations with one image are one.
-use Prim.Native.Nat.{ℕ, _<_, _^_}
+use Prim.Native.Nat.{ℕ, _^_}
 use mathlib.Core.Path.{_≡_, refl, sym, subst}
-use mathlib.Core.Logic.{_↔_, Iff·trans, Iff·symm}
+use mathlib.Core.Logic.{Iff·trans, Iff·symm}
 use mathlib.Core.HLevel.{Π-prop, isProp→PathP}
 use native.Mathlib.Nat.{ℕ-set}
 use lib.Dec.{T, T-prop, ltb, ltb→lt}

@@ -3,7 +3,7 @@ use Prim.Native.Nat.{ℕ, _<_, _^_}
 use mathlib.Core.Path.{_≡_, subst}
 use mathlib.Core.Bool.{Bool, true, false}
 use mathlib.Core.Logic.{_↔_, _⊎_, inl, inr}
-use lib.Dec.{T, T-prop}
+use lib.Dec.{T}
 use Rattle.attribute_set.specs.AttrSet.{special}
 use Rattle.types.specs.Attributes.{special-ordinary}
 use Rattle.bits.specs.Truth.{decided}

@@ -1,10 +1,10 @@
 -- For any coded kinds: the instantiations of a formula by states are the assignments that fit it, each once; and with the cells of an expression, those in which no attribute breaks a rule.
 use Prim.Native.Nat.{ℕ, _<_, _^_}
-use mathlib.Core.Path.{_≡_, refl, sym, ap, ap₂, fun-ext, _∙_}
+use mathlib.Core.Path.{_≡_, sym, ap₂, fun-ext, _∙_}
 use mathlib.Core.Logic.{_↔_, Iff·trans, Iff·symm}
-use mathlib.Core.Bool.{Bool, true, false, cond}
+use mathlib.Core.Bool.{Bool, true, cond}
 use native.Mathlib.Nat.{one-le-pow}
-use lib.Dec.{T, lit<}
+use lib.Dec.{lit<}
 use Rattle.types.specs.Types.{column}
 use Rattle.types.specs.Attributes.{column-below}
 use Rattle.algebra.specs.Expression.{Expression, Legal}
@@ -12,7 +12,7 @@ use Rattle.algebra.specs.Cell.{Kinds, out, ok}
 use Rattle.algebra.specs.CellLaws.{cell-depends, cell-none}
 use Rattle.states.specs.Coded.{Coded, valueAt, positive, value-none, lacks}
 use Rattle.states.specs.Formula.{TypeOver, AssignmentOver, IsAssignment, Formula, holders, Fits, Grounded}
-use Rattle.states.specs.Instantiation.{Instantiation, InImage, HasImage, HasOutput, SameImage}
+use Rattle.states.specs.Instantiation.{Instantiation, HasImage, HasOutput, SameImage}
 use Rattle.states.specs.States.{holders-value, holders-below}
 use Rattle.states.specs.Members.{place}
 use Rattle.states.specs.Instance.{instance, instance-image, instance-output}

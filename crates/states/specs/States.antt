@@ -1,7 +1,7 @@
 -- Values, and the state of the relations that hold an attribute.
 use Prim.Native.Nat.{ℕ, zero, suc, _+_, _≤_, _<_, _^_}
-use mathlib.Core.Path.{_≡_, refl, sym, ap, subst, _∙_}
-use mathlib.Core.Bool.{Bool, true, false}
+use mathlib.Core.Path.{_≡_, refl, sym, ap, _∙_}
+use mathlib.Core.Bool.{true}
 use mathlib.Core.Logic.{_↔_, _⊎_, inl, inr, ∥∥₁-map₂}
 use native.Mathlib.Nat.{eq-or-lt-of-le, le-of-suc-le-suc}
 use native.Mathlib.Omega.{arith}
@@ -10,8 +10,8 @@ use Rattle.types.specs.Types.{column}
 use Rattle.bits.specs.Truth.{is-true, is-false, by-true, by-false, decided, both, left, right}
 use Rattle.bits.specs.Search.{Below, found, missing, search-below}
 use Rattle.algebra.specs.Cell.{Kinds}
-use Rattle.states.specs.Coded.{Coded, valueAt, stateOf, value-state, state-below, states-once, value-none, lacks, only-none}
-use Rattle.states.specs.Formula.{TypeOver, Finite, IsType, AssignmentOver, IsAssignment, Formula, holders, typeVariable, isVariable, Fits}
+use Rattle.states.specs.Coded.{Coded, valueAt, value-state, state-below, states-once, value-none, lacks, only-none}
+use Rattle.states.specs.Formula.{TypeOver, Finite, AssignmentOver, IsAssignment, Formula, holders, typeVariable, isVariable, Fits}
 
 -- ---- values
 
