@@ -19,7 +19,8 @@ module _ (column : ℕ → List ℕ) (start : ℕ) (old : List ℕ) where
   columns-none = none-of-width 64 column start old
 
   -- one column more, in the part of the work space that starts with the node
-  columns-more : (c : ℕ) (work next part : List ℕ) → c < 16 → start + 1024 ≤ length work → length next ≡ 64 → next ≡ column c → part ≡ paste (midOf start (length work - start) work) (c * 64) next 64 → Columns column start c old work → Columns column start (c + 1) old (putMid start (length work - start) work part)
+  columns-more : (c : ℕ) (work next part : List ℕ) → c < 16 → start + 1024 ≤ length work → length next ≡ 64 → next ≡ column c
+      → part ≡ paste (midOf start (length work - start) work) (c * 64) next 64 → Columns column start c old work → Columns column start (c + 1) old (putMid start (length work - start) work part)
   columns-more c work next part few fits long is written w =
       rw (written, lent-paste work next start (c * 64) 64 (omega arith))
       (more-of-width 64 column start old c work next (omega arith) long is w)

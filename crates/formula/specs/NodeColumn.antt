@@ -74,7 +74,8 @@ binary-cells m op e f c =
     ∙ planes-binary plainCode m c e f (operatorOf op) (combinedStep (combinationOf op)) (binary-step op)
     ∙ sym (cells-are m (binary (operatorOf op) e f) c)
 
-unary-cells : (m : ℕ) (e g : Expression) (c : ℕ) (u : Unary) (broken given : Bool → Bool) → UnaryStep plainCode broken given (unaryStep u) → ((held : ℕ → Bool) → ok plain g c held ≡ ok plain e c held && not (broken (out plain e c held))) → ((held : ℕ → Bool) → out plain g c held ≡ given (out plain e c held)) → unaryColumn u (cellColumn m e c) ≡ cellColumn m g c
+unary-cells : (m : ℕ) (e g : Expression) (c : ℕ) (u : Unary) (broken given : Bool → Bool) → UnaryStep plainCode broken given (unaryStep u)
+    → ((held : ℕ → Bool) → ok plain g c held ≡ ok plain e c held && not (broken (out plain e c held))) → ((held : ℕ → Bool) → out plain g c held ≡ given (out plain e c held)) → unaryColumn u (cellColumn m e c) ≡ cellColumn m g c
 unary-cells m e g c u broken given step isOk isOut =
     plain-unary u (cellColumn m e c)
     ∙ ap (steppedColumn 2 (unaryStep u)) (cells-are m e c)

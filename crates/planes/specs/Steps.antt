@@ -39,7 +39,8 @@ unary-bits s false k v p h = s .clear p
 unary-bits s true false v p h = s .clear p
 unary-bits s true true v p h = s .coded v p h
 
-pub binary-bits : {K : Kinds} {C : Coded K} {op : Operator} {step : (ℕ → Bool) → (ℕ → Bool) → ℕ → Bool} → BinaryStep C op step → (t k : Bool) (v : K .Value) (k′ : Bool) (v′ : K .Value) (p : ℕ) → p < C .base → step (storedBits C t k v) (storedBits C t k′ v′) p ≡ storedBits C t (k && k′ && not (breaks K op v v′)) (yields K op v v′) p
+pub binary-bits : {K : Kinds} {C : Coded K} {op : Operator} {step : (ℕ → Bool) → (ℕ → Bool) → ℕ → Bool} → BinaryStep C op step → (t k : Bool) (v : K .Value) (k′ : Bool) (v′ : K .Value) (p : ℕ) → p < C .base
+    → step (storedBits C t k v) (storedBits C t k′ v′) p ≡ storedBits C t (k && k′ && not (breaks K op v v′)) (yields K op v v′) p
 binary-bits {C} s false k v k′ v′ p h = s .leftClear _ p
 binary-bits {C} s true false v k′ v′ p h = s .leftClear _ p
 binary-bits {C} s true true v false v′ p h = s .rightClear _ p
@@ -72,7 +73,8 @@ module _ {K : Kinds} (C : Coded K) (m c : ℕ) where
       ∙ binary-bits is (ltb s (C .base ^ m)) (ok K e c (valueAt C s)) (out K e c (valueAt C s)) (ok K f c (valueAt C s)) (out K f c (valueAt C s)) p hp)
 
   -- of one operand, where an attribute breaks the node's rule as `broken` says of its value in e and comes out as `given`
-  pub unary-cells : (e g : Expression) (broken : K .Value → Bool) (given : K .Value → K .Value) (step : (ℕ → Bool) → ℕ → Bool) → UnaryStep C broken given step → ((held : ℕ → K .Value) → ok K g c held ≡ ok K e c held && not (broken (out K e c held))) → ((held : ℕ → K .Value) → out K g c held ≡ given (out K e c held)) → steppedColumn (C .base) step (cellColumn C m e c) ≡ cellColumn C m g c
+  pub unary-cells : (e g : Expression) (broken : K .Value → Bool) (given : K .Value → K .Value) (step : (ℕ → Bool) → ℕ → Bool) → UnaryStep C broken given step
+      → ((held : ℕ → K .Value) → ok K g c held ≡ ok K e c held && not (broken (out K e c held))) → ((held : ℕ → K .Value) → out K g c held ≡ given (out K e c held)) → steppedColumn (C .base) step (cellColumn C m e c) ≡ cellColumn C m g c
   unfolding steppedColumn cellColumn cellBits
   unary-cells e g broken given step is isOk isOut =
       planes-same (C .base) _ _ (λ p s hp hs.

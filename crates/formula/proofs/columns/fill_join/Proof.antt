@@ -59,10 +59,11 @@ part-write-column-end c = search needs
 
 write-column-requires : tie.Need-write-column-requires Inv-loop μ-loop
 write-column-requires c κs =
+    let work = c .before .before .before .before .before .before .before .loop .work in
     let size = c .before .before .before .before .before .before .before .loop .inv .1 .size in
     let fits = c .before .before .before .before .before .before .before .before .before .pre .0 in
     let taken = c .before .before .before .before .before .before .loop-test .taken in
-    let part = mid-len (c .before .before .before .before .before .before .before .before .before .args .k * 1024) (length (c .before .before .before .before .before .before .before .loop .work)) (c .before .before .before .before .before .before .before .loop .work) (le-refl (length (c .before .before .before .before .before .before .before .loop .work))) in
+    let part = mid-len (c .before .before .before .before .before .before .before .before .before .args .k * 1024) (length work) work (le-refl (length work)) in
     omega arith
 
 add-c : tie.Need-add-c Inv-loop μ-loop
@@ -73,10 +74,13 @@ loop-less c = search needs
 
 loop-again : tie.Need-loop-again Inv-loop μ-loop
 loop-again c =
-    let below = c .before .before .before .before .before .before .before .before .before .before .before .before .pre .1 in (
+    let below = c .before .before .before .before .before .before .before .before .before .before .before .before .pre .1 in
+    let left = c .before .before .before .before .before .before .before .read-column .ensures in
+    let right = c .before .before .before .before .before .read-column2 .ensures in
+    let made = c .before .before .before .before .combined-column .ensures in (
       omega arith,
       column-made (c .before .before .before .before .before .before .before .before .before .before .before .before .pre .0) (c .before .before .before .before .before .before .before .before .before .loop-test .taken) (search needs)
-          (λ earlier. c .before .before .before .before .combined-column .ensures ∙ ap₂ (combinedColumn Merging) (c .before .before .before .before .before .before .before .read-column .ensures ∙ earlier _ (below .0)) (c .before .before .before .before .before .read-column2 .ensures ∙ earlier _ (below .1)))
+          (λ earlier. made ∙ ap₂ (combinedColumn Merging) (left ∙ earlier _ (below .0)) (right ∙ earlier _ (below .1)))
           (c .before .before .write-column .ensures) (c .before .before .before .before .before .before .before .before .before .before .loop .inv .1),
     )
 

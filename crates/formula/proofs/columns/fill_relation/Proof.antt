@@ -38,10 +38,11 @@ part-write-column-end c = search needs
 
 write-column-requires : tie.Need-write-column-requires Inv-loop μ-loop
 write-column-requires c κs =
+    let work = c .before .before .loop .work in
     let size = c .before .before .loop .inv .1 .size in
     let fits = c .before .before .before .before .pre in
     let taken = c .before .loop-test .taken in
-    let part = mid-len (c .before .before .before .before .args .k * 1024) (length (c .before .before .loop .work)) (c .before .before .loop .work) (le-refl (length (c .before .before .loop .work))) in
+    let part = mid-len (c .before .before .before .before .args .k * 1024) (length work) work (le-refl (length work)) in
     omega arith
 
 add-c : tie.Need-add-c Inv-loop μ-loop

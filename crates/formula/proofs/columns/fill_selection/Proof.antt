@@ -60,10 +60,11 @@ part-write-column-end c = search needs
 
 write-column-requires : tie.Need-write-column-requires Inv-loop μ-loop
 write-column-requires c κs =
+    let work = c .before .before .before .before .before .before .before .loop .work in
     let size = c .before .before .before .before .before .before .before .loop .inv .1 .size in
     let fits = c .before .before .before .before .before .before .before .before .before .pre .0 in
     let taken = c .before .before .before .before .before .before .loop-test .taken in
-    let part = mid-len (c .before .before .before .before .before .before .before .before .before .args .k * 1024) (length (c .before .before .before .before .before .before .before .loop .work)) (c .before .before .before .before .before .before .before .loop .work) (le-refl (length (c .before .before .before .before .before .before .before .loop .work))) in
+    let part = mid-len (c .before .before .before .before .before .before .before .before .before .args .k * 1024) (length work) work (le-refl (length work)) in
     omega arith
 
 add-c : tie.Need-add-c Inv-loop μ-loop
@@ -73,12 +74,14 @@ loop-less : tie.Need-loop-less Inv-loop μ-loop
 loop-less c = search needs
 
 loop-again : tie.Need-loop-again Inv-loop μ-loop
-loop-again c = (
-  omega arith,
-  column-made (c .before .before .before .before .before .before .before .before .before .before .before .before .pre .0) (c .before .before .before .before .before .before .before .before .before .loop-test .taken) (search needs)
-      (λ earlier. c .before .before .before .before .unary-column .ensures ∙ ap₂ unaryColumn (c .before .before .before .before .before .before .before .set-step .ensures ∙ ap (setStep Selection) (c .before .before .before .before .before .before .before .before .has .ensures)) (c .before .before .before .before .before .read-column .ensures ∙ earlier _ (c .before .before .before .before .before .before .before .before .before .before .before .before .pre .1)))
-      (c .before .before .write-column .ensures) (c .before .before .before .before .before .before .before .before .before .before .loop .inv .1),
-)
+loop-again c =
+    let operand = c .before .before .before .before .before .read-column .ensures in
+    let step = c .before .before .before .before .before .before .before .set-step .ensures ∙ ap (setStep Selection) (c .before .before .before .before .before .before .before .before .has .ensures) in
+    let made = c .before .before .before .before .unary-column .ensures in (
+      omega arith,
+      column-made (c .before .before .before .before .before .before .before .before .before .before .before .before .pre .0) (c .before .before .before .before .before .before .before .before .before .loop-test .taken) (search needs) (λ earlier. made ∙ ap₂ unaryColumn step (operand ∙ earlier _ (c .before .before .before .before .before .before .before .before .before .before .before .before .pre .1)))
+          (c .before .before .write-column .ensures) (c .before .before .before .before .before .before .before .before .before .before .loop .inv .1),
+    )
 
 same-length : tie.Need-same-length Inv-loop μ-loop
 same-length c = c .before .loop .inv .1 .size
