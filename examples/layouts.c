@@ -2,7 +2,7 @@
  * Layouts of a query: prints, for the last node of an expression file, the witness schema, the
  * output record under it, its instantiation, and the schema that the instantiation gives back.
  * Bytes are hexadecimal. The file is named on the command line; without a name it is examples/e1.
- * gcc -std=c11 -Iinclude examples/layouts.c target/staticlib/libexports.a -o target/layouts
+ * gcc -std=c99 -Iinclude examples/layouts.c target/staticlib/libtype_formula.a -o target/layouts
  */
 #include <stdio.h>
 
@@ -37,7 +37,7 @@ static void print_bytes(const char *name, const uint8_t *bytes, size_t size)
 
 static int refused(const char *operation, uint8_t number)
 {
-    printf("%s refused %d\n", operation, number);
+    printf("%s refused %d: %s\n", operation, number, type_formula_refusal_text(number));
     return 1;
 }
 

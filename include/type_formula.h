@@ -1,6 +1,7 @@
 /*
- * Type formulas of relational-algebra expressions: the operations for callers in C and C++.
- * Link with libexports.a. "Document 01" is the paper that decides on the bytes.
+ * Type formulas of relational-algebra expressions: the operations for callers in C (C99 and later)
+ * and C++. Link with libtype_formula.a, which the command 'rt staticlib type_formula' writes to
+ * target/staticlib. "FORMAT" is docs/FORMAT.md: what the bytes are and what the operations answer.
  *
  * What the boundary assumes
  *
@@ -20,6 +21,12 @@
 #ifdef __cplusplus
 extern "C" {
 #endif
+
+/* The version of this header and of the archive, and as one number: 10,000 major + 100 minor + patch. */
+#define TYPE_FORMULA_VERSION_MAJOR 0
+#define TYPE_FORMULA_VERSION_MINOR 1
+#define TYPE_FORMULA_VERSION_PATCH 0
+#define TYPE_FORMULA_VERSION 100
 
 /* The most relations of an expression file. */
 #define TYPE_FORMULA_MOST_RELATIONS 8
@@ -43,49 +50,49 @@ extern "C" {
 /* The answer of Verdict where no schema types the node. */
 #define TYPE_FORMULA_UNTYPABLE 255
 
-/* The refusals. An answer is the number of the first that applies, in the order of document 01. */
+/* The refusals (FORMAT 8.1). An answer is the number of the first that applies (FORMAT 8.5). */
 enum type_formula_refusal {
-    /* Fewer than two bytes. */
+    /* The file has fewer than two bytes. */
     TYPE_FORMULA_HEADER_TRUNCATED = 1,
-    /* The relation count m is outside its range, 1 to 8. */
+    /* The relation count m is not 1 to 8. */
     TYPE_FORMULA_RELATION_COUNT = 2,
-    /* The node count n is outside its range, 1 to 64. */
+    /* The node count n is not 1 to 64. */
     TYPE_FORMULA_NODE_COUNT = 3,
-    /* The bytes end before or within a node. */
+    /* The file ends before a node, or within one. */
     TYPE_FORMULA_NODE_TRUNCATED = 4,
-    /* The map is not legal. */
+    /* The node's map is none of the five legal ones. */
     TYPE_FORMULA_NODE_MAP = 5,
-    /* The code is not one of its map's. */
+    /* The operator code is none of its map's. */
     TYPE_FORMULA_OPERATOR_CODE = 6,
-    /* The relation number is not below m. */
+    /* The relation's number is not below m. */
     TYPE_FORMULA_RELATION_NUMBER = 7,
-    /* The operand is not earlier. */
+    /* The operand's number is not below the node's own. */
     TYPE_FORMULA_OPERAND = 8,
-    /* The attribute is not 1 to 15, or bit 0 stands in a set. */
+    /* An attribute is not 1 to 15, or bit 0 of a set stands. */
     TYPE_FORMULA_ATTRIBUTE = 9,
-    /* There are bytes after the last node. */
+    /* Bytes follow the last node. */
     TYPE_FORMULA_NODES_FOLLOWED = 10,
-    /* The node asked is not below n. */
+    /* The node asked for is not below n. */
     TYPE_FORMULA_NODE_NUMBER = 11,
-    /* The work space is under 1,024 n bytes. */
+    /* The work space has fewer than 1,024 n bytes. */
     TYPE_FORMULA_WORK_SPACE = 12,
-    /* A result slice is under 513 (output record), 4,104 (schema) or 812 bytes (instantiation). */
+    /* A result slice has fewer than 513 (output record), 4,104 (schema) or 812 bytes (instantiation). */
     TYPE_FORMULA_RESULT_SLICE = 13,
-    /* The schema or instantiation ends early. */
+    /* The schema or instantiation ends before its last record or list does. */
     TYPE_FORMULA_INPUT_TRUNCATED = 14,
     /* A count byte is 0. */
     TYPE_FORMULA_COUNT_ZERO = 15,
-    /* A listed attribute is below 16, or not above the one before. */
+    /* A listed attribute is below 16, or not above the one before it. */
     TYPE_FORMULA_LISTED_ATTRIBUTE = 16,
-    /* There are bytes left over after the schema or instantiation. */
+    /* Bytes follow the last record of a schema or the last list of an instantiation. */
     TYPE_FORMULA_INPUT_FOLLOWED = 17,
-    /* There are over 255 different ordinary attributes. */
+    /* A schema or an instantiation has more than 255 different ordinary attributes. */
     TYPE_FORMULA_TOO_MANY_ATTRIBUTES = 18,
     /* An attribute is in two lists of an instantiation. */
     TYPE_FORMULA_REPEATED_ATTRIBUTE = 19,
-    /* A standing bit is no type variable. */
+    /* A bit stands in the instantiation's plane that is no type variable of the node. */
     TYPE_FORMULA_TYPE_VARIABLE = 20,
-    /* A special attribute's subset is not allowed. */
+    /* The subset given to a special attribute is not allowed in its column. */
     TYPE_FORMULA_SPECIAL_SUBSET = 21
 };
 
@@ -149,6 +156,62 @@ uint8_t type_formula_apply(const uint8_t *file, size_t file_len, size_t node, co
 uint8_t type_formula_recover(const uint8_t *file, size_t file_len, size_t node, const uint8_t *schema,
                              size_t schema_len, uint8_t *work, size_t work_len, uint8_t *instantiation,
                              size_t instantiation_len, size_t *value);
+
+/*
+ * What an answer says, as text in English. For a number that is no refusal, 0 and 255 among them, it
+ * is "no refusal".
+ */
+static inline const char *type_formula_refusal_text(int answer)
+{
+    switch (answer) {
+    case TYPE_FORMULA_HEADER_TRUNCATED:
+        return "the file has fewer than two bytes (FORMAT 1.1)";
+    case TYPE_FORMULA_RELATION_COUNT:
+        return "the relation count is not 1 to 8 (FORMAT 1.1)";
+    case TYPE_FORMULA_NODE_COUNT:
+        return "the node count is not 1 to 64 (FORMAT 1.1)";
+    case TYPE_FORMULA_NODE_TRUNCATED:
+        return "the file ends before a node or within one (FORMAT 1.2)";
+    case TYPE_FORMULA_NODE_MAP:
+        return "the node's map is none of the five legal ones (FORMAT 1.4)";
+    case TYPE_FORMULA_OPERATOR_CODE:
+        return "the operator code is none of its map's (FORMAT 1.4)";
+    case TYPE_FORMULA_RELATION_NUMBER:
+        return "the relation's number is not below the relation count (FORMAT 1.3)";
+    case TYPE_FORMULA_OPERAND:
+        return "the operand's number is not below the node's own (FORMAT 1.3)";
+    case TYPE_FORMULA_ATTRIBUTE:
+        return "an attribute is not 1 to 15, or bit 0 of a set stands (FORMAT 1.3)";
+    case TYPE_FORMULA_NODES_FOLLOWED:
+        return "bytes follow the last node (FORMAT 1.1)";
+    case TYPE_FORMULA_NODE_NUMBER:
+        return "the node asked for is not below the node count (FORMAT 1.1)";
+    case TYPE_FORMULA_WORK_SPACE:
+        return "the work space has fewer than 1,024 bytes for each node (FORMAT 7.2)";
+    case TYPE_FORMULA_RESULT_SLICE:
+        return "a result slice has fewer than 513 bytes (output record), 4,104 (schema) or 812 "
+               "(instantiation) (FORMAT 9.8, 9.9, 9.11)";
+    case TYPE_FORMULA_INPUT_TRUNCATED:
+        return "the schema or instantiation ends before its last record or list does (FORMAT 8.4)";
+    case TYPE_FORMULA_COUNT_ZERO:
+        return "a count byte is 0 (FORMAT 4.3)";
+    case TYPE_FORMULA_LISTED_ATTRIBUTE:
+        return "a listed attribute is below 16, or not above the one before it (FORMAT 4.3)";
+    case TYPE_FORMULA_INPUT_FOLLOWED:
+        return "bytes follow the last record of the schema or the last list of the "
+               "instantiation (FORMAT 5.1, 6.1)";
+    case TYPE_FORMULA_TOO_MANY_ATTRIBUTES:
+        return "there are more than 255 different ordinary attributes (FORMAT 5.2, 6.2)";
+    case TYPE_FORMULA_REPEATED_ATTRIBUTE:
+        return "an attribute is in two lists of the instantiation (FORMAT 6.2)";
+    case TYPE_FORMULA_TYPE_VARIABLE:
+        return "a bit of the instantiation's plane is no type variable of the node (FORMAT 6.3)";
+    case TYPE_FORMULA_SPECIAL_SUBSET:
+        return "the subset given to a special attribute is not allowed in its column (FORMAT 6.3)";
+    default:
+        return "no refusal";
+    }
+}
 
 #ifdef __cplusplus
 }

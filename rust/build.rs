@@ -16,18 +16,22 @@ fn archive_directory() -> PathBuf {
     }
 }
 
-/// Packages that depend on this one get the directory as `DEP_EXPORTS_DIRECTORY`. Without an
-/// archive the crate can be checked and documented, but no program that calls it can be linked.
+/// Packages that depend on this one get the directory as `DEP_TYPE_FORMULA_DIRECTORY`. Without an
+/// archive the crate can be checked and documented; where it is linked, the build ends with an
+/// error, and the warning beside it says which command makes the archive.
 fn main() {
     let directory = archive_directory();
-    let archive = directory.join("libexports.a");
+    let archive = directory.join("libtype_formula.a");
     println!("cargo:rerun-if-env-changed={DIRECTORY_VARIABLE}");
     println!("cargo:rerun-if-changed={}", archive.display());
     println!("cargo:directory={}", directory.display());
-    if !archive.exists() {
-        println!("cargo:warning=no archive {}", archive.display());
-        return;
-    }
     println!("cargo:rustc-link-search=native={}", directory.display());
-    println!("cargo:rustc-link-lib=static=exports");
+    println!("cargo:rustc-link-lib=static=type_formula");
+    if !archive.exists() {
+        println!(
+            "cargo:warning=there is no {}; the command that makes it, \
+             run in the top folder of the repository, is: rt staticlib type_formula",
+            archive.display()
+        );
+    }
 }

@@ -4,6 +4,6 @@ use std::env;
 
 fn main() {
     println!("cargo:rerun-if-changed=build.rs");
-    let directory = env::var("DEP_EXPORTS_DIRECTORY").expect("given by type_formula");
+    let directory = env::var("DEP_TYPE_FORMULA_DIRECTORY").expect("given by type_formula");
     println!("cargo:rustc-env=TYPE_FORMULA_ARCHIVE_DIRECTORY={directory}");
 }

@@ -2,67 +2,94 @@
 //!
 //! An expression file holds the nodes of a query. The *type formula* of a node says under which
 //! schemas the node is well typed, and which attributes its result then has. The operations are
-//! compiled from proved code; this crate calls them with slices and gives their answers as enums.
-//! Each operation gives its result or the first [`Refusal`] that applies.
+//! compiled from proved code; this crate calls them with slices. It needs no allocator and no
+//! standard library. "FORMAT" is `docs/FORMAT.md` of the repository: what the bytes are and what
+//! the operations answer, clause by clause.
+//!
+//! Each operation gives its result, or the first [`Refusal`] that applies:
 //!
 //! | Operation | Takes | Gives |
 //! |---|---|---|
-//! | [`accept`] | a file | its counts |
+//! | [`accept`] | a file | the [`Expression`], with its counts |
 //! | [`record`] | a file, a node | the part of the file that holds the node |
-//! | [`read_node`] | bytes | the node at their front |
-//! | [`formula`] | a file | the formulas of all nodes, in the work space |
-//! | [`verdict`] | a file, a node | a schema that types the node, or that there is none |
-//! | [`typing`] | a file, a node, a schema | the output record, or that the schema types nothing |
-//! | [`apply`] | a file, a node, an instantiation | its schema and output record |
-//! | [`recover`] | a file, a node, a schema | its instantiation |
+//! | [`read_node`] | bytes | the [`Node`] at their front, and its length |
+//! | [`formula`] | a file | the [`Formulas`] of all nodes, in the work space |
+//! | [`verdict`] | a file, a node | a [`Schema`] that types the node, or that there is none |
+//! | [`typing`] | a file, a node, a schema | the output [`TypeRecord`], or untyped |
+//! | [`apply`] | a file, a node, an instantiation | its [`Schema`] and output [`TypeRecord`] |
+//! | [`recover`] | a file, a node, a schema | its [`Instantiation`], or untyped |
+//!
+//! Results are views of the part that was written of a lent slice: each gives its bytes, its parts
+//! and its text. Inputs are built by [`ExpressionBuilder`], [`SchemaBuilder`] and
+//! [`InstantiationBuilder`], or are bytes of any origin.
 //!
 //! # A whole use
 //!
-//! A report author has the query σ{2,3}((ρ1/2(r0) ∪ r1) ⋈ r2). A database keeper, whose tables r0,
-//! r1 and r2 have the attributes {1,3}, {2,3} and {}, wants to add the column 20.
+//! A report author has the query σ{2,3}((ρ1/2(r0) ∪ r1) ⋈ r2). A database keeper has the tables
+//! r0(a1, a3), r1(a2, a3) and r2(), and wants to add the column 20.
 //!
 //! ```
 //! use type_formula::*;
 //!
-//! let query = [
-//!     3, 7, // three relations, seven nodes
-//!     0x01, 0, // node 0: r0
-//!     0x62, 0, 1, 2, // node 1: node 0 with 1 renamed into 2
-//!     0x01, 1, // node 2: r1
-//!     0x0e, 1, 2, 1, // node 3: the union of nodes 1 and 2
-//!     0x01, 2, // node 4: r2
-//!     0x0e, 3, 4, 3, // node 5: the natural join of nodes 3 and 4
-//!     0x1a, 5, 5, 0x0c, 0, // node 6: the selection {2,3} of node 5
-//! ];
-//! assert_eq!(accept(&query), Acceptance::Accepted { relations: 3, nodes: 7 });
+//! let mut query = ExpressionBuilder::new(3)?;
+//! let r0 = query.relation(0)?;
+//! let renamed = query.renaming(r0, 1, 2)?;
+//! let r1 = query.relation(1)?;
+//! let united = query.union(renamed, r1)?;
+//! let r2 = query.relation(2)?;
+//! let joined = query.join(united, r2)?;
+//! let last = usize::from(query.selection(joined, [2, 3])?);
+//! let file = query.expression()?.bytes();
 //!
 //! let mut work = [0; WORK_SIZE];
 //! let (mut schema, mut out) = ([0; SCHEMA_SIZE], [0; OUTPUT_SIZE]);
-//! let mut instantiation = [0; INSTANTIATION_SIZE];
+//! let mut result = [0; INSTANTIATION_SIZE];
 //!
-//! // Under the keeper's schema the result has the attributes 2 and 3.
-//! let tables = [0x0a, 0, 0x0c, 0, 0, 0];
-//! assert_eq!(typing(&query, 6, &tables, &mut out), Typing::Typed(&[0x0c, 0]));
+//! // The formula: a line for each relation with its type variables, one for the output, and one
+//! // for each attribute that the query names, with the subsets of the relations that may have it.
+//! let text = "\
+//! node 6 typable
+//! r0: 03 07
+//! r1: 03 07
+//! r2: 04 07
+//! out: 03 04 07
+//! a1: 01- 05+
+//! a2: 02+ 06+
+//! a3: 03+ 04+ 07+
+//! ";
+//! assert_eq!(formula(file, &mut work)?.last().to_string(), text);
+//!
+//! // Under the keeper's schema the result has the columns 2 and 3.
+//! let mut tables = SchemaBuilder::new();
+//! for columns in [&[1, 3][..], &[2, 3], &[]] {
+//!     tables.relation(columns.iter().copied())?;
+//! }
+//! let tables = tables.schema()?.bytes();
+//! match typing(file, last, tables, &mut out)? {
+//!     Typing::Typed(output) => assert_eq!(output.to_string(), "(a2, a3)"),
+//!     Typing::Untyped => panic!("the query is typed"),
+//! }
 //!
 //! // With column 20 in r0 alone the query would no longer be typed.
-//! let in_r0 = [0x0b, 0, 1, 20, 0, 0x0c, 0, 0, 0];
-//! assert_eq!(typing(&query, 6, &in_r0, &mut out), Typing::Untyped);
+//! let mut wider = SchemaBuilder::new();
+//! for columns in [&[1, 3, 20][..], &[2, 3], &[]] {
+//!     wider.relation(columns.iter().copied())?;
+//! }
+//! let wider = wider.schema()?.bytes();
+//! assert_eq!(typing(file, last, wider, &mut out), Ok(Typing::Untyped));
 //!
-//! // The instantiation of the keeper's schema: a subset for each special attribute, no lists.
-//! let recovery = recover(&query, 6, &tables, &mut work, &mut instantiation);
-//! let Recovery::Recovered(recovered) = recovery else { panic!("{recovery:?}") };
-//! assert_eq!(recovered[..3], [0x01, 0x02, 0x03]);
-//!
-//! // The type variable 03, which r0 and r1 declare, can take the column: its bit, and its list.
-//! let mut wider = recovered.to_vec();
-//! wider[15] = 1 << 3;
-//! wider.extend([1, 20, 0]);
-//! let application = apply(&query, 6, &wider, &mut work, &mut schema, &mut out);
-//! let wanted = Application::Applied {
-//!     schema: &[0x0b, 0, 1, 20, 0, 0x0d, 0, 1, 20, 0, 0, 0],
-//!     output: &[0x0d, 0, 1, 20, 0],
+//! // The type variable 03, which r0 and r1 declare, can take the column.
+//! let recovered = match recover(file, last, tables, &mut work, &mut result)? {
+//!     Recovery::Recovered(instantiation) => instantiation,
+//!     Recovery::Untyped => panic!("the query is typed"),
 //! };
-//! assert_eq!(application, wanted);
+//! assert_eq!(recovered.to_string(), "a1: 01\na2: 02\na3: 03\n");
+//! let mut with_20 = InstantiationBuilder::from(recovered);
+//! with_20.add_to_list(0b011, 20)?;
+//! let applied = apply(file, last, with_20.bytes(), &mut work, &mut schema, &mut out)?;
+//! assert_eq!(applied.schema.to_string(), "r0(a1, a3, 20), r1(a2, a3, 20), r2()");
+//! assert_eq!(applied.output.to_string(), "(a2, a3, 20)");
+//! # Ok::<(), Refusal>(())
 //! ```
 //!
 //! # What the boundary assumes
@@ -72,27 +99,42 @@
 //! exclusive references ensure all of it, so every function outside [`c`] is safe with any
 //! arguments. The functions keep no pointer and have no global state; threads may call them at the
 //! same time. Nothing is assumed about the bytes: any bytes get an answer.
+//!
+//! # The archive
+//!
+//! The compiled functions are in `libtype_formula.a`, which `rt staticlib type_formula`, run in the
+//! top folder of the repository, writes to `target/staticlib`. The environment variable
+//! `TYPE_FORMULA_ARCHIVE_DIR` names another folder.
+#![no_std]
 #![deny(missing_docs)]
 #![deny(unsafe_code)]
 
-mod answers;
-pub mod c;
-mod files;
-mod formulas;
-mod instantiations;
-mod node;
-mod refusal;
-mod schemas;
-mod sizes;
+#[cfg(test)]
+extern crate std;
 
-pub use answers::{Acceptance, Application, Formula, Reading, Recovery, Typing, Verdict};
-pub use files::{accept, read_node, record};
-pub use formulas::{formula, verdict};
-pub use instantiations::{apply, recover};
+/// The version of the crate, and of the header and the archive that belong to it.
+pub const VERSION: &str = env!("CARGO_PKG_VERSION");
+
+mod attributes;
+mod builders;
+pub mod c;
+mod node;
+mod operations;
+mod refusal;
+mod sizes;
+mod views;
+
+pub use builders::{ExpressionBuilder, InstantiationBuilder, SchemaBuilder};
 pub use node::{BinaryOp, Node, SetOp};
-pub use refusal::Refusal;
-pub use schemas::typing;
+pub use operations::{
+    accept, apply, formula, read_node, record, recover, typing, verdict, Application, Recovery,
+    Typing, Verdict,
+};
+pub use refusal::{Refusal, UnknownRefusal};
 pub use sizes::{
     FORMULA_SIZE, INSTANTIATION_SIZE, LONGEST_FILE, MOST_NODES, MOST_RELATIONS, OUTPUT_SIZE,
     SCHEMA_SIZE, WORK_SIZE,
+};
+pub use views::{
+    Expression, Formula, Formulas, Instantiation, List, Lists, Nodes, Records, Schema, TypeRecord,
 };

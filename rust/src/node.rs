@@ -1,16 +1,20 @@
 //! Nodes of an expression.
 
+use core::fmt::{self, Display, Formatter};
+
+use crate::attributes::{specials, write_attributes, Attribute};
+
 /// An operator of two operands, with its code.
 #[derive(Clone, Copy, Debug, PartialEq, Eq, Hash)]
 #[repr(u8)]
 pub enum BinaryOp {
-    /// Both operands have the same type, which is the result.
+    /// Both operands have the same type, which is the result's.
     Union = 1,
-    /// Both operands have the same type, which is the result.
+    /// Both operands have the same type, which is the result's.
     Difference = 2,
-    /// The natural join: the result is the union of both types.
+    /// The natural join: the result has all attributes of either operand.
     Join = 3,
-    /// As the natural join, of disjoint types.
+    /// As the natural join, of operands that have no attribute in common.
     Product = 4,
 }
 
@@ -18,13 +22,20 @@ pub enum BinaryOp {
 #[derive(Clone, Copy, Debug, PartialEq, Eq, Hash)]
 #[repr(u8)]
 pub enum SetOp {
-    /// The set lies within the type, which stays.
+    /// The operand has each attribute of the set; the result has the operand's type.
     Selection = 5,
-    /// The set lies within the type and is the result.
+    /// The operand has each attribute of the set, which is the result's type.
     Projection = 6,
 }
 
-/// A node. An operand is the number of an earlier node.
+/// A node (FORMAT 1.4). An operand is the number of an earlier node.
+///
+/// ```
+/// use type_formula::{Node, SetOp};
+///
+/// let node = Node::WithSet { op: SetOp::Selection, operand: 5, set: 0b1100 };
+/// assert_eq!(node.to_string(), "selection {a2, a3} of node 5");
+/// ```
 #[derive(Clone, Copy, Debug, PartialEq, Eq, Hash)]
 pub enum Node {
     /// A relation.
@@ -47,7 +58,7 @@ pub enum Node {
         op: SetOp,
         /// The operand.
         operand: u8,
-        /// The set: bit i stands for attribute i, and bit 0 is clear.
+        /// The set: bit i stands for attribute i, 1 to 15, and bit 0 is clear.
         set: u16,
     },
     /// Renaming of an attribute.
@@ -67,6 +78,9 @@ pub enum Node {
         old: u8,
     },
 }
+
+/// The most bytes of a node.
+pub const LONGEST_NODE: usize = 5;
 
 /// The operator of a code, at map 14.
 fn binary_op(code: u8) -> BinaryOp {
@@ -90,7 +104,7 @@ fn set_op(code: u8) -> SetOp {
 
 impl Node {
     /// The node of a legal map and of its fields in bit order.
-    pub(crate) fn from_bytes(bytes: [u8; 5]) -> Node {
+    pub(crate) fn from_bytes(bytes: [u8; LONGEST_NODE]) -> Node {
         match bytes {
             [1, relation, ..] => Node::Relation { relation },
             [14, left, right, code, _] => Node::Binary {
@@ -106,6 +120,72 @@ impl Node {
             [98, operand, old, new, _] => Node::Renaming { operand, old, new },
             [34, operand, old, ..] => Node::ProjectingOut { operand, old },
             _ => unreachable!("the reader refuses other maps"),
+        }
+    }
+
+    /// The map and the fields in bit order, with zeros after them, and their number.
+    pub(crate) fn to_bytes(self) -> ([u8; LONGEST_NODE], usize) {
+        match self {
+            Node::Relation { relation } => ([1, relation, 0, 0, 0], 2),
+            Node::Binary { op, left, right } => ([14, left, right, op as u8, 0], 4),
+            Node::WithSet { op, operand, set } => {
+                let [low, high] = set.to_le_bytes();
+                ([26, operand, op as u8, low, high], 5)
+            }
+            Node::Renaming { operand, old, new } => ([98, operand, old, new, 0], 4),
+            Node::ProjectingOut { operand, old } => ([34, operand, old, 0, 0], 3),
+        }
+    }
+
+    /// The set of the attributes that the node names.
+    pub(crate) fn named(self) -> u16 {
+        match self {
+            Node::Relation { .. } | Node::Binary { .. } => 0,
+            Node::WithSet { set, .. } => set,
+            Node::Renaming { old, new, .. } => 1 << old | 1 << new,
+            Node::ProjectingOut { old, .. } => 1 << old,
+        }
+    }
+}
+
+impl Display for BinaryOp {
+    fn fmt(&self, f: &mut Formatter<'_>) -> fmt::Result {
+        f.pad(match self {
+            BinaryOp::Union => "union",
+            BinaryOp::Difference => "difference",
+            BinaryOp::Join => "natural join",
+            BinaryOp::Product => "product",
+        })
+    }
+}
+
+impl Display for SetOp {
+    fn fmt(&self, f: &mut Formatter<'_>) -> fmt::Result {
+        f.pad(match self {
+            SetOp::Selection => "selection",
+            SetOp::Projection => "projection",
+        })
+    }
+}
+
+impl Display for Node {
+    fn fmt(&self, f: &mut Formatter<'_>) -> fmt::Result {
+        let attribute = |number: u8| Attribute(u16::from(number));
+        match *self {
+            Node::Relation { relation } => write!(f, "r{relation}"),
+            Node::Binary { op, left, right } => write!(f, "{op} of nodes {left} and {right}"),
+            Node::WithSet { op, operand, set } => {
+                write!(f, "{op} {{")?;
+                write_attributes(f, specials(set))?;
+                write!(f, "}} of node {operand}")
+            }
+            Node::Renaming { operand, old, new } => {
+                let (old, new) = (attribute(old), attribute(new));
+                write!(f, "renaming of {old} into {new} in node {operand}")
+            }
+            Node::ProjectingOut { operand, old } => {
+                write!(f, "projecting {} out of node {operand}", attribute(old))
+            }
         }
     }
 }

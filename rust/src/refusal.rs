@@ -1,101 +1,143 @@
-//! The refusals by name, and their numbers.
+//! The refusals by name, with their numbers and texts.
 
-use std::error::Error;
-use std::fmt;
+use core::error::Error;
+use core::fmt;
 
-/// Why an operation gives no result; each with its number in the table of document 01.
-///
-/// An operation gives the first refusal that applies, in the order of document 01.
+/// Why an operation gives no result (FORMAT 8.1). An operation gives the first refusal that
+/// applies in its order of tests (FORMAT 8.5). Later versions may have more of them.
 #[derive(Clone, Copy, Debug, PartialEq, Eq, Hash)]
+#[non_exhaustive]
 #[repr(u8)]
 pub enum Refusal {
-    /// Fewer than two bytes.
+    /// The file has fewer than two bytes.
     HeaderTruncated = 1,
-    /// The relation count m is outside its range, 1 to 8.
+    /// The relation count m is not 1 to 8.
     RelationCount = 2,
-    /// The node count n is outside its range, 1 to 64.
+    /// The node count n is not 1 to 64.
     NodeCount = 3,
-    /// The bytes end before or within a node.
+    /// The file ends before a node, or within one.
     NodeTruncated = 4,
-    /// The map is not legal.
+    /// The node's map is none of the five legal ones.
     NodeMap = 5,
-    /// The code is not one of its map's.
+    /// The operator code is none of its map's.
     OperatorCode = 6,
-    /// The relation number is not below m.
+    /// The relation's number is not below m.
     RelationNumber = 7,
-    /// The operand is not earlier.
+    /// The operand's number is not below the node's own.
     Operand = 8,
-    /// The attribute is not 1 to 15, or bit 0 stands in a set.
+    /// An attribute is not 1 to 15, or bit 0 of a set stands.
     Attribute = 9,
-    /// There are bytes after the last node.
+    /// Bytes follow the last node.
     NodesFollowed = 10,
-    /// The node asked is not below n.
+    /// The node asked for is not below n.
     NodeNumber = 11,
-    /// The work space is under 1,024 n bytes.
+    /// The work space has fewer than 1,024 n bytes.
     WorkSpace = 12,
-    /// A result slice is under 513 (output record), 4,104 (schema) or 812 bytes (instantiation).
+    /// A result slice has fewer than 513 (output record), 4,104 (schema) or 812 bytes
+    /// (instantiation).
     ResultSlice = 13,
-    /// The schema or instantiation ends early.
+    /// The schema or instantiation ends before its last record or list does.
     InputTruncated = 14,
     /// A count byte is 0.
     CountZero = 15,
-    /// A listed attribute is below 16, or not above the one before.
+    /// A listed attribute is below 16, or not above the one before it.
     ListedAttribute = 16,
-    /// There are bytes left over after the schema or instantiation.
+    /// Bytes follow the last record of a schema or the last list of an instantiation.
     InputFollowed = 17,
-    /// There are over 255 different ordinary attributes.
+    /// A schema or an instantiation has more than 255 different ordinary attributes.
     TooManyAttributes = 18,
     /// An attribute is in two lists of an instantiation.
     RepeatedAttribute = 19,
-    /// A standing bit is no type variable.
+    /// A bit stands in the instantiation's plane that is no type variable of the node.
     TypeVariable = 20,
-    /// A special attribute's subset is not allowed.
+    /// The subset given to a special attribute is not allowed in its column.
     SpecialSubset = 21,
 }
 
-/// Each refusal with its condition in document 01's words, by number from 1.
-const CONDITIONS: [(Refusal, &str); 21] = [
-    (Refusal::HeaderTruncated, "fewer than two bytes"),
-    (Refusal::RelationCount, "m outside its range"),
-    (Refusal::NodeCount, "n outside its range"),
-    (Refusal::NodeTruncated, "bytes end before or within a node"),
-    (Refusal::NodeMap, "map not legal"),
-    (Refusal::OperatorCode, "code not one of its map's"),
-    (Refusal::RelationNumber, "relation number not below m"),
-    (Refusal::Operand, "operand not earlier"),
+/// Each refusal with its text, by number from 1. `include/type_formula.h` has the same texts.
+const TEXTS: [(Refusal, &str); 21] = [
+    (
+        Refusal::HeaderTruncated,
+        "the file has fewer than two bytes (FORMAT 1.1)",
+    ),
+    (
+        Refusal::RelationCount,
+        "the relation count is not 1 to 8 (FORMAT 1.1)",
+    ),
+    (
+        Refusal::NodeCount,
+        "the node count is not 1 to 64 (FORMAT 1.1)",
+    ),
+    (
+        Refusal::NodeTruncated,
+        "the file ends before a node or within one (FORMAT 1.2)",
+    ),
+    (
+        Refusal::NodeMap,
+        "the node's map is none of the five legal ones (FORMAT 1.4)",
+    ),
+    (
+        Refusal::OperatorCode,
+        "the operator code is none of its map's (FORMAT 1.4)",
+    ),
+    (
+        Refusal::RelationNumber,
+        "the relation's number is not below the relation count (FORMAT 1.3)",
+    ),
+    (
+        Refusal::Operand,
+        "the operand's number is not below the node's own (FORMAT 1.3)",
+    ),
     (
         Refusal::Attribute,
-        "attribute not 1 to 15, or bit 0 in a set",
+        "an attribute is not 1 to 15, or bit 0 of a set stands (FORMAT 1.3)",
     ),
-    (Refusal::NodesFollowed, "bytes after the last node"),
-    (Refusal::NodeNumber, "node asked not below n"),
-    (Refusal::WorkSpace, "work space under 1,024 n bytes"),
+    (
+        Refusal::NodesFollowed,
+        "bytes follow the last node (FORMAT 1.1)",
+    ),
+    (
+        Refusal::NodeNumber,
+        "the node asked for is not below the node count (FORMAT 1.1)",
+    ),
+    (
+        Refusal::WorkSpace,
+        "the work space has fewer than 1,024 bytes for each node (FORMAT 7.2)",
+    ),
     (
         Refusal::ResultSlice,
-        "result slice under 513 (output record), 4,104 (schema) or 812 bytes (instantiation)",
+        "a result slice has fewer than 513 bytes (output record), 4,104 (schema) \
+         or 812 (instantiation) (FORMAT 9.8, 9.9, 9.11)",
     ),
     (
         Refusal::InputTruncated,
-        "schema or instantiation ends early",
+        "the schema or instantiation ends before its last record or list does (FORMAT 8.4)",
     ),
-    (Refusal::CountZero, "count byte 0"),
+    (Refusal::CountZero, "a count byte is 0 (FORMAT 4.3)"),
     (
         Refusal::ListedAttribute,
-        "listed attribute below 16, or not above the one before",
+        "a listed attribute is below 16, or not above the one before it (FORMAT 4.3)",
     ),
-    (Refusal::InputFollowed, "bytes left over"),
+    (
+        Refusal::InputFollowed,
+        "bytes follow the last record of the schema or the last list of the instantiation \
+         (FORMAT 5.1, 6.1)",
+    ),
     (
         Refusal::TooManyAttributes,
-        "over 255 different ordinary attributes",
+        "there are more than 255 different ordinary attributes (FORMAT 5.2, 6.2)",
     ),
     (
         Refusal::RepeatedAttribute,
-        "attribute in two lists of an instantiation",
+        "an attribute is in two lists of the instantiation (FORMAT 6.2)",
     ),
-    (Refusal::TypeVariable, "standing bit is no type variable"),
+    (
+        Refusal::TypeVariable,
+        "a bit of the instantiation's plane is no type variable of the node (FORMAT 6.3)",
+    ),
     (
         Refusal::SpecialSubset,
-        "special attribute's subset not allowed",
+        "the subset given to a special attribute is not allowed in its column (FORMAT 6.3)",
     ),
 ];
 
@@ -106,55 +148,82 @@ impl Refusal {
     /// use type_formula::Refusal;
     ///
     /// assert_eq!(Refusal::NodesFollowed.number(), 10);
-    /// assert_eq!(Refusal::NodesFollowed.to_string(), "bytes after the last node");
+    /// let text = "bytes follow the last node (FORMAT 1.1)";
+    /// assert_eq!(Refusal::NodesFollowed.to_string(), text);
     /// ```
-    pub fn number(self) -> u8 {
+    pub const fn number(self) -> u8 {
         self as u8
     }
 
-    /// The refusal of this number, if there is one.
-    ///
-    /// ```
-    /// use type_formula::Refusal;
-    ///
-    /// assert_eq!(Refusal::from_number(21), Some(Refusal::SpecialSubset));
-    /// assert_eq!(Refusal::from_number(22), None);
-    /// ```
-    pub fn from_number(number: u8) -> Option<Refusal> {
-        let place = usize::from(number).checked_sub(1)?;
-        CONDITIONS.get(place).map(|(refusal, _)| *refusal)
+    /// The text that `Display` writes.
+    pub const fn text(self) -> &'static str {
+        TEXTS[self as usize - 1].1
     }
 
     /// The refusal that a C function answered.
     pub(crate) fn answered(number: u8) -> Refusal {
-        Refusal::from_number(number).expect("an answer is 0, 255 or a refusal's number")
+        Refusal::try_from(number).expect("an answer is 0, 255 or a refusal's number")
     }
 }
 
 impl fmt::Display for Refusal {
     fn fmt(&self, f: &mut fmt::Formatter<'_>) -> fmt::Result {
-        f.write_str(CONDITIONS[usize::from(self.number()) - 1].1)
+        f.pad(self.text())
     }
 }
 
 impl Error for Refusal {}
 
+/// A number that is no refusal's.
+#[derive(Clone, Copy, Debug, PartialEq, Eq, Hash)]
+pub struct UnknownRefusal(pub u8);
+
+impl fmt::Display for UnknownRefusal {
+    fn fmt(&self, f: &mut fmt::Formatter<'_>) -> fmt::Result {
+        write!(f, "no refusal has the number {}", self.0)
+    }
+}
+
+impl Error for UnknownRefusal {}
+
+/// The refusal of a number.
+///
+/// ```
+/// use type_formula::{Refusal, UnknownRefusal};
+///
+/// assert_eq!(Refusal::try_from(21), Ok(Refusal::SpecialSubset));
+/// assert_eq!(Refusal::try_from(0), Err(UnknownRefusal(0)));
+/// ```
+impl TryFrom<u8> for Refusal {
+    type Error = UnknownRefusal;
+
+    fn try_from(number: u8) -> Result<Refusal, UnknownRefusal> {
+        let place = usize::from(number).checked_sub(1);
+        let entry = place.and_then(|place| TEXTS.get(place));
+        entry
+            .map(|(refusal, _)| *refusal)
+            .ok_or(UnknownRefusal(number))
+    }
+}
+
 #[cfg(test)]
 mod tests {
-    use super::{Refusal, CONDITIONS};
+    use super::{Refusal, UnknownRefusal, TEXTS};
+    use std::string::ToString;
 
     #[test]
-    fn conditions_are_by_number() {
-        for (number, (refusal, condition)) in (1..).zip(CONDITIONS) {
+    fn texts_are_by_number() {
+        for (number, (refusal, text)) in (1..).zip(TEXTS) {
             assert_eq!(refusal.number(), number);
-            assert_eq!(Refusal::from_number(number), Some(refusal));
-            assert_eq!(refusal.to_string(), condition);
+            assert_eq!(Refusal::try_from(number), Ok(refusal));
+            assert_eq!(refusal.to_string(), text);
         }
     }
 
     #[test]
     fn other_numbers_are_no_refusals() {
-        assert_eq!(Refusal::from_number(0), None);
-        assert!((22..=255).all(|number| Refusal::from_number(number).is_none()));
+        for number in [0].into_iter().chain(22..=255) {
+            assert_eq!(Refusal::try_from(number), Err(UnknownRefusal(number)));
+        }
     }
 }

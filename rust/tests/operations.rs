@@ -5,9 +5,7 @@ use std::thread;
 use type_formula::*;
 
 /// E1, selection {2,3} of (renaming 1 into 2 of r0, union r1) join r2.
-const E1: [u8; 25] = [
-    3, 7, 1, 0, 98, 0, 1, 2, 1, 1, 14, 1, 2, 1, 1, 2, 14, 3, 4, 3, 26, 5, 5, 12, 0,
-];
+const E1: &[u8] = include_bytes!("../../examples/e1");
 /// E2, the witness of E1.
 const WITNESS: [u8; 6] = [10, 0, 12, 0, 0, 0];
 /// The instantiation of the witness.
@@ -26,9 +24,10 @@ fn assert_stays(bytes: &[u8]) {
 
 #[test]
 fn accept_gives_the_counts_or_the_first_refusal() {
-    let (relations, nodes) = (3, 7);
-    assert_eq!(accept(&E1), Acceptance::Accepted { relations, nodes });
-    let refused = |file: &[u8], refusal| assert_eq!(accept(file), Acceptance::Refused(refusal));
+    let e1 = accept(E1).expect("accepted");
+    assert_eq!((e1.relation_count(), e1.node_count()), (3, 7));
+    assert_eq!(e1.bytes(), E1);
+    let refused = |file: &[u8], refusal| assert_eq!(accept(file), Err(refusal));
     refused(&[], Refusal::HeaderTruncated);
     refused(&[9, 65], Refusal::RelationCount);
     refused(&E1[..24], Refusal::NodeTruncated);
@@ -36,20 +35,19 @@ fn accept_gives_the_counts_or_the_first_refusal() {
 
 #[test]
 fn record_is_a_part_of_the_file() {
-    let part = record(&E1, 6);
+    let part = record(E1, 6).expect("a node");
     assert_eq!(part.as_ptr(), E1[20..].as_ptr());
     assert_eq!(part.len(), 5);
-    assert!(record(&E1, 7).is_empty());
-    assert!(record(&E1, usize::MAX).is_empty());
-    assert!(record(&E1[..24], 0).is_empty());
-    assert!(record(&[], 0).is_empty());
+    assert_eq!(record(E1, 7), Err(Refusal::NodeNumber));
+    assert_eq!(record(E1, usize::MAX), Err(Refusal::NodeNumber));
+    assert_eq!(record(&E1[..24], 0), Err(Refusal::NodeTruncated));
+    assert_eq!(record(&[], 0), Err(Refusal::HeaderTruncated));
 }
 
 #[test]
 fn read_node_gives_each_kind_of_node() {
     let reads = |bytes: &[u8], node| {
-        let size = bytes.len();
-        assert_eq!(read_node(3, 6, bytes), Reading::Read { node, size });
+        assert_eq!(read_node(3, 6, bytes), Ok((node, bytes.len())));
     };
     let (left, right, operand, old, new) = (5, 4, 3, 15, 1);
     reads(&[1, 2], Node::Relation { relation: 2 });
@@ -73,9 +71,7 @@ fn read_node_gives_each_kind_of_node() {
 
 #[test]
 fn read_node_gives_the_first_refusal() {
-    let refused = |bytes: &[u8], refusal| {
-        assert_eq!(read_node(3, 6, bytes), Reading::Refused(refusal));
-    };
+    let refused = |bytes: &[u8], refusal| assert_eq!(read_node(3, 6, bytes), Err(refusal));
     refused(&[], Refusal::NodeTruncated);
     refused(&[0], Refusal::NodeMap);
     refused(&[14, 0, 0, 5], Refusal::OperatorCode);
@@ -87,11 +83,12 @@ fn read_node_gives_the_first_refusal() {
 #[test]
 fn formula_fills_the_formulas_and_no_more() {
     let mut work = [BEFORE; 7 * FORMULA_SIZE + 1];
-    let refused = Formula::Refused(Refusal::WorkSpace);
-    assert_eq!(formula(&E1, &mut work[..7 * FORMULA_SIZE - 1]), refused);
+    let short = &mut work[..7 * FORMULA_SIZE - 1];
+    assert_eq!(formula(E1, short), Err(Refusal::WorkSpace));
     assert_stays(&work);
-    assert_eq!(formula(&E1, &mut work), Formula::Filled);
-    let last = &work[6 * FORMULA_SIZE..7 * FORMULA_SIZE];
+    let formulas = formula(E1, &mut work).expect("filled");
+    assert_eq!(formulas.bytes().len(), 7 * FORMULA_SIZE);
+    let last = formulas.last().bytes();
     assert_eq!((last[0], last[32]), (0x99, 0x98));
     assert_eq!((last[64], last[64 + 32]), (0x22, 0x20));
     assert_stays(&work[7 * FORMULA_SIZE..]);
@@ -100,14 +97,15 @@ fn formula_fills_the_formulas_and_no_more() {
 #[test]
 fn verdict_writes_the_witness() {
     let (mut work, mut schema) = ([BEFORE; WORK_SIZE], [BEFORE; SCHEMA_SIZE]);
-    let given = verdict(&E1, 7, &mut work, &mut schema);
-    assert_eq!(given, Verdict::Refused(Refusal::NodeNumber));
-    let given = verdict(&E1, 6, &mut work, &mut schema[1..]);
-    assert_eq!(given, Verdict::Refused(Refusal::ResultSlice));
+    let given = verdict(E1, 7, &mut work, &mut schema);
+    assert_eq!(given, Err(Refusal::NodeNumber));
+    let given = verdict(E1, 6, &mut work, &mut schema[1..]);
+    assert_eq!(given, Err(Refusal::ResultSlice));
     assert_stays(&work);
     assert_stays(&schema);
-    let given = verdict(&E1, 6, &mut work, &mut schema);
-    assert_eq!(given, Verdict::Typable(&WITNESS));
+    let given = verdict(E1, 6, &mut work, &mut schema);
+    let witness = Schema::read(3, &WITNESS).expect("a schema");
+    assert_eq!(given, Ok(Verdict::Typable(witness)));
     assert_stays(&schema[WITNESS.len()..]);
 }
 
@@ -117,7 +115,7 @@ fn verdict_names_the_attribute_of_an_untypable_node() {
     let file = [1, 3, 1, 0, 26, 0, 6, 12, 0, 26, 1, 5, 6, 0];
     let (mut work, mut schema) = ([BEFORE; WORK_SIZE], [BEFORE; SCHEMA_SIZE]);
     let given = verdict(&file, 2, &mut work, &mut schema);
-    assert_eq!(given, Verdict::Untypable { attribute: 1 });
+    assert_eq!(given, Ok(Verdict::Untypable { attribute: 1 }));
     assert_stays(&schema);
 }
 
@@ -125,13 +123,14 @@ fn verdict_names_the_attribute_of_an_untypable_node() {
 fn typing_writes_the_output_record() {
     let mut out = [BEFORE; OUTPUT_SIZE];
     let e4 = [11, 0, 1, 20, 0, 12, 0, 0, 0];
-    assert_eq!(typing(&E1, 6, &e4, &mut out), Typing::Untyped);
-    let given = typing(&E1, 6, &WITNESS[..5], &mut out);
-    assert_eq!(given, Typing::Refused(Refusal::InputTruncated));
+    assert_eq!(typing(E1, 6, &e4, &mut out), Ok(Typing::Untyped));
+    let given = typing(E1, 6, &WITNESS[..5], &mut out);
+    assert_eq!(given, Err(Refusal::InputTruncated));
     assert_stays(&out);
     let e3 = [11, 0, 1, 20, 0, 13, 0, 1, 20, 0, 0, 0];
-    let given = typing(&E1, 6, &e3, &mut out);
-    assert_eq!(given, Typing::Typed(&[13, 0, 1, 20, 0]));
+    let given = typing(E1, 6, &e3, &mut out);
+    let output = TypeRecord::read(&[13, 0, 1, 20, 0]).expect("a record");
+    assert_eq!(given, Ok(Typing::Typed(output)));
     assert_stays(&out[5..]);
 }
 
@@ -139,17 +138,14 @@ fn typing_writes_the_output_record() {
 fn apply_writes_schema_and_output_record() {
     let mut work = [BEFORE; WORK_SIZE];
     let (mut schema, mut out) = ([BEFORE; SCHEMA_SIZE], [BEFORE; OUTPUT_SIZE]);
-    let given = apply(&E1, 6, &[0; 47], &mut work, &mut schema, &mut out);
-    assert_eq!(given, Application::Refused(Refusal::SpecialSubset));
+    let given = apply(E1, 6, &[0; 47], &mut work, &mut schema, &mut out);
+    assert_eq!(given, Err(Refusal::SpecialSubset));
     assert_stays(&schema);
     assert_stays(&out);
-    let given = apply(&E1, 6, &INSTANTIATION, &mut work, &mut schema, &mut out);
-    let (image, output) = (&WITNESS[..], &[12, 0][..]);
-    let schema_and_output = Application::Applied {
-        schema: image,
-        output,
-    };
-    assert_eq!(given, schema_and_output);
+    let given = apply(E1, 6, &INSTANTIATION, &mut work, &mut schema, &mut out);
+    let given = given.expect("applied");
+    assert_eq!(given.schema.bytes(), WITNESS);
+    assert_eq!(given.output.bytes(), [12, 0]);
     assert_stays(&schema[WITNESS.len()..]);
     assert_stays(&out[2..]);
 }
@@ -157,15 +153,16 @@ fn apply_writes_schema_and_output_record() {
 #[test]
 fn recover_writes_the_instantiation() {
     let mut work = [BEFORE; WORK_SIZE];
-    let mut instantiation = [BEFORE; INSTANTIATION_SIZE];
-    let given = recover(&E1, 6, &[0; 6], &mut work, &mut instantiation);
-    assert_eq!(given, Recovery::Untyped);
-    let given = recover(&E1, 6, &[0; 7], &mut work, &mut instantiation);
-    assert_eq!(given, Recovery::Refused(Refusal::InputFollowed));
-    assert_stays(&instantiation);
-    let given = recover(&E1, 6, &WITNESS, &mut work, &mut instantiation);
-    assert_eq!(given, Recovery::Recovered(&INSTANTIATION));
-    assert_stays(&instantiation[INSTANTIATION.len()..]);
+    let mut result = [BEFORE; INSTANTIATION_SIZE];
+    let given = recover(E1, 6, &[0; 6], &mut work, &mut result);
+    assert_eq!(given, Ok(Recovery::Untyped));
+    let given = recover(E1, 6, &[0; 7], &mut work, &mut result);
+    assert_eq!(given, Err(Refusal::InputFollowed));
+    assert_stays(&result);
+    let given = recover(E1, 6, &WITNESS, &mut work, &mut result);
+    let wanted = Instantiation::read(&INSTANTIATION).expect("an instantiation");
+    assert_eq!(given, Ok(Recovery::Recovered(wanted)));
+    assert_stays(&result[INSTANTIATION.len()..]);
 }
 
 #[test]
@@ -173,8 +170,11 @@ fn threads_may_call_at_the_same_time() {
     let calls = || {
         let (mut work, mut schema) = (vec![BEFORE; WORK_SIZE], vec![BEFORE; SCHEMA_SIZE]);
         for _ in 0..1_000 {
-            let given = verdict(&E1, 6, &mut work, &mut schema);
-            assert_eq!(given, Verdict::Typable(&WITNESS));
+            let given = verdict(E1, 6, &mut work, &mut schema);
+            let Ok(Verdict::Typable(witness)) = given else {
+                panic!("{given:?}")
+            };
+            assert_eq!(witness.bytes(), WITNESS);
         }
     };
     thread::scope(|scope| {

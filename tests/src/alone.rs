@@ -2,9 +2,9 @@
 
 use crate::engine::{self, Lengths};
 use crate::examples::to_hexadecimal;
-use crate::generators::{least_for_apply, least_for_recover};
 use crate::input::Input;
 use crate::reference::FORMULA_LENGTH;
+use crate::slice_lengths::{least_for_apply, least_for_recover};
 
 /// Apply: schema and output record.
 pub fn applied(input: &Input, node: usize, instantiation: &[u8]) -> (Vec<u8>, Vec<u8>) {

@@ -1,21 +1,13 @@
 //! The C functions of the engine, wrapped safely: slices in, values out, and the numbers lent
-//! as a caller in C lends them; and a run of the listing program.
+//! as a caller in C lends them.
 //!
 //! The wrappers are inline, so that the benchmark measures the C functions alone.
-
-use std::env;
-use std::io::{ErrorKind, Write};
-use std::path::PathBuf;
-use std::process::{Command, Stdio};
 
 use type_formula::c::{
     type_formula_accept, type_formula_apply, type_formula_formula, type_formula_read_node,
     type_formula_record, type_formula_recover, type_formula_typing, type_formula_verdict,
 };
 pub use type_formula::c::{UNTYPABLE, UNTYPED};
-
-/// The environment variable for the path of the listing program.
-const LIST_PROGRAM_VARIABLE: &str = "TYPE_FORMULA_LIST_PROGRAM";
 
 /// The lengths that Apply writes.
 #[derive(Clone, Copy, Debug, Default, PartialEq, Eq)]
@@ -167,32 +159,4 @@ pub fn recover(
             value,
         )
     }
-}
-
-/// The path of the listing program: the environment variable, else the place where
-/// the build of the repository puts it.
-fn list_program() -> PathBuf {
-    match env::var_os(LIST_PROGRAM_VARIABLE) {
-        Some(path) => PathBuf::from(path),
-        None => PathBuf::from(env!("CARGO_MANIFEST_DIR")).join("../target/bin/list_formula"),
-    }
-}
-
-/// Runs the listing program on these bytes as its standard input and gives what it
-/// writes to standard output. The program may end before it has read all.
-pub fn list(file: &[u8]) -> Vec<u8> {
-    let path = list_program();
-    let mut program = Command::new(&path)
-        .stdin(Stdio::piped())
-        .stdout(Stdio::piped())
-        .spawn()
-        .unwrap_or_else(|error| panic!("{}: {error}", path.display()));
-    let mut input = program.stdin.take().expect("piped");
-    match input.write_all(file) {
-        Err(error) if error.kind() != ErrorKind::BrokenPipe => panic!("standard input: {error}"),
-        _ => drop(input),
-    }
-    let ended = program.wait_with_output().expect("standard output is read");
-    assert!(ended.status.code().is_some(), "{}", ended.status);
-    ended.stdout
 }

@@ -35,9 +35,7 @@ pub fn to_hexadecimal(bytes: &[u8]) -> String {
 /// E1, selection {2,3} of (renaming 1 into 2 of r0, union r1) join r2.
 pub fn e1() -> Example {
     Example {
-        bytes: from_hexadecimal(
-            "03 07 01 00 62 00 01 02 01 01 0e 01 02 01 01 02 0e 03 04 03 1a 05 05 0c 00",
-        ),
+        bytes: include_bytes!("../../examples/e1").to_vec(),
         relations: 3,
         nodes: 7,
         parts: vec![2..4, 4..8, 8..10, 10..14, 14..16, 16..20, 20..25],

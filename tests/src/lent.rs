@@ -2,7 +2,7 @@
 
 use std::ops::Range;
 
-use crate::random::Random;
+use crate::pseudorandom::Random;
 
 /// The bytes after each lent slice that must stay too.
 const AFTER: usize = 64;

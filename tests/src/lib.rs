@@ -4,19 +4,15 @@
 pub mod alone;
 /// Operations, their answers as numbers, and counts of them.
 pub mod answer;
-/// One call of an operation by the engine and by the reference, compared.
-pub mod comparison;
-/// Comparisons of a test, asserted and counted.
-pub mod comparisons;
 /// The C functions of the engine, wrapped safely.
 pub mod engine;
 /// Examples and edges of document 01 with their answers.
 pub mod examples;
+/// Inputs at the limits of counts.
+pub mod extreme_inputs;
 /// Examples of document 01 with the formula, verdict, typings and listing of their last
 /// node.
 pub mod formula_examples;
-/// Seeded generation of lengths and of files with instantiations.
-pub mod generators;
 /// An expression file with what the reference makes of it.
 pub mod input;
 /// Calls of Apply and Recover with their answers.
@@ -25,11 +21,25 @@ pub mod instantiation_examples;
 pub mod lent;
 /// A mixture of inputs of all operations.
 pub mod mixture;
-/// Seeded generation of files, assignments, instantiations and bytes.
-pub mod random;
+/// One call of an operation by the engine and by the reference, compared.
+pub mod paired_calls;
+/// Runs of the programs that the repository's build writes.
+pub mod programs;
+/// The pseudorandom number generator, and bytes.
+pub mod pseudorandom;
+/// Random attributes and assignments.
+pub mod random_assignments;
+/// Random nodes and expression files.
+pub mod random_expressions;
+/// Random instantiations, alone and with files.
+pub mod random_instantiations;
 /// The other implementation, written from document 01.
 pub mod reference;
 /// Calls of the reference alone.
 pub mod reference_calls;
+/// Lengths of slices around the least.
+pub mod slice_lengths;
+/// The run of a test: paired calls, asserted and counted.
+pub mod test_run;
 /// Calls of Typing with their answers.
 pub mod typing_examples;

@@ -2,7 +2,7 @@
 
 use std::fmt::Debug;
 
-use crate::random::Random;
+use crate::pseudorandom::Random;
 use crate::reference::{
     apply, infer, recover, typing, Apply, Inferred, Recover, Typing, BYTES_END_EARLY,
     BYTES_LEFT_OVER, FORMULA_LENGTH, INSTANTIATION_LENGTH, OUTPUT_LENGTH, SCHEMA_LENGTH,

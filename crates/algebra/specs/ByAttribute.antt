@@ -1,4 +1,5 @@
--- The typing rules, attribute by attribute: an expression has a type exactly when no attribute breaks a rule in its cell, and the cell says which are in the type.
+-- The typing rules, attribute by attribute: an expression has a type exactly when no attribute breaks a rule in its
+-- cell, and the cell says which are in the type.
 use Prim.Native.Nat.{ℕ}
 use mathlib.Core.Path.{_≡_, refl, sym, fun-ext, _∙_}
 use mathlib.Core.Bool.{true}
@@ -10,6 +11,7 @@ use Rattle.algebra.specs.Columns.{alike-column}
 use Rattle.algebra.specs.CellLaws.{cell-alike}
 use Rattle.algebra.specs.TypedCells.{okAt, outAt, typed-at, at-typed, retyped}
 
+-- attribute a breaks no rule in e under A, and t has it where the result does
 pub record CellOf (A : Assignment) (e : Expression) (t : Attrs) (a : ℕ) : Type 0 where
   pub allowed : ok plain e (column a) (λ r. A r a) ≡ true
   pub output : out plain e (column a) (λ r. A r a) ≡ t a

@@ -8,7 +8,14 @@ use Rattle.algebra.specs.Cell.{Kinds, out, ok, breaks, yields, breaksSet
 use Rattle.algebra.specs.Columns.{Alike, single, single-within, absent-zero}
 
 -- a cell depends on the column's special attribute and on the relations below m alone
-pub cell-alike : (K : Kinds) (m : ℕ) (e : Expression) → Legal m e → (c d : ℕ) → Alike c d → (held held′ : ℕ → K .Value) → ((r : ℕ) → r < m → held r ≡ held′ r) → (ok K e c held ≡ ok K e d held′) × (out K e c held ≡ out K e d held′)
+pub cell-alike :
+    (K : Kinds) (m : ℕ) (e : Expression)
+    → Legal m e
+    → (c d : ℕ)
+    → Alike c d
+    → (held held′ : ℕ → K .Value)
+    → ((r : ℕ) → r < m → held r ≡ held′ r)
+    → (ok K e c held ≡ ok K e d held′) × (out K e c held ≡ out K e d held′)
 cell-alike K m (relation r) legal c d alike held held′ same = (refl, same r legal)
 cell-alike K m (binary op e f) legal c d alike held held′ same =
     let l = cell-alike K m e (legal .0) c d alike held held′ same in

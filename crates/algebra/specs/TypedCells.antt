@@ -1,4 +1,5 @@
--- The typing rules against cells whose column is the attribute itself: first each operator's condition on sets, then the induction both ways.
+-- The typing rules against cells whose column is the attribute itself: first each operator's condition on sets, then
+-- the induction both ways.
 use Prim.Native.Nat.{ℕ}
 use mathlib.Core.Path.{_≡_, refl, sym, subst, fun-ext, _∙_}
 use mathlib.Core.Logic.{_↔_}
@@ -48,9 +49,11 @@ renames old new t =
 
 -- ---- the type, by attribute
 
+-- attribute a breaks no rule in e under A
 abbrev pub okAt : Assignment → Expression → ℕ → Bool
 okAt A e a = ok plain e a (λ r. A r a)
 
+-- the result of e under A has attribute a
 abbrev pub outAt : Assignment → Expression → ℕ → Bool
 outAt A e a = out plain e a (λ r. A r a)
 
@@ -61,14 +64,25 @@ pub record Cells (A : Assignment) (e : Expression) (t : Attrs) : Type 0 where
 
 -- ---- from a type to cells
 
-by-binary : {A : Assignment} {e f : Expression} {t u w : Attrs} (op : Operator) → Cells A e t → Cells A f u → ((a : ℕ) → not (breaks plain op (t a) (u a)) ≡ true) → ((a : ℕ) → yields plain op (t a) (u a) ≡ w a) → Cells A (binary op e f) w
+by-binary :
+    {A : Assignment} {e f : Expression} {t u w : Attrs} (op : Operator)
+    → Cells A e t
+    → Cells A f u
+    → ((a : ℕ) → not (breaks plain op (t a) (u a)) ≡ true)
+    → ((a : ℕ) → yields plain op (t a) (u a) ≡ w a)
+    → Cells A (binary op e f) w
 by-binary op h k free gives =
     record {
       allowed = λ a. rw (h .allowed a, k .allowed a, h .output a, k .output a) (free a);
       output = λ a. rw (h .output a, k .output a) (gives a);
     }
 
-by-set : {A : Assignment} {e : Expression} {s t w : Attrs} (op : SetOperator) → Cells A e t → ((a : ℕ) → not (breaksSet plain op (s a) (t a)) ≡ true) → ((a : ℕ) → yieldsSet plain op (s a) (t a) ≡ w a) → Cells A (withSet op s e) w
+by-set :
+    {A : Assignment} {e : Expression} {s t w : Attrs} (op : SetOperator)
+    → Cells A e t
+    → ((a : ℕ) → not (breaksSet plain op (s a) (t a)) ≡ true)
+    → ((a : ℕ) → yieldsSet plain op (s a) (t a) ≡ w a)
+    → Cells A (withSet op s e) w
 by-set op h free gives =
     record { allowed = λ a. rw (h .allowed a, h .output a) (free a); output = λ a. rw (h .output a) (gives a) }
 
@@ -98,13 +112,22 @@ typed-at (projectionsOut {old} {t} h has) =
 pub retyped : {A : Assignment} {e : Expression} {t u : Attrs} → Typed A e t → ((a : ℕ) → u a ≡ t a) → Typed A e u
 retyped {A} {e} h same = subst (λ (x : Attrs). Typed A e x) (sym (fun-ext same)) h
 
-typed-binary : {A : Assignment} {e f : Expression} {t u : Attrs} (op : Operator) → Typed A e t → Typed A f u → ((a : ℕ) → not (breaks plain op (t a) (u a)) ≡ true) → Typed A (binary op e f) (λ a. yields plain op (t a) (u a))
+typed-binary :
+    {A : Assignment} {e f : Expression} {t u : Attrs} (op : Operator)
+    → Typed A e t
+    → Typed A f u
+    → ((a : ℕ) → not (breaks plain op (t a) (u a)) ≡ true)
+    → Typed A (binary op e f) (λ a. yields plain op (t a) (u a))
 typed-binary {t} {u} union h k free = unions h (retyped k (same t u .0 free))
 typed-binary {t} {u} difference h k free = differences h (retyped k (same t u .0 free))
 typed-binary {t} {u} join h k free = retyped (joins h k) (λ a. either (t a) (u a))
 typed-binary {t} {u} product h k free = retyped (products h k (disjoint t u .0 free)) (λ a. either (t a) (u a))
 
-typed-set : {A : Assignment} {e : Expression} {t : Attrs} (op : SetOperator) (s : Attrs) → Typed A e t → ((a : ℕ) → not (breaksSet plain op (s a) (t a)) ≡ true) → Typed A (withSet op s e) (λ a. yieldsSet plain op (s a) (t a))
+typed-set :
+    {A : Assignment} {e : Expression} {t : Attrs} (op : SetOperator) (s : Attrs)
+    → Typed A e t
+    → ((a : ℕ) → not (breaksSet plain op (s a) (t a)) ≡ true)
+    → Typed A (withSet op s e) (λ a. yieldsSet plain op (s a) (t a))
 typed-set {t} selection s h free = selections h (subset s t .0 free)
 typed-set {t} projection s h free = let within = subset s t .0 free in retyped (projections h within) (λ a. kept (s a) (t a) (within a))
 

@@ -1,16 +1,16 @@
-// Sets of special attributes: sixteen bits with bit 0 clear, bit i for attribute i.
+// Sets of special attributes (FORMAT 1.5): sixteen bits with bit 0 clear, bit i for attribute i.
 ghost use mathlib.Core.Path.{_≡_};
 ghost use Rattle.attribute_set.specs.AttrSet.{special, emptySet, fromBits, bitsOf, withAttribute, hasAttribute};
 
-// Whether `a` is a special attribute, 1 to 15.
+// Whether `a` is a special attribute, 1 to 15 (FORMAT 2.1).
 pub fn is_special(a: u8) -> bool
     ensures { λ r. ⌜ r ≡ special a ⌝ }
 {
     bits::in_range(1, 15, a)
 }
 
-// An attribute set of document 01. The field is private, so that every set outside this crate was
-// made by the functions below, and has bit 0 clear.
+// An attribute set (FORMAT 1.5). The field is private, so that every set outside this crate was made by the functions
+// below, and has bit 0 clear.
 pub struct AttrSet {
     bits: u16,
 }

@@ -71,7 +71,16 @@ pub digit-clear : (d : ℕ) → d < 2 → eqb d 1 ≡ false → d ≡ 0
 digit-clear = digit (λ (d : ℕ). eqb d 1 ≡ false → d ≡ 0) (λ e. refl) (λ e. absurd (true≢false e))
 
 -- an operation on numbers that goes digit by digit, with its table: its bit j is the table's value at the two bits j
-bit-table : (op : ℕ → ℕ → ℕ) (table : Bool → Bool → Bool) → ((x y j : ℕ) → op x y / 2 ^ j ≡ op (x / 2 ^ j) (y / 2 ^ j)) → ((x y j : ℕ) → op x y % 2 ^ j ≡ op (x % 2 ^ j) (y % 2 ^ j)) → eqb (op 0 0) 1 ≡ table false false → eqb (op 0 1) 1 ≡ table false true → eqb (op 1 0) 1 ≡ table true false → eqb (op 1 1) 1 ≡ table true true → (x y j : ℕ) → bit (op x y) j ≡ table (bit x j) (bit y j)
+bit-table :
+    (op : ℕ → ℕ → ℕ) (table : Bool → Bool → Bool)
+    → ((x y j : ℕ) → op x y / 2 ^ j ≡ op (x / 2 ^ j) (y / 2 ^ j))
+    → ((x y j : ℕ) → op x y % 2 ^ j ≡ op (x % 2 ^ j) (y % 2 ^ j))
+    → eqb (op 0 0) 1 ≡ table false false
+    → eqb (op 0 1) 1 ≡ table false true
+    → eqb (op 1 0) 1 ≡ table true false
+    → eqb (op 1 1) 1 ≡ table true true
+    → (x y j : ℕ)
+    → bit (op x y) j ≡ table (bit x j) (bit y j)
 unfolding bit
 bit-table op table shift low t00 t01 t10 t11 x y j =
     ap (λ (d : ℕ). eqb d 1) (ap (λ (z : ℕ). z % 2) (shift x y j) ∙ low (x / 2 ^ j) (y / 2 ^ j) 1)

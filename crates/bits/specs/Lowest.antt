@@ -37,6 +37,22 @@ pub lowest-none : (s : ℕ) (test : ℕ → Bool) → lowestFrom 0 s test ≡ s
 unfolding lowestFrom
 lowest-none s test = refl
 
+-- ---- a search for x that stands at s, below `end`
+
+module _ (end s x : ℕ) (test : ℕ → Bool) (resumed : lowestFrom (end - s) s test ≡ x) where
+  pub search-found : s < end → test s ≡ true → s ≡ x
+  search-found h e = sym (lowest-here (end - s) s test (omega arith) e) ∙ resumed
+
+  pub search-next : s < end → test s ≡ false → lowestFrom (end - (s + 1)) (s + 1) test ≡ x
+  search-next h e =
+      let less : end - (s + 1) ≡ end - s - 1 = omega arith in
+      ap (λ (n : ℕ). lowestFrom n (s + 1) test) less ∙ sym (lowest-next (end - s) s test (omega arith) e) ∙ resumed
+
+  pub search-ended : end ≤ s → s ≡ x
+  search-ended h =
+      let none : end - s ≡ 0 = omega arith in
+      sym (ap (λ (n : ℕ). lowestFrom n s test) none ∙ lowest-none s test) ∙ resumed
+
 -- ---- what was found
 
 -- nothing below it passes, and it passes itself unless it is the first after the range

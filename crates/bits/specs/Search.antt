@@ -1,36 +1,33 @@
 -- Search for a number below a bound that passes a test.
-use Prim.Native.Nat.{ℕ, zero, suc, _<_}
-use mathlib.Core.Path.{_≡_, subst}
+use Prim.Native.Nat.{ℕ, _<_}
 use mathlib.Core.Bool.{Bool, true, false}
-use mathlib.Core.Logic.{_⊎_, inl, inr}
-use native.Mathlib.Nat.{eq-or-lt-of-le, le-of-suc-le-suc}
+use native.Mathlib.Decide.{decLt}
 use native.Mathlib.Omega.{arith}
 use lib.Dec.{T}
-use Rattle.bits.specs.Truth.{decided}
+use Rattle.bits.specs.Truth.{by-true, by-false}
+use Rattle.bits.specs.Lowest.{lowestFrom, lowest-is}
 
+-- what a search below n finds: a number that passes the test, or that none does
 pub data Below (n : ℕ) (test : ℕ → Bool) : Type 0 where
   found : (s : ℕ) → s < n → T (test s) → Below n test
   missing : ((s : ℕ) → s < n → T (test s) → ⊥) → Below n test
 
+-- the lowest that passes
 pub search-below : (n : ℕ) (test : ℕ → Bool) → Below n test
-search-below zero test = missing (λ s h t. omega arith)
-search-below (suc n) test = step (search-below n test) (decided (test n))
+search-below n test = go (decLt (lowestFrom n 0 test) n)
   where
-    step : Below n test → T (test n) ⊎ (T (test n) → ⊥) → Below (suc n) test
-    step (found s h t) d = found s (omega arith) t
-    step (missing f) (inl t) = found n (omega arith) t
-    step (missing f) (inr g) = missing λ s h t. split s t (eq-or-lt-of-le (le-of-suc-le-suc h))
-      where
-        split : (s : ℕ) → T (test s) → (s ≡ n) ⊎ (s < n) → ⊥
-        split s t (inl e) = g (subst (λ (x : ℕ). T (test x)) e t)
-        split s t (inr h) = f s h t
+    go : Dec (lowestFrom n 0 test < n) → Below n test
+    go (yes h) = found (lowestFrom n 0 test) h (by-true (lowest-is n 0 test .passes (omega arith)))
+    go (no h) = missing λ s below t. by-false (lowest-is n 0 test .before s (omega arith) (omega arith)) t
 
 -- ---- what a search found, as a number and a test
 
+-- the number found, or 0
 abbrev pub taken : {n : ℕ} {test : ℕ → Bool} → Below n test → ℕ
 taken (found s h t) = s
 taken (missing f) = 0
 
+-- whether there is one
 abbrev pub isFound : {n : ℕ} {test : ℕ → Bool} → Below n test → Bool
 isFound (found s h t) = true
 isFound (missing f) = false

@@ -9,6 +9,7 @@ use lib.ListN.{length, getD, set, length-set}
 use lib.Seq.{getD-set-same, getD-set-other}
 use Rattle.bits.specs.Tab.{tab, length-tab, getD-tab, tab-is, over, over-is}
 
+-- the first p elements of `now` are those of f, the rest is as in `old`
 pub record Written (f : ℕ → ℕ) (p : ℕ) (old now : List ℕ) : Type 0 where
   pub size : length now ≡ length old
   pub front : (i : ℕ) → i < p → getD now i 0 ≡ f i

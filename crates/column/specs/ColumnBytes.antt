@@ -49,7 +49,10 @@ unary-map u column j p =
     pack-same 8 _ (λ i. unaryStep u (λ q. bit (getD column (q * 32 + j) 0) i) p) (λ i h. unary-local u _ _ (two-is column j i) p)
     ∙ map-step (λ x. unaryStep u x p) column j
 
-pub combined-map : (c : Combination) (left right : List ℕ) (j p : ℕ) → pack 8 (λ i. combinedStep c (two (getD left j 0) (getD left (32 + j) 0) i) (two (getD right j 0) (getD right (32 + j) 0) i) p) ≡ mapByte (λ s. combinedStep c (bitIn left s) (bitIn right s) p) j
+pub combined-map :
+    (c : Combination) (left right : List ℕ) (j p : ℕ)
+    → pack 8 (λ i. combinedStep c (two (getD left j 0) (getD left (32 + j) 0) i) (two (getD right j 0) (getD right (32 + j) 0) i) p)
+    ≡ mapByte (λ s. combinedStep c (bitIn left s) (bitIn right s) p) j
 combined-map c left right j p =
     pack-same 8 _ (λ i. combinedStep c (λ q. bit (getD left (q * 32 + j) 0) i) (λ q. bit (getD right (q * 32 + j) 0) i) p) (λ i h. combined-local c _ _ _ _ (two-is left j i) (two-is right j i) p)
     ∙ map-step2 (λ x y. combinedStep c x y p) left right j

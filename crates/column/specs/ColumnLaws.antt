@@ -1,4 +1,5 @@
--- Laws of columns: a plain column is one of two planes, allowed and output, so that what holds of any number of planes holds of it.
+-- Laws of columns: a plain column is one of two planes, allowed and output, so that what holds of any
+-- number of planes holds of it.
 use Prim.Native.Nat.{ℕ, zero, suc, _+_, _-_, _*_, _/_, _%_, _<_}
 use mathlib.Core.Path.{_≡_, refl, sym, ap, ap₂, subst, _∙_}
 use mathlib.Core.Bool.{Bool, cond, _&&_}
@@ -44,7 +45,7 @@ module _ (allowed output : ℕ → Bool) where
       filling-done 2 (pair allowed output) (columnOf allowed output)
       (record { size = column-length; before = column-byte; here = λ p h. absurd (omega arith) })
 
--- ---- where the bits stand: "bit s mod 8 of byte s div 8", and 32 bytes on
+-- ---- where the bits stand (FORMAT 3.2, 3.5)
 
 pub allowed-bit : (column : List ℕ) (s : ℕ) → allowedIn column s ≡ bit (getD column (s / 8) 0) (s % 8)
 unfolding allowedIn
@@ -85,13 +86,25 @@ pub plain-combined : (c : Combination) (left right : List ℕ) → combinedColum
 unfolding combinedColumn
 plain-combined c left right = plain-column _ _ ∙ planes-same 2 _ _ at ∙ stepped-is2 2 (combinedStep c) left right
   where
-    at : (p s : ℕ) → p < 2 → s < 256 → pair (λ s. combinedAllowed c (allowedIn left s) (outputIn left s) (allowedIn right s) (outputIn right s)) (λ s. combinedOutput c (allowedIn left s) (outputIn left s) (allowedIn right s) (outputIn right s)) p s ≡ combinedStep c (bitIn left s) (bitIn right s) p
+    at :
+        (p s : ℕ)
+        → p < 2
+        → s < 256
+        → pair (λ s. combinedAllowed c (allowedIn left s) (outputIn left s) (allowedIn right s) (outputIn right s))
+        (λ s. combinedOutput c (allowedIn left s) (outputIn left s) (allowedIn right s) (outputIn right s)) p s
+        ≡ combinedStep c (bitIn left s) (bitIn right s) p
     at zero s hp hs = rw (plain-allowed left s, plain-output left s, plain-allowed right s, plain-output right s)
     at (suc p) s hp hs = rw (plain-allowed left s, plain-output left s, plain-allowed right s, plain-output right s)
 
 -- ---- a loop over 32 bytes that writes both planes
 
-pub filling-both : (tests : ℕ → ℕ → Bool) (j : ℕ) (column : List ℕ) (x y : ℕ) → j < 32 → x ≡ mapByte (tests 0) j → y ≡ mapByte (tests 1) j → Filling 2 tests j 0 column → Filling 2 tests (j + 1) 0 (set (set column j x) (32 + j) y)
+pub filling-both :
+    (tests : ℕ → ℕ → Bool) (j : ℕ) (column : List ℕ) (x y : ℕ)
+    → j < 32
+    → x ≡ mapByte (tests 0) j
+    → y ≡ mapByte (tests 1) j
+    → Filling 2 tests j 0 column
+    → Filling 2 tests (j + 1) 0 (set (set column j x) (32 + j) y)
 filling-both tests j column x y h isx isy f =
     filling-next 2 tests j _
     (filling-plane 2 tests j 1 _ y (lit< tt) h isy

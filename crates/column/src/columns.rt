@@ -1,4 +1,4 @@
-// A whole column, from the columns of the operands.
+// A whole column, from the columns of the operands (FORMAT 3.11).
 ghost use mathlib.Core.Path.{_≡_};
 ghost use Prim.Native.Nat.{_≤_, _<_};
 ghost use Rattle.column.specs.Steps.{renamingStep};
@@ -31,6 +31,7 @@ pub fn relation_column(count: usize, r: u8) -> [u8; 64]
     column
 }
 
+// The column of an operator of one operand, by its step.
 pub fn unary_column(u: Unary, operand: [u8; 64]) -> [u8; 64]
     ensures { λ c. ⌜ c ≡ unaryColumn u operand ⌝ }
 {
@@ -55,6 +56,7 @@ pub fn renaming_column(is_old: bool, is_new: bool, operand: [u8; 64]) -> [u8; 64
     unary_column(projecting_out_step(is_old), operand)
 }
 
+// The column of an operator of two operands, by its step.
 pub fn combined_column(c: Combination, left: [u8; 64], right: [u8; 64]) -> [u8; 64]
     ensures { λ l. ⌜ l ≡ combinedColumn c left right ⌝ }
 {

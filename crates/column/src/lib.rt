@@ -1,6 +1,8 @@
-// A column of a formula, and what an operator makes of its operands' columns, eight subsets at a time.
+// A column of a formula, and what an operator makes of its operands' columns, eight subsets at a
+// time (FORMAT 3.5, 3.11).
 mod columns;
 mod steps;
+mod subsets;
 mod tables;
 
 pub use columns::combined_column;
@@ -14,3 +16,6 @@ pub use steps::combined_bytes;
 pub use steps::projecting_out_step;
 pub use steps::set_step;
 pub use steps::unary_bytes;
+pub use subsets::allowed_in;
+pub use subsets::output_digit;
+pub use subsets::output_in;

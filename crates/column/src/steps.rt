@@ -1,12 +1,12 @@
-// One byte of a column, eight subsets at a time: what an operator makes of its operands' bytes.
+// One byte of a plane, eight subsets at a time: what an operator makes of its operands' bytes (FORMAT 3.11).
 ghost use mathlib.Core.Path.{_≡_};
 ghost use Rattle.bits.specs.Bit.{bit};
 ghost use Rattle.bits.specs.Pack.{pack};
-ghost use Rattle.column.specs.Steps.{unaryAllowed, unaryOutput, setStep, projectingOutStep, introducingStep};
+ghost use Rattle.column.specs.Steps.{setStep, projectingOutStep, introducingStep, unaryAllowed, unaryOutput};
 ghost use Rattle.column.specs.StepLaws.{MadeBy};
 use node::SetOp;
 
-// What an operator of one operand does to one attribute.
+// What an operator of one operand does to one attribute (FORMAT 3.11).
 pub enum Unary {
     // nothing
     Kept,
@@ -55,7 +55,7 @@ pub fn introducing_step(is_old: bool) -> Unary
     Unary::Introduced
 }
 
-// What an operator of two operands does to one attribute: the result has it where an operand does.
+// What an operator of two operands does to one attribute (FORMAT 3.11): the result has it where an operand does.
 pub enum Combination {
     // both operands or neither must have it
     Agreeing,
@@ -71,6 +71,7 @@ pub struct Bytes {
     pub output: u8,
 }
 
+// What an operator of one operand makes of its operand's bytes.
 pub fn unary_bytes(u: Unary, allowed: u8, output: u8) -> Bytes
     ensures { λ r. ⌜ r .allowed ≡ pack 8 (λ i. unaryAllowed u (bit allowed i) (bit output i)) ⌝ }
     ensures { λ r. ⌜ r .output ≡ pack 8 (λ i. unaryOutput u (bit allowed i) (bit output i)) ⌝ }
@@ -97,6 +98,7 @@ pub fn unary_bytes(u: Unary, allowed: u8, output: u8) -> Bytes
     }
 }
 
+// What an operator of two operands makes of its operands' bytes.
 pub fn combined_bytes(c: Combination, left: Bytes, right: Bytes) -> Bytes
     ensures { λ r. ⌜ MadeBy c (left .allowed) (left .output) (right .allowed) (right .output) (r .allowed) (r .output) ⌝ }
 {

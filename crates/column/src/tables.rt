@@ -1,10 +1,10 @@
-// Maps over the 256 subsets of eight relations, 32 bytes each: bit s mod 8 of byte s div 8.
+// Planes over the 256 subsets of eight relations, 32 bytes each (FORMAT 3.2).
 ghost use mathlib.Core.Path.{_≡_};
-ghost use Prim.Native.Nat.{_≤_, _<_};
+ghost use Prim.Native.Nat.{_<_, _≤_};
 ghost use Rattle.bits.specs.Tab.{tab};
 ghost use Rattle.column.specs.Tables.{memberByte, subsetByte};
 
-// "A relation's membership map depends on its number alone": bit s stands where s holds relation r.
+// The membership maps (FORMAT 3.10): bit s of map r stands where s has relation r.
 const MEMBERS: [[u8; 32]; 8] = [
     [170; 32],
     [204; 32],
@@ -181,7 +181,7 @@ const MEMBERS: [[u8; 32]; 8] = [
     ],
 ];
 
-// The membership map of relation r.
+// The membership map of relation r (FORMAT 3.10).
 pub fn member_map(r: u8) -> [u8; 32]
     requires { ⌜ r < 8 ⌝ }
     ensures { λ l. ⌜ l ≡ tab 32 (memberByte r) ⌝ }
@@ -189,7 +189,7 @@ pub fn member_map(r: u8) -> [u8; 32]
     MEMBERS[r as usize]
 }
 
-// Byte j of the map of the subsets, of which there are `count`: bit s stands where s is below it.
+// Byte j of the plane of the subsets, of which there are `count`: bit s stands where s is below it (FORMAT 3.11).
 pub fn subset_byte(count: usize, j: u8) -> u8
     requires { ⌜ (count ≤ 256) × (j < 32) ⌝ }
     ensures { λ x. ⌜ x ≡ subsetByte count j ⌝ }

@@ -1,4 +1,5 @@
-// Entries of the membership table by a byte: chains of those with the same byte, and sorting by attribute and by subset.
+// Entries of the membership table by a byte: chains of those with the same byte, and sorting by
+// attribute and by subset.
 mod chains;
 mod order;
 mod sorting;

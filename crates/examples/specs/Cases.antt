@@ -1,4 +1,4 @@
--- The starred examples of document 01.
+-- The starred examples (FORMAT 10.1 to 10.10).
 use Prim.Native.Nat.{ℕ, zero, suc}
 use mathlib.Core.Bool.{Bool, true, false}
 use mathlib.Core.List.{List, [], _∷_}
@@ -15,6 +15,7 @@ pub record Typing : Type 0 where
   pub typed : Bool
   pub output : List ℕ
 
+-- an example: its file, and what is known of its last node
 pub record Case : Type 0 where
   pub file : List ℕ
   -- m and n
@@ -27,16 +28,19 @@ pub record Case : Type 0 where
   pub witness : List ℕ
   pub typings : List Typing
 
+-- a schema that types the node, and the output record
 abbrev pub typed : List ℕ → List ℕ → Typing
 typed schema output = record { schema = schema; typed = true; output = output }
 
+-- a schema that does not
 abbrev pub untyped : List ℕ → Typing
 untyped schema = record { schema = schema; typed = false; output = [] }
 
+-- a column with its allowed subsets, and those in the output
 abbrev pub column : ℕ → List ℕ → List ℕ → Column
 column c a o = record { number = c; allowed = a; output = o }
 
--- σ{2,3}((ρ1/2(r0) ∪ r1) ⋈ r2); E2, its witness; E3, the witness with 20 added to r0 and r1; E4, with 20 in r0 only
+-- FORMAT 10.1 to 10.4: E1, σ{2,3}((ρ1/2(r0) ∪ r1) ⋈ r2); E2, its witness; E3 and E4, schemas with attribute 20
 abbrev pub e1 : Case
 e1 =
     record {
@@ -58,7 +62,7 @@ e1 =
           ∷ [];
     }
 
--- σ{1,2}(π{2,3}(r0)): untypable, attribute 1
+-- FORMAT 10.5: σ{1,2}(π{2,3}(r0)), untypable with attribute 1
 abbrev pub e5 : Case
 e5 =
     record {
@@ -71,7 +75,7 @@ e5 =
       typings = [];
     }
 
--- ρ1/1(r0): the same
+-- FORMAT 10.6: ρ1/1(r0), untypable with attribute 1
 abbrev pub e6 : Case
 e6 =
     record {
@@ -89,7 +93,7 @@ abbrev pub columnsBelow : ℕ → List ℕ → List ℕ → List Column
 columnsBelow zero a o = []
 columnsBelow (suc n) a o = column n a o ∷ columnsBelow n a o
 
--- r0 × r0, m 1: only s = 0 allowed anywhere; typable
+-- FORMAT 10.7: r0 × r0, in which every column allows 00 alone
 abbrev pub e7 : Case
 e7 =
     record {
@@ -102,7 +106,7 @@ e7 =
       typings = typed (0 ∷ 0 ∷ []) (0 ∷ 0 ∷ []) ∷ untyped (2 ∷ 0 ∷ []) ∷ [];
     }
 
--- π{}(r0), m 1: typed always, output empty
+-- FORMAT 10.8: π{}(r0), which every schema types, with an empty output
 abbrev pub e8 : Case
 e8 =
     record {
@@ -115,7 +119,7 @@ e8 =
       typings = typed (3 ∷ 0 ∷ 1 ∷ 16 ∷ 0 ∷ []) (0 ∷ 0 ∷ []) ∷ [];
     }
 
--- r0 ∪ π{1}(r1), m 2: variable 02 only, not in the output; attribute 1 allows 03 only
+-- FORMAT 10.9: r0 ∪ π{1}(r1), with the one variable 02, not in the output
 abbrev pub e9 : Case
 e9 =
     record {
@@ -128,7 +132,7 @@ e9 =
       typings = typed (2 ∷ 0 ∷ 3 ∷ 0 ∷ 1 ∷ 20 ∷ 0 ∷ []) (2 ∷ 0 ∷ []) ∷ untyped (3 ∷ 0 ∷ 1 ∷ 20 ∷ 0 ∷ 3 ∷ 0 ∷ 1 ∷ 20 ∷ 0 ∷ []) ∷ [];
     }
 
--- σ{1}(r0 ⋈ r1) ⋈ ((r0 × r2) − r3): variables 02 09 0b 0c 0e, all output; attribute 1: 02 09 0b 0e
+-- FORMAT 10.10: σ{1}(r0 ⋈ r1) ⋈ ((r0 × r2) − r3), with five variables, all in the output
 abbrev pub e10 : Case
 e10 =
     record {
@@ -144,5 +148,6 @@ e10 =
       typings = [];
     }
 
+-- all cases
 unfoldable pub table : List Case
 table = e1 ∷ e5 ∷ e6 ∷ e7 ∷ e8 ∷ e9 ∷ e10 ∷ []

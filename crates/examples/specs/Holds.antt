@@ -14,31 +14,31 @@ use Rattle.bits.specs.Tab.{tab, over}
 use Rattle.bits.specs.Word.{word}
 use Rattle.attribute_set.specs.AttrSet.{special, hasAttribute, setOf}
 use Rattle.refusal.specs.Chain.{refuse}
+use Rattle.refusal.specs.Several.{severalRefused as recordsRefused, severalRead as recordsRead}
 use Rattle.node.specs.Operators.{binaryOf, setOpOf}
 use Rattle.node.specs.ReadNode.{sizeOf, checkFields, checkNode, nodeOf, readNode}
-use Rattle.expression.specs.ReadFile.{acceptance, parse, header, readNodes, entryAt, entriesOf as nodeEntries}
-use Rattle.expression.specs.Admission.{asked, sliced}
-use Rattle.expression.specs.AdmissionLaws.{sliced-passes, asked-passes}
-use Rattle.expression.specs.declared.files.Acceptance.{Acceptance}
-use Rattle.expression.specs.declared.files.Acceptance.the-variants.{Accepted, Refused}
+use Rattle.expression_file.specs.ReadFile.{acceptance, parse, header, readNodes, placedAt, placedNodes as nodeEntries}
+use Rattle.admission.specs.Admission.{asked, sliced, admitted, formulaSize}
+use Rattle.admission.specs.AdmissionLaws.{sliced-passes, asked-passes, admitted-passes}
+use Rattle.expression_file.specs.declared.files.Acceptance.{Acceptance}
+use Rattle.expression_file.specs.declared.files.Acceptance.the-variants.{Accepted, Refused}
 use Rattle.algebra.specs.Expression.{Expression}
 use Rattle.bits.specs.Truth.{left, right}
-use Rattle.formula.specs.Expressions.{expressionAt, earlier}
-use Rattle.formula.specs.Stored.{allowedBit, outputBit, admitted}
-use Rattle.formula.specs.StoredLaws.{admitted-passes}
-use Rattle.verdict.specs.Lowest.{lowestOf, blockedBy, blockedOf, chosenBy}
-use Rattle.verdict.specs.Verdict.{witnessBytes, witnessOf, judged, judgement, judgedSchema, verdictAnswer, verdictSchema}
-use Rattle.verdict.specs.VerdictLaws.{verdict-passes}
+use Rattle.node_expression.specs.NodeExpression.{expressionAt, earlier}
+use Rattle.stored_formula.specs.FormulaBytes.{allowedBit, outputBit}
+use Rattle.verdict_answer.specs.Lowest.{lowestOf, blockedBy, blockedOf, chosenBy}
+use Rattle.verdict_answer.specs.Verdict.{witnessBytes, witnessOf, outcome, outcomeBy, schemaBy, verdictAnswer, verdictSchema}
+use Rattle.verdict_answer.specs.VerdictLaws.{verdict-passes}
 use Rattle.type_record.specs.Lists.{readFrom, readList, listed}
-use Rattle.type_record.specs.Record.{readRecord, recordSize, recordAt, recordByte, recordBytes}
+use Rattle.type_record.specs.Record.{readRecord, recordSize, recordAt, recordBytes, outputSize}
 use Rattle.type_record.specs.RecordBytes.{record-length}
 use Rattle.membership.specs.Entries.{enter}
 use Rattle.special_maps.specs.Special.{mapOf, mapsFrom}
-use Rattle.schema.specs.Schema.{Records, recordsRefused, recordsRead, readRecords, schemaBytes, entriesOf, mapsOf, recordsOf}
-use Rattle.typing.specs.Output.{typedIn, outputMap, outputList}
-use Rattle.typing.specs.Typing.{typedAnswer, tableAnswer, typedOut, tableOut, typingAnswer, typingOut}
-use Rattle.typing.specs.TypingLaws.{typing-records}
-use Rattle.typing.specs.declared.operation.Answer.the-variants.{Typed, Untyped}
+use Rattle.schema.specs.Schema.{Records, readRecords, schemaBytes, entriesOf, mapsOf, recordsOf, schemaSize}
+use Rattle.table_types.specs.Output.{typedIn, outputMap, outputList}
+use Rattle.typing_answer.specs.Typing.{typedAnswer, tableAnswer, typedOut, tableOut, typingAnswer, typingOut}
+use Rattle.typing_answer.specs.TypingLaws.{typing-records}
+use Rattle.typing_answer.specs.declared.Answer.the-variants.{Typed, Untyped}
 use Rattle.examples.specs.Cases.{Column, Typing, Case, table}
 
 -- ---- what is compared
@@ -55,47 +55,55 @@ passing n test = from n 0
 abbrev pub lastOf : Case → Expression
 lastOf x = expressionAt (x .file) (x .nodes - 1)
 
--- what document 01 says of a case
+-- a column of the last node has the allowed and the output subsets of the case
 pub record ColumnHolds (m : ℕ) (e : Expression) (c : Column) : Type 0 where
   pub allowed : passing (2 ^ m) (allowedBit m e (c .number)) ≡ c .allowed
   pub output : passing (2 ^ m) (outputBit m e (c .number)) ≡ c .output
 
+-- all these columns have theirs
 abbrev pub AllHold : ℕ → Expression → List Column → Type 0
 AllHold m e [] = Unit
 AllHold m e (c ∷ cs) = ColumnHolds m e c × AllHold m e cs
 
--- what Verdict does on the last node, in slices that are long enough: the answer, and the schema slice with the witness or as it was
+-- what Verdict does on the last node, in slices that are long enough: the answer, and the schema slice with
+-- the witness or as it was
 pub record VerdictHolds (x : Case) (work schema : List ℕ) : Type 0 where
-  pub answer : verdictAnswer (x .file) (x .nodes - 1) (length work) (length schema) ≡ judged (ltb (x .blocked) 16) (x .blocked) (x .witness)
+  pub answer : verdictAnswer (x .file) (x .nodes - 1) (length work) (length schema) ≡ outcome (ltb (x .blocked) 16) (x .blocked) (x .witness)
   pub slice : verdictSchema (x .file) (x .nodes - 1) (length work) schema ≡ cond (ltb (x .blocked) 16) schema (over (x .witness) schema)
 
--- what Typing does on the last node under a schema, in a slice that is long enough: the answer, and the slice with the output record or as it was
+-- what Typing does on the last node under a schema, in a slice that is long enough: the answer, and the slice with the
+-- output record or as it was
 pub record TypingHolds (x : Case) (y : Typing) (out : List ℕ) : Type 0 where
   pub answer : typingAnswer (x .file) (x .nodes - 1) (y .schema) (length out) ≡ cond (y .typed) (Typed (length (y .output))) Untyped
   pub slice : typingOut (x .file) (x .nodes - 1) (y .schema) out ≡ cond (y .typed) (over (y .output) out) out
 
+-- Typing does what the case says, under each of its schemas
 abbrev pub TypingsHold : Case → List Typing → List ℕ → Type 0
 TypingsHold x [] out = Unit
 TypingsHold x (y ∷ ys) out = TypingHolds x y out × TypingsHold x ys out
 
+-- what holds of a case: its counts, its columns, its verdict and its typings
 pub record Holds (x : Case) : Type 0 where
   pub accepted : acceptance (x .file) ≡ Accepted (x .relations) (x .nodes)
   pub columns : AllHold (x .relations) (lastOf x) (x .columns)
-  pub verdict : (work schema : List ℕ) → x .nodes * 1024 ≤ length work → 4104 ≤ length schema → VerdictHolds x work schema
-  pub typings : (out : List ℕ) → 513 ≤ length out → TypingsHold x (x .typings) out
+  pub verdict : (work schema : List ℕ) → x .nodes * formulaSize ≤ length work → schemaSize ≤ length schema → VerdictHolds x work schema
+  pub typings : (out : List ℕ) → outputSize ≤ length out → TypingsHold x (x .typings) out
 
 -- ---- the test
 
+-- two lists are the same
 same : List ℕ → List ℕ → Bool
 same [] [] = true
 same [] (y ∷ ys) = false
 same (x ∷ xs) [] = false
 same (x ∷ xs) (y ∷ ys) = eqb x y && same xs ys
 
+-- the file is accepted with these counts
 accepts : Acceptance → ℕ → ℕ → Bool
 accepts (Accepted m n) m′ n′ = eqb m m′ && eqb n n′
 accepts (Refused r) m′ n′ = false
 
+-- each column of the case has its subsets
 columnsPass : ℕ → Expression → List Column → Bool
 columnsPass m e [] = true
 columnsPass m e (c ∷ cs) =
@@ -115,16 +123,19 @@ outputPasses true false o o′ = false
 outputPasses false true o o′ = false
 outputPasses false false o o′ = true
 
+-- the records are read, and Typing gives what the case says
 recordsPass : Records → Expression → Typing → Bool
 recordsPass (recordsRefused r) e y = false
 recordsPass (recordsRead ts) e y =
     leb (length (entriesOf ts)) 255
     && outputPasses (typedIn e (mapsOf ts) (entriesOf ts)) (y .typed) (recordBytes (outputMap e (mapsOf ts)) (outputList e (entriesOf ts))) (y .output)
 
+-- the same for each schema of the case
 typingsPass : ℕ → Expression → List Typing → Bool
 typingsPass m e [] = true
 typingsPass m e (y ∷ ys) = recordsPass (readRecords m (y .schema)) e y && typingsPass m e ys
 
+-- everything that the case says
 passes : Case → Bool
 passes x =
     accepts (acceptance (x .file)) (x .relations) (x .nodes)
@@ -134,6 +145,7 @@ passes x =
     && ltb 0 (x .nodes)
     && typingsPass (x .relations) (lastOf x) (x .typings)
 
+-- every case passes
 every : List Case → Bool
 every [] = true
 every (x ∷ xs) = passes x && every xs
@@ -158,30 +170,53 @@ columns-hold m e [] t = tt
 columns-hold m e (c ∷ cs) t =
     let head = left (same (passing (2 ^ m) (allowedBit m e (c .number))) (c .allowed) && same (passing (2 ^ m) (outputBit m e (c .number))) (c .output)) (columnsPass m e cs) t in (
       record {
-        allowed = same-is (passing (2 ^ m) (allowedBit m e (c .number))) (c .allowed) (left (same (passing (2 ^ m) (allowedBit m e (c .number))) (c .allowed)) (same (passing (2 ^ m) (outputBit m e (c .number))) (c .output)) head);
-        output = same-is (passing (2 ^ m) (outputBit m e (c .number))) (c .output) (right (same (passing (2 ^ m) (allowedBit m e (c .number))) (c .allowed)) (same (passing (2 ^ m) (outputBit m e (c .number))) (c .output)) head);
+        allowed =
+            same-is (passing (2 ^ m) (allowedBit m e (c .number))) (c .allowed)
+            (left (same (passing (2 ^ m) (allowedBit m e (c .number))) (c .allowed))
+            (same (passing (2 ^ m) (outputBit m e (c .number))) (c .output)) head);
+        output =
+            same-is (passing (2 ^ m) (outputBit m e (c .number))) (c .output)
+            (right (same (passing (2 ^ m) (allowedBit m e (c .number))) (c .allowed))
+            (same (passing (2 ^ m) (outputBit m e (c .number))) (c .output)) head);
       },
       columns-hold m e cs (right (same (passing (2 ^ m) (allowedBit m e (c .number))) (c .allowed) && same (passing (2 ^ m) (outputBit m e (c .number))) (c .output)) (columnsPass m e cs) t),
     )
 
-witness-is : (untypable : Bool) (blocked : ℕ) (w w′ schema : List ℕ) → T (witnessPasses untypable w w′) → (judged untypable blocked w ≡ judged untypable blocked w′) × (cond untypable schema (over w schema) ≡ cond untypable schema (over w′ schema))
+witness-is :
+    (untypable : Bool) (blocked : ℕ) (w w′ schema : List ℕ)
+    → T (witnessPasses untypable w w′)
+    → (outcome untypable blocked w ≡ outcome untypable blocked w′)
+    × (cond untypable schema (over w schema) ≡ cond untypable schema (over w′ schema))
 unfolding witnessPasses
 witness-is true blocked w w′ schema t = (refl, refl)
-witness-is false blocked w w′ schema t = let is = same-is w w′ t in (ap (judged false blocked) is, ap (λ (l : List ℕ). over l schema) is)
+witness-is false blocked w w′ schema t = let is = same-is w w′ t in (ap (outcome false blocked) is, ap (λ (l : List ℕ). over l schema) is)
 
-verdict-holds : (x : Case) → acceptance (x .file) ≡ Accepted (x .relations) (x .nodes) → blockedOf (x .relations) (lastOf x) ≡ x .blocked → T (witnessPasses (ltb (x .blocked) 16) (witnessOf (x .relations) (lastOf x)) (x .witness)) → 0 < x .nodes → (work schema : List ℕ) → x .nodes * 1024 ≤ length work → 4104 ≤ length schema → VerdictHolds x work schema
-unfolding judgement judgedSchema blockedOf witnessOf
+verdict-holds :
+    (x : Case)
+    → acceptance (x .file) ≡ Accepted (x .relations) (x .nodes)
+    → blockedOf (x .relations) (lastOf x) ≡ x .blocked
+    → T (witnessPasses (ltb (x .blocked) 16) (witnessOf (x .relations) (lastOf x)) (x .witness))
+    → 0 < x .nodes
+    → (work schema : List ℕ)
+    → x .nodes * formulaSize ≤ length work
+    → schemaSize ≤ length schema
+    → VerdictHolds x work schema
+unfolding outcomeBy schemaBy blockedOf witnessOf
 verdict-holds x accepted blocked t some work schema space slice =
     let admits = admitted-passes (x .file) (x .nodes - 1) (length work) (record { accepted = accepted; node = omega arith; workSpace = space }) in
-    let goes = sliced-passes (admitted (x .file) (x .nodes - 1) (length work)) (length schema) 4104 admits slice in
+    let goes = sliced-passes (admitted (x .file) (x .nodes - 1) (length work)) (length schema) schemaSize admits slice in
     let results = verdict-passes (x .file) (x .nodes - 1) work schema (x .relations) (x .nodes) goes in
     let same = witness-is (ltb (x .blocked) 16) (x .blocked) (witnessOf (x .relations) (lastOf x)) (x .witness) schema t in
     record {
-      answer = sym (results .0) ∙ ap (λ (b : ℕ). judged (ltb b 16) b (witnessOf (x .relations) (lastOf x))) blocked ∙ same .0;
+      answer = sym (results .0) ∙ ap (λ (b : ℕ). outcome (ltb b 16) b (witnessOf (x .relations) (lastOf x))) blocked ∙ same .0;
       slice = sym (results .1 .1) ∙ ap (λ (b : ℕ). cond (ltb b 16) schema (over (witnessOf (x .relations) (lastOf x)) schema)) blocked ∙ same .1;
     }
 
-output-is : (t t′ : Bool) (e : Expression) (special entries record-is out : List ℕ) → T (outputPasses t t′ (recordBytes (outputMap e special) (outputList e entries)) record-is) → (typedAnswer t e entries ≡ cond t′ (Typed (length record-is)) Untyped) × (typedOut t e special entries out ≡ cond t′ (over record-is out) out)
+output-is :
+    (t t′ : Bool) (e : Expression) (special entries record-is out : List ℕ)
+    → T (outputPasses t t′ (recordBytes (outputMap e special) (outputList e entries)) record-is)
+    → (typedAnswer t e entries ≡ cond t′ (Typed (length record-is)) Untyped)
+    × (typedOut t e special entries out ≡ cond t′ (over record-is out) out)
 unfolding outputPasses
 output-is true true e special entries o out t =
     let is = same-is (recordBytes (outputMap e special) (outputList e entries)) o t in
@@ -190,7 +225,13 @@ output-is true false e special entries o out t = absurd t
 output-is false true e special entries o out t = absurd t
 output-is false false e special entries o out t = (refl, refl)
 
-typing-holds : (x : Case) (y : Typing) (out : List ℕ) → sliced (asked (x .file) (x .nodes - 1)) (length out) 513 ≡ Accepted (x .relations) (x .nodes) → (rs : Records) → readRecords (x .relations) (y .schema) ≡ rs → T (recordsPass rs (lastOf x) y) → TypingHolds x y out
+typing-holds :
+    (x : Case) (y : Typing) (out : List ℕ)
+    → sliced (asked (x .file) (x .nodes - 1)) (length out) outputSize ≡ Accepted (x .relations) (x .nodes)
+    → (rs : Records)
+    → readRecords (x .relations) (y .schema) ≡ rs
+    → T (recordsPass rs (lastOf x) y)
+    → TypingHolds x y out
 unfolding recordsPass tableAnswer tableOut
 typing-holds x y out goes (recordsRefused r) read t = absurd t
 typing-holds x y out goes (recordsRead ts) read t =
@@ -200,7 +241,11 @@ typing-holds x y out goes (recordsRead ts) read t =
     let is = output-is (typedIn (lastOf x) (mapsOf ts) (entriesOf ts)) (y .typed) (lastOf x) (mapsOf ts) (entriesOf ts) (y .output) out (right few outputs t) in
     record { answer = results .0 ∙ is .0; slice = results .1 ∙ is .1 }
 
-typings-hold : (x : Case) (ys : List Typing) (out : List ℕ) → sliced (asked (x .file) (x .nodes - 1)) (length out) 513 ≡ Accepted (x .relations) (x .nodes) → T (typingsPass (x .relations) (lastOf x) ys) → TypingsHold x ys out
+typings-hold :
+    (x : Case) (ys : List Typing) (out : List ℕ)
+    → sliced (asked (x .file) (x .nodes - 1)) (length out) outputSize ≡ Accepted (x .relations) (x .nodes)
+    → T (typingsPass (x .relations) (lastOf x) ys)
+    → TypingsHold x ys out
 unfolding typingsPass
 typings-hold x [] out goes t = tt
 typings-hold x (y ∷ ys) out goes t =
@@ -229,9 +274,14 @@ case-holds x t =
       verdict =
           verdict-holds x accepted (eqb→eq (blockedOf (x .relations) (lastOf x)) (x .blocked) (right (a && c) b upToB)) (right (a && c && b) w upToW)
           some;
-      typings = λ out slice. typings-hold x (x .typings) out (sliced-passes (asked (x .file) (x .nodes - 1)) (length out) 513 (asked-passes (x .file) (x .nodes - 1) accepted (omega arith)) slice) (right (a && c && b && w && n) y t);
+      typings =
+          λ out slice. typings-hold x (x .typings) out
+          (sliced-passes (asked (x .file) (x .nodes - 1)) (length out) outputSize
+          (asked-passes (x .file) (x .nodes - 1) accepted (omega arith)) slice)
+          (right (a && c && b && w && n) y t);
     }
 
+-- a case that is none, for a place past the table
 abbrev pub none : Case
 none = record { file = []; relations = 0; nodes = 0; columns = []; blocked = 0; witness = []; typings = [] }
 
@@ -243,5 +293,9 @@ each-holds (x ∷ xs) t (suc i) h = each-holds xs (right (passes x) (every xs) t
 
 -- the theorem: every case of the table holds; antt computes the test
 pub examples-hold : (i : ℕ) → i < length table → Holds (getD table i none)
-unfolding every passes same accepts columnsPass witnessPasses outputPasses recordsPass typingsPass readRecords readRecord readList readFrom recordSize recordAt listed word entriesOf mapsOf enter typedIn outputMap recordBytes recordByte passing lowestOf blockedBy blockedOf chosenBy witnessBytes witnessOf schemaBytes recordsOf mapsFrom mapOf pack tab bit lowestFrom allowedBit outputBit expressionAt earlier acceptance parse header readNodes readNode checkNode checkFields sizeOf nodeOf refuse inRange special hasAttribute setOf binaryOf setOpOf entryAt nodeEntries table
+unfolding every passes same accepts columnsPass witnessPasses outputPasses recordsPass typingsPass readRecords readRecord readList readFrom
+    recordSize recordAt listed word entriesOf mapsOf enter typedIn outputMap recordBytes passing lowestOf blockedBy blockedOf
+    chosenBy witnessBytes witnessOf schemaBytes recordsOf mapsFrom mapOf pack tab bit lowestFrom allowedBit outputBit expressionAt earlier
+    acceptance parse header readNodes readNode checkNode checkFields sizeOf nodeOf refuse inRange special hasAttribute setOf binaryOf
+    setOpOf placedAt nodeEntries table
 examples-hold = each-holds table tt

@@ -1,4 +1,4 @@
--- Lists that share no attribute: "No attribute is in two lists" (document 01) says this of rising lists, and lists by subset are so.
+-- Lists that share no attribute (FORMAT 6.2): of rising lists, and lists by subset are so.
 use Prim.Native.Nat.{ℕ, zero, suc, _+_, _<_}
 use mathlib.Core.Path.{_≡_, refl, sym, ap, ap₂, subst, _∙_}
 use mathlib.Core.Bool.{Bool, true, false, _||_, or-true}

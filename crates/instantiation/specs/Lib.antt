@@ -3,7 +3,6 @@ pub mod Gathering
 pub mod Seen
 pub mod SeenLaws
 pub mod ReadStep
-pub mod ListBytes
 pub mod ListsLaws
 pub mod ReadLaws
 pub mod Apart

@@ -39,7 +39,12 @@ enter-stays s a (x ∷ more) (e ∷ es) small h =
     any true b q = refl
     any false b q = q
 
-    go : Order x (attributeOf e) → entered a (enter s more (e ∷ es)) ≡ true → (entered a es ≡ true → entered a (enter s (x ∷ more) es) ≡ true) → (entered a es ≡ true → entered a (enter s more es) ≡ true) → entered a (enter s (x ∷ more) (e ∷ es)) ≡ true
+    go :
+        Order x (attributeOf e)
+        → entered a (enter s more (e ∷ es)) ≡ true
+        → (entered a es ≡ true → entered a (enter s (x ∷ more) es) ≡ true)
+        → (entered a es ≡ true → entered a (enter s more es) ≡ true)
+        → entered a (enter s (x ∷ more) (e ∷ es)) ≡ true
     go (lower l) one two three = rw (enter-lower s x more e es l) (any (eqb a (attributeOf (x * 256 + s))) (entered a (enter s more (e ∷ es))) one)
     go (higher l) one two three = rw (enter-higher s x more e es l) (kept (eqb a (attributeOf e)) (entered a es) (entered a (enter s (x ∷ more) es)) two h)
     go (equal l) one two three = rw (enter-equal s x more e es l, joined-attribute e s small) (kept (eqb a (attributeOf e)) (entered a es) (entered a (enter s more es)) three h)

@@ -12,10 +12,12 @@ use lib.Seq.{getD-drop, drop-at}
 use Rattle.bits.specs.Word.{Bytes}
 use Rattle.type_record.specs.declared.lists.ListReading.{ListReading}
 use Rattle.type_record.specs.declared.lists.ListReading.the-variants.{Listed, Refused as ListRefused}
-use Rattle.type_record.specs.Lists.{readList, listed}
-use Rattle.instantiation.specs.Instantiation.{Lists, listsRefused, listsRead, standing, precede, follow, atEnd, readLists, listBytes, listsBytes}
-use Rattle.instantiation.specs.ListBytes.{IsList, bytes-length, list-read, list-some, list-written, written-listed, written-list}
+use Rattle.type_record.specs.Lists.{readList, listed, listBytes}
+use Rattle.type_record.specs.ListBytes.{IsList, bytes-length, list-read, list-some, list-written, written-listed, written-list}
+use Rattle.instantiation.specs.Instantiation.{Lists, standing, follow, readLists, listsBytes}
 use Rattle.instantiation.specs.ReadStep.{read-clear, read-stands}
+use Rattle.refusal.specs.Several.{severalRefused as listsRefused, severalRead as listsRead, precede, atEnd}
+use Rattle.refusal.specs.declared.Refusal.the-variants.{InputFollowed}
 
 -- the list is not empty
 abbrev pub some : List ℕ → Bool
@@ -50,14 +52,19 @@ pub record ReadFrom (whole : List ℕ) (left s : ℕ) (bytes : List ℕ) (ls : L
   pub stands : (i : ℕ) → i < left → standing whole (s + i) ≡ some (getD ls i [])
   pub written : listsBytes ls ≡ bytes
 
-ended : (whole : List ℕ) (s : ℕ) (bytes : List ℕ) (ls : List (List ℕ)) → atEnd bytes ≡ listsRead ls → ReadFrom whole 0 s bytes ls
+ended : (whole : List ℕ) (s : ℕ) (bytes : List ℕ) (ls : List (List ℕ)) → atEnd InputFollowed bytes ≡ listsRead ls → ReadFrom whole 0 s bytes ls
 ended whole s [] ls e =
     let none : ls ≡ [] = cc in
     rw none (record { size = refl; all = tt; stands = λ i h. absurd (omega arith); written = refl })
 ended whole s (b ∷ bs) ls e = absurd (let z : _≡_ {A = ℕ} 0 1 = cc in omega arith)
 
 -- a list before those that follow
-read-more : (whole : List ℕ) (left s : ℕ) (l after : List ℕ) (others : List (List ℕ)) → IsList l → standing whole s ≡ some l → ReadFrom whole left (s + 1) after others → ReadFrom whole (suc left) s (listBytes l ++ after) (l ∷ others)
+read-more :
+    (whole : List ℕ) (left s : ℕ) (l after : List ℕ) (others : List (List ℕ))
+    → IsList l
+    → standing whole s ≡ some l
+    → ReadFrom whole left (s + 1) after others
+    → ReadFrom whole (suc left) s (listBytes l ++ after) (l ∷ others)
 read-more whole left s l after others is stands rest =
     record {
       size = ap suc (rest .size);
@@ -87,7 +94,15 @@ record First (whole : List ℕ) (left s : ℕ) (bytes : List ℕ) (ls : List (Li
 first : (whole : List ℕ) (left s : ℕ) (bytes : List ℕ) (ls : List (List ℕ)) → Bytes bytes → readLists whole (suc left) s bytes ≡ listsRead ls → First whole left s bytes ls
 first whole left s bytes ls bytes-below e = go (standing whole s) refl
   where
-    preceded : (l after : List ℕ) (rs : Lists) → IsList l → standing whole s ≡ some l → listBytes l ++ after ≡ bytes → Bytes after → readLists whole left (s + 1) after ≡ rs → precede l rs ≡ listsRead ls → First whole left s bytes ls
+    preceded :
+        (l after : List ℕ) (rs : Lists)
+        → IsList l
+        → standing whole s ≡ some l
+        → listBytes l ++ after ≡ bytes
+        → Bytes after
+        → readLists whole left (s + 1) after ≡ rs
+        → precede l rs ≡ listsRead ls
+        → First whole left s bytes ls
     preceded l after (listsRefused r) is stands split below rest h = absurd (let z : _≡_ {A = ℕ} 0 1 = cc in omega arith)
     preceded l after (listsRead us) is stands split below rest h = record { list = l; after = after; others = us; is = is; stands = stands; split = split; below = below; rest = rest; are = cc }
 
@@ -124,7 +139,12 @@ written-from whole (l ∷ ls) s all stands =
     first l (all .0) (ap (standing whole) (sym (add-zero s)) ∙ stands 0 (omega arith))
     (written-from whole ls (s + 1) (all .1) (λ i h. let next : s + 1 + i ≡ s + suc i = omega arith in ap (standing whole) next ∙ stands (suc i) (omega arith)))
   where
-    first : (l : List ℕ) → IsList l → standing whole s ≡ some l → readLists whole (length ls) (s + 1) (listsBytes ls) ≡ listsRead ls → readLists whole (suc (length ls)) s (listBytes l ++ listsBytes ls) ≡ listsRead (l ∷ ls)
+    first :
+        (l : List ℕ)
+        → IsList l
+        → standing whole s ≡ some l
+        → readLists whole (length ls) (s + 1) (listsBytes ls) ≡ listsRead ls
+        → readLists whole (suc (length ls)) s (listBytes l ++ listsBytes ls) ≡ listsRead (l ∷ ls)
     first [] is bit-is rest = read-clear whole (length ls) s (listsBytes ls) bit-is ∙ ap (precede []) rest
     first (a ∷ k) is bit-is rest =
         let inside : 1 ≤ length (a ∷ k) = omega arith in

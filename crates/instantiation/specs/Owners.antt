@@ -46,7 +46,15 @@ owner-none s (l ∷ ls) a d none =
     let both = listed-neither a l ls none in
     rw (both .0) (owner-none (s + 1) ls a d (both .1))
 
-holders-from : (s : ℕ) (ls : List (List ℕ)) (es : List ℕ) → s + length ls ≤ 256 → ((i : ℕ) → Rising 15 (getD ls i [])) → RisingEntries 15 es → Apart ls → ((a : ℕ) → member a (allListed ls) ≡ true → holdersIn es a ≡ 0) → (a : ℕ) → holdersIn (entriesFrom s ls es) a ≡ owner s ls a (holdersIn es a)
+holders-from :
+    (s : ℕ) (ls : List (List ℕ)) (es : List ℕ)
+    → s + length ls ≤ 256
+    → ((i : ℕ) → Rising 15 (getD ls i []))
+    → RisingEntries 15 es
+    → Apart ls
+    → ((a : ℕ) → member a (allListed ls) ≡ true → holdersIn es a ≡ 0)
+    → (a : ℕ)
+    → holdersIn (entriesFrom s ls es) a ≡ owner s ls a (holdersIn es a)
 holders-from s [] es fits rising k apart new a = refl
 holders-from s (l ∷ ls) es fits rising k apart new a =
     holders-from (s + 1) ls (enter s l es) (omega arith) (λ i. rising (suc i)) (enter-rising s 15 l es small (rising 0) k) (apart .1)

@@ -13,8 +13,9 @@ use Rattle.bits.specs.Pack.{bit-pack, byte-is}
 use Rattle.bits.specs.Rising.{Rising}
 use Rattle.bits.specs.Tab.{tab, length-tab, getD-tab, tab-is}
 use Rattle.bits.specs.Word.{Bytes}
-use Rattle.instantiation.specs.Instantiation.{standing, listsRead, readLists, subsetsOf, listsBytes, mapByte, instantiationBytes}
+use Rattle.instantiation.specs.Instantiation.{standing, readLists, subsetsOf, listsBytes, mapByte, instantiationBytes}
 use Rattle.instantiation.specs.ListsLaws.{some, all-at, at-all, ReadFrom, read-from, written-from}
+use Rattle.refusal.specs.Several.{severalRead as listsRead}
 
 -- what lists can be: 256 of them, each rising from 16 on, at most 255 attributes of two bytes
 pub record IsLists (ls : List (List ℕ)) : Type 0 where
@@ -76,6 +77,7 @@ module _ (bytes : List ℕ) (ls : List (List ℕ)) (below : Bytes bytes) (enough
 -- ---- reading what was written
 
 module _ (subsets : List ℕ) (ls : List (List ℕ)) where
+  -- the 15 bytes of the special attributes
   abbrev front : List ℕ
   front = tab 15 (λ i. getD subsets (i + 1) 0)
 

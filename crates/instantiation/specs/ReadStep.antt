@@ -4,7 +4,8 @@ use mathlib.Core.Path.{_≡_, ap}
 use mathlib.Core.Bool.{Bool, true, false}
 use mathlib.Core.List.{List, []}
 use Rattle.type_record.specs.Lists.{readList}
-use Rattle.instantiation.specs.Instantiation.{standing, precede, follow, readLists}
+use Rattle.instantiation.specs.Instantiation.{standing, follow, readLists}
+use Rattle.refusal.specs.Several.{precede}
 
 module _ (whole : List ℕ) (left s : ℕ) (bytes : List ℕ) where
   pub read-clear : standing whole s ≡ false → readLists whole (suc left) s bytes ≡ precede [] (readLists whole left (s + 1) bytes)

@@ -1,4 +1,5 @@
--- Attributes that were listed before: "attribute in two lists of an instantiation" (document 01). Within one list attributes rise, so none is listed twice there.
+-- Attributes that were listed before, for 19 (FORMAT 6.2). Within one list attributes rise, so
+-- none is listed twice there.
 use Prim.Native.Nat.{ℕ, _/_, _%_}
 use mathlib.Core.Path.{_≡_}
 use mathlib.Core.Bool.{Bool, false, _||_}
@@ -8,6 +9,7 @@ use lib.ListN.{length, getD}
 use Rattle.bits.specs.Bit.{bit}
 use Rattle.bits.specs.Rising.{member}
 
+-- no attribute was listed yet
 abbrev pub nothingSeen : ℕ → Bool
 nothingSeen a = false
 

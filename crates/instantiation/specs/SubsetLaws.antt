@@ -10,12 +10,13 @@ use lib.Dec.{eqb, leb, lit<}
 use lib.ListN.{length, getD, length-append}
 use Rattle.bits.specs.Rising.{member, Rising, rising-lower, rising-above}
 use Rattle.bits.specs.Tab.{tab, tab-none, tab-next}
+use Rattle.type_record.specs.Lists.{wordBytes}
+use Rattle.type_record.specs.ListBytes.{word-length}
 use Rattle.membership.specs.Entries.{attributeOf, subsetOf, holdersIn}
 use Rattle.membership.specs.EnterLaws.{RisingEntries, Order, lower, higher, equal, order, holders-below}
 use Rattle.membership.specs.EntriesOnce.{Positive}
 use Rattle.membership.specs.TableLaws.{Below}
-use Rattle.instantiation.specs.Instantiation.{withSubset, allListed, wordBytes, listsBytes}
-use Rattle.instantiation.specs.ListBytes.{word-length}
+use Rattle.instantiation.specs.Instantiation.{withSubset, allListed, listsBytes}
 
 -- ---- the attributes of one subset
 
@@ -24,7 +25,13 @@ pub subset-member : (p s : ℕ) (es : List ℕ) → 1 ≤ s → RisingEntries p 
 subset-member p s [] some h a = sym (ne-eqb 0 s (λ e. omega arith))
 subset-member p s (e ∷ es) some h a = go (eqb (subsetOf e) s) refl (eqb a (attributeOf e)) refl (subset-member (attributeOf e) s es some (h .1) a)
   where
-    go : (b : Bool) → eqb (subsetOf e) s ≡ b → (t : Bool) → eqb a (attributeOf e) ≡ t → member a (withSubset s es) ≡ eqb (holdersIn es a) s → member a (cond b (attributeOf e ∷ withSubset s es) (withSubset s es)) ≡ eqb (cond t (subsetOf e) (holdersIn es a)) s
+    go :
+        (b : Bool)
+        → eqb (subsetOf e) s ≡ b
+        → (t : Bool)
+        → eqb a (attributeOf e) ≡ t
+        → member a (withSubset s es) ≡ eqb (holdersIn es a) s
+        → member a (cond b (attributeOf e ∷ withSubset s es) (withSubset s es)) ≡ eqb (cond t (subsetOf e) (holdersIn es a)) s
     go true is true same rest = rw same (sym is)
     go true is false other rest = rw other rest
     go false apart true same rest =
@@ -45,7 +52,14 @@ pub member-holders : (p s : ℕ) (es : List ℕ) → RisingEntries p es → (a :
 member-holders p s [] h a m = absurd (let z : _≡_ {A = ℕ} 0 1 = cc in omega arith)
 member-holders p s (e ∷ es) h a m = go (eqb (subsetOf e) s) refl (eqb a (attributeOf e)) refl (member-holders (attributeOf e) s es (h .1) a) m
   where
-    go : (b : Bool) → eqb (subsetOf e) s ≡ b → (t : Bool) → eqb a (attributeOf e) ≡ t → (member a (withSubset s es) ≡ true → holdersIn es a ≡ s) → member a (cond b (attributeOf e ∷ withSubset s es) (withSubset s es)) ≡ true → cond t (subsetOf e) (holdersIn es a) ≡ s
+    go :
+        (b : Bool)
+        → eqb (subsetOf e) s ≡ b
+        → (t : Bool)
+        → eqb a (attributeOf e) ≡ t
+        → (member a (withSubset s es) ≡ true → holdersIn es a ≡ s)
+        → member a (cond b (attributeOf e ∷ withSubset s es) (withSubset s es)) ≡ true
+        → cond t (subsetOf e) (holdersIn es a) ≡ s
     go true is true same rest m = eqb-true (subsetOf e) s is
     go true is false other rest m = rest (rw other at m)
     go false apart true same rest m =
@@ -61,7 +75,12 @@ pub subset-found : (s : ℕ) (es : List ℕ) → 1 ≤ length (withSubset s es) 
 subset-found s [] h = absurd (omega arith)
 subset-found s (e ∷ es) h = go (eqb (subsetOf e) s) refl (subset-found s es) h
   where
-    go : (b : Bool) → eqb (subsetOf e) s ≡ b → (1 ≤ length (withSubset s es) → (i : ℕ) × (i < length es) × (subsetOf (getD es i 0) ≡ s)) → 1 ≤ length (cond b (attributeOf e ∷ withSubset s es) (withSubset s es)) → (i : ℕ) × (i < length (e ∷ es)) × (subsetOf (getD (e ∷ es) i 0) ≡ s)
+    go :
+        (b : Bool)
+        → eqb (subsetOf e) s ≡ b
+        → (1 ≤ length (withSubset s es) → (i : ℕ) × (i < length es) × (subsetOf (getD es i 0) ≡ s))
+        → 1 ≤ length (cond b (attributeOf e ∷ withSubset s es) (withSubset s es))
+        → (i : ℕ) × (i < length (e ∷ es)) × (subsetOf (getD (e ∷ es) i 0) ≡ s)
     go true is rest h = (0, omega arith, eqb-true (subsetOf e) s is)
     go false other rest h = let found = rest h in let less = found .1 in (suc (found .0), omega arith, found .2)
 

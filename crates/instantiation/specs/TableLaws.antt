@@ -13,14 +13,15 @@ use Rattle.bits.specs.Word.{Bytes}
 use Rattle.refusal.specs.Number.{numberOf}
 use Rattle.refusal.specs.declared.Refusal.{Refusal}
 use Rattle.refusal.specs.declared.Refusal.the-variants.{InputTruncated, RepeatedAttribute, TooManyAttributes}
+use Rattle.refusal.specs.Several.{severalRefused as listsRefused, severalRead as listsRead, precede}
 use Rattle.type_record.specs.declared.lists.ListReading.{ListReading}
 use Rattle.type_record.specs.declared.lists.ListReading.the-variants.{Listed, Refused as ListRefused}
 use Rattle.type_record.specs.Lists.{readList, listed}
 use Rattle.type_record.specs.ListLaws.{list-number}
 use Rattle.schema.specs.declared.reading.Judgement.the-variants.{Read, Refused}
 use Rattle.instantiation.specs.Seen.{nothingSeen, repeatedIn}
-use Rattle.instantiation.specs.Instantiation.{Instantiation, Lists, listsRefused, listsRead, standing, precede, follow, readLists, entriesIn, allListed, subsetsOf, refusedInstantiation, tabled, instantiationReading, readingOf}
-use Rattle.instantiation.specs.declared.reading.InstantiationReading.{InstantiationReading}
+use Rattle.instantiation.specs.Instantiation.{Instantiation, Lists, standing, follow, readLists, entriesIn, allListed, subsetsOf, refusedInstantiation, tabled, instantiationReading, readingOf}
+use Rattle.instantiation.specs.declared.InstantiationReading.{InstantiationReading}
 use Rattle.instantiation.specs.ReadStep.{read-clear, read-stands}
 
 -- an instantiation that was read from these bytes, with its lists
@@ -39,11 +40,41 @@ pub instantiation-read : (bytes : List ℕ) → instantiationReading bytes .judg
 unfolding instantiationReading
 instantiation-read bytes e = long (ltb (length bytes) 47) refl e
   where
-    counted : (ls : List (List ℕ)) → 47 ≤ length bytes → readLists bytes 256 0 (drop 47 bytes) ≡ listsRead ls → repeatedIn nothingSeen (allListed ls) ≡ false → (t : Bool) → ltb 255 (length (entriesIn ls)) ≡ t → cond t (refusedInstantiation TooManyAttributes) (record { judgement = Read; subsets = subsetsOf bytes; entries = entriesIn ls }) .judgement ≡ Read → (us : List (List ℕ)) × ReadInstantiation bytes (cond t (refusedInstantiation TooManyAttributes) (record { judgement = Read; subsets = subsetsOf bytes; entries = entriesIn ls })) us
+    counted :
+        (ls : List (List ℕ))
+        → 47 ≤ length bytes
+        → readLists bytes 256 0 (drop 47 bytes) ≡ listsRead ls
+        → repeatedIn nothingSeen (allListed ls) ≡ false
+        → (t : Bool)
+        → ltb 255 (length (entriesIn ls)) ≡ t
+        → cond t (refusedInstantiation TooManyAttributes) (record { judgement = Read; subsets = subsetsOf bytes; entries = entriesIn ls })
+        .judgement
+        ≡ Read
+        → (us : List (List ℕ))
+        × ReadInstantiation bytes
+        (cond t (refusedInstantiation TooManyAttributes)
+        (record { judgement = Read; subsets = subsetsOf bytes; entries = entriesIn ls }))
+        us
     counted ls enough read once true many said = absurd (refused-not TooManyAttributes said)
     counted ls enough read once false few said = (ls, record { long = enough; read = read; once = once; few = ltb-false 255 (length (entriesIn ls)) few; is = refl })
 
-    unrepeated : (ls : List (List ℕ)) → 47 ≤ length bytes → readLists bytes 256 0 (drop 47 bytes) ≡ listsRead ls → (t : Bool) → repeatedIn nothingSeen (allListed ls) ≡ t → cond t (refusedInstantiation RepeatedAttribute) (cond (ltb 255 (length (entriesIn ls))) (refusedInstantiation TooManyAttributes) (record { judgement = Read; subsets = subsetsOf bytes; entries = entriesIn ls })) .judgement ≡ Read → (us : List (List ℕ)) × ReadInstantiation bytes (cond t (refusedInstantiation RepeatedAttribute) (cond (ltb 255 (length (entriesIn ls))) (refusedInstantiation TooManyAttributes) (record { judgement = Read; subsets = subsetsOf bytes; entries = entriesIn ls }))) us
+    unrepeated :
+        (ls : List (List ℕ))
+        → 47 ≤ length bytes
+        → readLists bytes 256 0 (drop 47 bytes) ≡ listsRead ls
+        → (t : Bool)
+        → repeatedIn nothingSeen (allListed ls) ≡ t
+        → cond t (refusedInstantiation RepeatedAttribute)
+        (cond (ltb 255 (length (entriesIn ls))) (refusedInstantiation TooManyAttributes)
+        (record { judgement = Read; subsets = subsetsOf bytes; entries = entriesIn ls }))
+        .judgement
+        ≡ Read
+        → (us : List (List ℕ))
+        × ReadInstantiation bytes
+        (cond t (refusedInstantiation RepeatedAttribute)
+        (cond (ltb 255 (length (entriesIn ls))) (refusedInstantiation TooManyAttributes)
+        (record { judgement = Read; subsets = subsetsOf bytes; entries = entriesIn ls })))
+        us
     unrepeated ls enough read true twice said = absurd (refused-not RepeatedAttribute said)
     unrepeated ls enough read false once said = counted ls enough read once (ltb 255 (length (entriesIn ls))) refl said
 
@@ -51,18 +82,30 @@ instantiation-read bytes e = long (ltb (length bytes) 47) refl e
     listed enough (listsRefused r) read said = absurd (refused-not r said)
     listed enough (listsRead ls) read said = unrepeated ls enough read (repeatedIn nothingSeen (allListed ls)) refl said
 
-    long : (t : Bool) → ltb (length bytes) 47 ≡ t → cond t (refusedInstantiation InputTruncated) (tabled (readLists bytes 256 0 (drop 47 bytes)) bytes) .judgement ≡ Read → (us : List (List ℕ)) × ReadInstantiation bytes (cond t (refusedInstantiation InputTruncated) (tabled (readLists bytes 256 0 (drop 47 bytes)) bytes)) us
+    long :
+        (t : Bool)
+        → ltb (length bytes) 47 ≡ t
+        → cond t (refusedInstantiation InputTruncated) (tabled (readLists bytes 256 0 (drop 47 bytes)) bytes) .judgement ≡ Read
+        → (us : List (List ℕ))
+        × ReadInstantiation bytes (cond t (refusedInstantiation InputTruncated) (tabled (readLists bytes 256 0 (drop 47 bytes)) bytes)) us
     long true short said = absurd (refused-not InputTruncated said)
     long false enough said = listed (ltb-false (length bytes) 47 enough) (readLists bytes 256 0 (drop 47 bytes)) refl said
 
 -- the lists, none of them with an attribute of another, at most 255: the instantiation is read
-pub read-instantiation : (bytes : List ℕ) (ls : List (List ℕ)) → 47 ≤ length bytes → readLists bytes 256 0 (drop 47 bytes) ≡ listsRead ls → repeatedIn nothingSeen (allListed ls) ≡ false → length (entriesIn ls) ≤ 255 → ReadInstantiation bytes (instantiationReading bytes) ls
+pub read-instantiation :
+    (bytes : List ℕ) (ls : List (List ℕ))
+    → 47 ≤ length bytes
+    → readLists bytes 256 0 (drop 47 bytes) ≡ listsRead ls
+    → repeatedIn nothingSeen (allListed ls) ≡ false
+    → length (entriesIn ls) ≤ 255
+    → ReadInstantiation bytes (instantiationReading bytes) ls
 unfolding instantiationReading
 read-instantiation bytes ls enough read once few =
     record { long = enough; read = read; once = once; few = few; is = rw (le-ltb (length bytes) 47 enough, read, once, le-ltb 255 (length (entriesIn ls)) few) }
 
 -- ---- it is refused by 14 to 19
 
+-- lists, or a refusal of at most 17
 abbrev Early : Lists → Type 0
 Early (listsRead ls) = Unit {0}
 Early (listsRefused r) = numberOf r ≤ 17
@@ -100,7 +143,14 @@ reading-number bytes r e = long (ltb (length bytes) 47) e
     counted ls true said = number TooManyAttributes (lit≤ tt) said
     counted ls false said = absurd (let z : _≡_ {A = ℕ} 0 1 = cc in omega arith)
 
-    unrepeated : (ls : List (List ℕ)) (t : Bool) → cond t (refusedInstantiation RepeatedAttribute) (cond (ltb 255 (length (entriesIn ls))) (refusedInstantiation TooManyAttributes) (record { judgement = Read; subsets = subsetsOf bytes; entries = entriesIn ls })) .judgement ≡ Refused r → numberOf r ≤ 19
+    unrepeated :
+        (ls : List (List ℕ)) (t : Bool)
+        → cond t (refusedInstantiation RepeatedAttribute)
+        (cond (ltb 255 (length (entriesIn ls))) (refusedInstantiation TooManyAttributes)
+        (record { judgement = Read; subsets = subsetsOf bytes; entries = entriesIn ls }))
+        .judgement
+        ≡ Refused r
+        → numberOf r ≤ 19
     unrepeated ls true said = number RepeatedAttribute (lit≤ tt) said
     unrepeated ls false said = counted ls (ltb 255 (length (entriesIn ls))) said
 

@@ -1,4 +1,4 @@
-// Reads an expression file from standard input and prints its last node.
+// Reads an expression file from standard input and prints its last node (FORMAT 7.14).
 use libc::STDIN_FILENO;
 use libc::STDOUT_FILENO;
 use listing::Listed;
@@ -15,7 +15,7 @@ fn print_listing(file: &[u8]) {
     }
 }
 
-// The text depends on the first 323 bytes of the file alone.
+// The text depends on the first 323 bytes of the file alone (FORMAT 1.7).
 fn main() {
     let mut file = [0u8; 323];
     let n = io::read_full(STDIN_FILENO, &mut file);

@@ -5,12 +5,12 @@ use mathlib.Core.List.{List}
 use native.Mathlib.Omega.{arith}
 use lib.ListN.{take}
 use lib.Seq.{take-all}
-use Rattle.expression.specs.declared.files.Acceptance.{Acceptance}
-use Rattle.expression.specs.declared.files.Acceptance.the-variants.{Accepted, Refused}
-use Rattle.expression.specs.ReadFile.{acceptance}
-use Rattle.expression.specs.Walk.{file-most}
-use Rattle.expression.specs.Enough.{enough}
-use Rattle.listing.specs.Text.{textAfter, textOf}
+use Rattle.expression_file.specs.declared.files.Acceptance.{Acceptance}
+use Rattle.expression_file.specs.declared.files.Acceptance.the-variants.{Accepted, Refused}
+use Rattle.expression_file.specs.ReadFile.{acceptance}
+use Rattle.expression_file.specs.Walk.{file-most}
+use Rattle.expression_file.specs.Enough.{enough}
+use Rattle.listing_entries.specs.Text.{textAfter, textOf}
 
 pub enough-text : (file : List ℕ) → textOf (take 323 file) ≡ textOf file
 unfolding textOf

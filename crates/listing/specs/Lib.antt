@@ -1,10 +1,4 @@
-pub mod Text
 pub mod Listing
-pub mod Entries
-pub mod Lines
-pub mod LineLaws
-pub mod Naming
 pub mod ListingLaws
 pub mod Enough
 pub mod Theorems
-pub mod Example

@@ -11,24 +11,28 @@ use Rattle.bits.specs.Tab.{over, over-with, take-over}
 use Rattle.refusal.specs.Chain.{refuse, refuse-stops, refuse-passes, refuse-past}
 use Rattle.refusal.specs.Number.{numberOf}
 use Rattle.refusal.specs.declared.Refusal.{Refusal}
-use Rattle.refusal.specs.declared.Refusal.the-variants.{HeaderTruncated, RelationCount, NodeCount, NodeTruncated, NodeMap, OperatorCode, RelationNumber, Operand, Attribute, NodesFollowed, NodeNumber, WorkSpace, ResultSlice, InputTruncated, CountZero, ListedAttribute, InputFollowed, TooManyAttributes, RepeatedAttribute, TypeVariable, SpecialSubset}
+use Rattle.refusal.specs.declared.Refusal.the-variants.{HeaderTruncated, RelationCount, NodeCount, NodeTruncated, NodeMap, OperatorCode, RelationNumber, Operand, Attribute, NodesFollowed, NodeNumber}
+use Rattle.refusal.specs.declared.Refusal.the-variants.{WorkSpace, ResultSlice, InputTruncated, CountZero, ListedAttribute, InputFollowed, TooManyAttributes, RepeatedAttribute, TypeVariable}
+use Rattle.refusal.specs.declared.Refusal.the-variants.{SpecialSubset}
 use Rattle.attribute_set.specs.declared.AttrSet.{AttrSet}
-use Rattle.expression.specs.declared.files.Acceptance.{Acceptance}
-use Rattle.expression.specs.declared.files.Acceptance.the-variants.{Accepted, Refused as FileRefused}
-use Rattle.expression.specs.ReadFile.{acceptance, nodeAt}
-use Rattle.expression.specs.Accepted.{accepted-file}
-use Rattle.formula.specs.Storage.{columnAt}
-use Rattle.formula.specs.Stored.{formulasOf, formulaAnswer, formulaSpace}
-use Rattle.formula.specs.StoredLaws.{answer-refused, answer-filled, answer-file, space-filled, stored-column}
-use Rattle.listing.specs.declared.operation.Listed.{Listed}
-use Rattle.listing.specs.declared.operation.Listed.the-variants.{Text, Refused}
+use Rattle.expression_file.specs.declared.files.Acceptance.{Acceptance}
+use Rattle.expression_file.specs.declared.files.Acceptance.the-variants.{Accepted, Refused as FileRefused}
+use Rattle.expression_file.specs.ReadFile.{acceptance, nodeAt}
+use Rattle.expression_file.specs.Accepted.{accepted-file}
+use Rattle.stored_formula.specs.ColumnPlace.{columnAt}
+use Rattle.stored_formula.specs.FormulaBytes.{formulasOf}
+use Rattle.stored_formula.specs.Formula.{formulaAnswer, formulaSpace}
+use Rattle.stored_formula.specs.FormulaLaws.{answer-refused, answer-filled, answer-file, space-filled}
+use Rattle.stored_formula.specs.FormulaBytesLaws.{stored-column}
+use Rattle.listing.specs.declared.Listed.{Listed}
+use Rattle.listing.specs.declared.Listed.the-variants.{Text, Refused}
 use Rattle.text.specs.Characters.{decimal, newline}
-use Rattle.listing.specs.Text.{listing, textAfter, textOf}
+use Rattle.listing_entries.specs.Text.{listing, textAfter, textOf}
 use Rattle.listing.specs.Listing.{checked, listedAnswer, listedText, listedSpace}
 use Rattle.text.specs.Put.{Wrote, wrote-as, wrote-front}
-use Rattle.listing.specs.Lines.{linesText}
-use Rattle.listing.specs.Naming.{Named}
-use Rattle.listing.specs.LineLaws.{lines-are}
+use Rattle.listing_lines.specs.Lines.{linesText}
+use Rattle.listing_entries.specs.Naming.{Named}
+use Rattle.listing_lines.specs.LineLaws.{lines-are}
 
 -- ---- the file, from Formula's answer
 
@@ -83,7 +87,14 @@ filled-counts file size m n e =
     let counts = accepted-file file m n (answer-file file size m n e .0) .counts in
     (counts .relations .1, counts .nodes .0, counts .nodes .1)
 
-pub wrote-listing : (file work work′ : List ℕ) (m n : ℕ) (named : AttrSet) (text text′ : List ℕ) (end : ℕ) → 65536 ≤ length work → formulaAnswer file (length work) ≡ Accepted m n → work′ ≡ formulaSpace file work → Named (nodeAt file) n named → Wrote 0 (linesText work′ m (n - 1) named) text text′ end → Wrote 0 (textOf file) text text′ end
+pub wrote-listing :
+    (file work work′ : List ℕ) (m n : ℕ) (named : AttrSet) (text text′ : List ℕ) (end : ℕ)
+    → 65536 ≤ length work
+    → formulaAnswer file (length work) ≡ Accepted m n
+    → work′ ≡ formulaSpace file work
+    → Named (nodeAt file) n named
+    → Wrote 0 (linesText work′ m (n - 1) named) text text′ end
+    → Wrote 0 (textOf file) text text′ end
 wrote-listing file work work′ m n named text text′ end enough e space named-in wrote =
     let accepted = answer-file file (length work) m n e .0 in
     let counts = filled-counts file (length work) m n e in
@@ -97,11 +108,17 @@ wrote-listing file work work′ m n named text text′ end enough e space named-
     ∙ sym (text-accepted file m n accepted))
     wrote
 
-pub wrote-refusal : (file : List ℕ) (size : ℕ) (r : Refusal) (text text′ : List ℕ) (end : ℕ) → 65536 ≤ size → formulaAnswer file size ≡ FileRefused r → Wrote 0 ((114 ∷ 101 ∷ 102 ∷ 117 ∷ 115 ∷ 101 ∷ 100 ∷ 32 ∷ []) ++ decimal (numberOf r) ++ newline) text text′ end → Wrote 0 (textOf file) text text′ end
+pub wrote-refusal :
+    (file : List ℕ) (size : ℕ) (r : Refusal) (text text′ : List ℕ) (end : ℕ)
+    → 65536 ≤ size
+    → formulaAnswer file size ≡ FileRefused r
+    → Wrote 0 ((114 ∷ 101 ∷ 102 ∷ 117 ∷ 115 ∷ 101 ∷ 100 ∷ 32 ∷ []) ++ decimal (numberOf r) ++ newline) text text′ end
+    → Wrote 0 (textOf file) text text′ end
 wrote-refusal file size r text text′ end enough e wrote = wrote-as (sym (text-refused file r (refused-file file size r enough e))) wrote
 
 -- ---- the answer and the slices, in each case
 
+-- answer and slices are as the listing's definitions say
 abbrev pub Outcome : List ℕ → List ℕ → List ℕ → Listed → List ℕ → List ℕ → Type 0
 Outcome file work text r work′ text′ =
     (r ≡ listedAnswer file (length work) (length text))

@@ -1,4 +1,6 @@
--- What the verdict in the listing promises about types, over the typing rules: demand 3, "A verdict, wherever one is given, is untypable exactly when no assignment types the node". The listing gives one in its first line, for the last node of an accepted file. A reader needs, besides this page:
+-- What the verdict in the listing promises about types, over the typing rules: demand 3. The listing gives a verdict in
+-- its first line, for the last node of an accepted file, and it is untypable exactly when no assignment types the node.
+-- A reader needs, besides this page:
 --   Typing         an assignment of types and the type that the rules derive under it   (crate principal, Principal)
 --   expressionAt   the expression of a node                                             (crate formula, Expressions)
 --   nodeText       the line of a node with its verdict                                  (Lines)
@@ -15,17 +17,17 @@ use lib.Seq.{getD-append-add}
 use Rattle.bits.specs.Booleans.{is-false}
 use Rattle.algebra.specs.Expression.{Expression, Legal}
 use Rattle.principal.specs.Principal.{Typing}
-use Rattle.expression.specs.declared.files.Acceptance.the-variants.{Accepted}
-use Rattle.expression.specs.ReadFile.{acceptance}
-use Rattle.expression.specs.Accepted.{accepted-file}
-use Rattle.formula.specs.Expressions.{expressionAt, expression-legal}
-use Rattle.formula.specs.Stored.{formulaSpace}
-use Rattle.verdict.specs.Judged.{blocked-untypable, unblocked-typable}
+use Rattle.expression_file.specs.declared.files.Acceptance.the-variants.{Accepted}
+use Rattle.expression_file.specs.ReadFile.{acceptance}
+use Rattle.expression_file.specs.Accepted.{accepted-file}
+use Rattle.node_expression.specs.NodeExpression.{expressionAt, expression-legal}
+use Rattle.stored_formula.specs.Formula.{formulaSpace}
+use Rattle.verdict_theorems.specs.WitnessLaws.{blocked-untypable, unblocked-typable}
 use Rattle.text.specs.Characters.{decimal, newline}
-use Rattle.listing.specs.declared.operation.Listed.the-variants.{Text}
-use Rattle.listing.specs.Text.{isBlocked, verdictText, nodeLine, listing}
+use Rattle.listing.specs.declared.Listed.the-variants.{Text}
+use Rattle.listing_entries.specs.Text.{isBlocked, verdictText, nodeLine, listing}
 use Rattle.listing.specs.Listing.{listedAnswer, listedText, listedSpace}
-use Rattle.listing.specs.Lines.{nodeText}
+use Rattle.listing_lines.specs.Lines.{nodeText}
 use Rattle.listing.specs.ListingLaws.{text-accepted, checked-goes, listed-in, listed-whole}
 
 -- the text begins with the line of node k and this verdict

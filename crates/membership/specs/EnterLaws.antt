@@ -85,7 +85,12 @@ enter-few s [] es = omega arith
 enter-few s (a ∷ more) [] = let rest = enter-few s more [] in omega arith
 enter-few s (a ∷ more) (e ∷ es) = go (order a (attributeOf e)) (enter-few s more (e ∷ es)) (enter-few s (a ∷ more) es) (enter-few s more es)
   where
-    go : Order a (attributeOf e) → length (enter s more (e ∷ es)) ≤ length more + suc (length es) → length (enter s (a ∷ more) es) ≤ suc (length more) + length es → length (enter s more es) ≤ length more + length es → length (enter s (a ∷ more) (e ∷ es)) ≤ suc (length more) + suc (length es)
+    go :
+        Order a (attributeOf e)
+        → length (enter s more (e ∷ es)) ≤ length more + suc (length es)
+        → length (enter s (a ∷ more) es) ≤ suc (length more) + length es
+        → length (enter s more es) ≤ length more + length es
+        → length (enter s (a ∷ more) (e ∷ es)) ≤ suc (length more) + suc (length es)
     go (lower l) one two three = rw (enter-lower s a more e es l) (omega arith)
     go (higher l) one two three = rw (enter-higher s a more e es l) (omega arith)
     go (equal l) one two three = rw (enter-equal s a more e es l) (omega arith)
@@ -105,7 +110,12 @@ enter-rising s p (a ∷ more) [] small h k =
     rw is (h .0, enter-rising s a more [] small (h .1) tt)
 enter-rising s p (a ∷ more) (e ∷ es) small h k = go (order a (attributeOf e)) (enter-rising s a more (e ∷ es) small (h .1)) (enter-rising s (attributeOf e) (a ∷ more) es small) (enter-rising s a more es small (h .1))
   where
-    go : Order a (attributeOf e) → (RisingEntries a (e ∷ es) → RisingEntries a (enter s more (e ∷ es))) → (Rising (attributeOf e) (a ∷ more) → RisingEntries (attributeOf e) es → RisingEntries (attributeOf e) (enter s (a ∷ more) es)) → (RisingEntries a es → RisingEntries a (enter s more es)) → RisingEntries p (enter s (a ∷ more) (e ∷ es))
+    go :
+        Order a (attributeOf e)
+        → (RisingEntries a (e ∷ es) → RisingEntries a (enter s more (e ∷ es)))
+        → (Rising (attributeOf e) (a ∷ more) → RisingEntries (attributeOf e) es → RisingEntries (attributeOf e) (enter s (a ∷ more) es))
+        → (RisingEntries a es → RisingEntries a (enter s more es))
+        → RisingEntries p (enter s (a ∷ more) (e ∷ es))
     go (lower l) one two three = rw (enter-lower s a more e es l, entry-attribute a s small) (h .0, one (l, k .1))
     go (higher l) one two three = rw (enter-higher s a more e es l) (k .0, two (l, h .1) (k .1))
     go (equal l) one two three = rw (enter-equal s a more e es l, joined-attribute e s small, ← l) (h .0, three (rw l (k .1)))
@@ -129,21 +139,43 @@ enter-holders s p (x ∷ more) [] small h k a q hq =
     go true rest = rw (bit-none q) (sym (or-false (bit s q)))
     go false rest = rest
 enter-holders s p (x ∷ more) (e ∷ es) small h k a q hq =
-    go (order x (attributeOf e)) (λ r. enter-holders s x more (e ∷ es) small (h .1) r a q hq) (λ r. enter-holders s (attributeOf e) (x ∷ more) es small r (k .1) a q hq) (λ r. enter-holders s x more es small (h .1) r a q hq)
+    go (order x (attributeOf e)) (λ r. enter-holders s x more (e ∷ es) small (h .1) r a q hq)
+    (λ r. enter-holders s (attributeOf e) (x ∷ more) es small r (k .1) a q hq) (λ r. enter-holders s x more es small (h .1) r a q hq)
   where
-    lowest : (t : Bool) → eqb a x ≡ t → RisingEntries x (e ∷ es) → bit (holdersIn (enter s more (e ∷ es)) a) q ≡ member a more && bit s q || bit (holdersIn (e ∷ es) a) q → bit (cond t s (holdersIn (enter s more (e ∷ es)) a)) q ≡ (t || member a more) && bit s q || bit (holdersIn (e ∷ es) a) q
+    lowest :
+        (t : Bool)
+        → eqb a x ≡ t
+        → RisingEntries x (e ∷ es)
+        → bit (holdersIn (enter s more (e ∷ es)) a) q ≡ member a more && bit s q || bit (holdersIn (e ∷ es) a) q
+        → bit (cond t s (holdersIn (enter s more (e ∷ es)) a)) q ≡ (t || member a more) && bit s q || bit (holdersIn (e ∷ es) a) q
     lowest true t above rest = let same = eqb-true a x t in rw (holders-below x (e ∷ es) above a (omega arith), bit-none q) (sym (or-false (bit s q)))
     lowest false t above rest = rest
 
-    highest : (t : Bool) → eqb a (attributeOf e) ≡ t → Rising (attributeOf e) (x ∷ more) → bit (holdersIn (enter s (x ∷ more) es) a) q ≡ member a (x ∷ more) && bit s q || bit (holdersIn es a) q → bit (cond t (subsetOf e) (holdersIn (enter s (x ∷ more) es) a)) q ≡ member a (x ∷ more) && bit s q || bit (cond t (subsetOf e) (holdersIn es a)) q
+    highest :
+        (t : Bool)
+        → eqb a (attributeOf e) ≡ t
+        → Rising (attributeOf e) (x ∷ more)
+        → bit (holdersIn (enter s (x ∷ more) es) a) q ≡ member a (x ∷ more) && bit s q || bit (holdersIn es a) q
+        → bit (cond t (subsetOf e) (holdersIn (enter s (x ∷ more) es) a)) q
+        ≡ member a (x ∷ more) && bit s q || bit (cond t (subsetOf e) (holdersIn es a)) q
     highest true t above rest = let same = eqb-true a (attributeOf e) t in rw (rising-above (attributeOf e) (x ∷ more) a above (omega arith))
     highest false t above rest = rest
 
-    both : (t : Bool) → bit (holdersIn (enter s more es) a) q ≡ member a more && bit s q || bit (holdersIn es a) q → bit (cond t (subsetOf (bitOr e s)) (holdersIn (enter s more es) a)) q ≡ (t || member a more) && bit s q || bit (cond t (subsetOf e) (holdersIn es a)) q
+    both :
+        (t : Bool)
+        → bit (holdersIn (enter s more es) a) q ≡ member a more && bit s q || bit (holdersIn es a) q
+        → bit (cond t (subsetOf (bitOr e s)) (holdersIn (enter s more es) a)) q
+        ≡ (t || member a more) && bit s q || bit (cond t (subsetOf e) (holdersIn es a)) q
     both true rest = subset-bit (bitOr e s) q hq ∙ bit-or e s q ∙ or-comm (bit e q) (bit s q) ∙ ap (λ (b : Bool). bit s q || b) (sym (subset-bit e q hq))
     both false rest = rest
 
-    go : Order x (attributeOf e) → (RisingEntries x (e ∷ es) → bit (holdersIn (enter s more (e ∷ es)) a) q ≡ member a more && bit s q || bit (holdersIn (e ∷ es) a) q) → (Rising (attributeOf e) (x ∷ more) → bit (holdersIn (enter s (x ∷ more) es) a) q ≡ member a (x ∷ more) && bit s q || bit (holdersIn es a) q) → (RisingEntries x es → bit (holdersIn (enter s more es) a) q ≡ member a more && bit s q || bit (holdersIn es a) q) → bit (holdersIn (enter s (x ∷ more) (e ∷ es)) a) q ≡ member a (x ∷ more) && bit s q || bit (holdersIn (e ∷ es) a) q
+    go :
+        Order x (attributeOf e)
+        → (RisingEntries x (e ∷ es) → bit (holdersIn (enter s more (e ∷ es)) a) q ≡ member a more && bit s q || bit (holdersIn (e ∷ es) a) q)
+        → (Rising (attributeOf e) (x ∷ more)
+        → bit (holdersIn (enter s (x ∷ more) es) a) q ≡ member a (x ∷ more) && bit s q || bit (holdersIn es a) q)
+        → (RisingEntries x es → bit (holdersIn (enter s more es) a) q ≡ member a more && bit s q || bit (holdersIn es a) q)
+        → bit (holdersIn (enter s (x ∷ more) (e ∷ es)) a) q ≡ member a (x ∷ more) && bit s q || bit (holdersIn (e ∷ es) a) q
     go (lower l) one two three = rw (enter-lower s x more e es l, entry-attribute x s small, entry-subset x s small) (lowest (eqb a x) refl (l, k .1) (one (l, k .1)))
     go (higher l) one two three = rw (enter-higher s x more e es l) (highest (eqb a (attributeOf e)) refl (l, h .1) (two (l, h .1)))
     go (equal l) one two three = rw (enter-equal s x more e es l, joined-attribute e s small, ← l) (both (eqb a x) (three (rw l (k .1))))

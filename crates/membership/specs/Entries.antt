@@ -1,4 +1,5 @@
--- The ordinary attributes of a schema or an instantiation, in rising order, each with the subset of the relations that hold it.
+-- The ordinary attributes of a schema or an instantiation, in rising order, each with the subset of
+-- the relations that hold it.
 use Prim.Native.Nat.{ℕ, _+_, _*_, _/_, _%_, _≤_, _<_}
 use mathlib.Core.Path.{_≡_}
 use mathlib.Core.Bool.{cond}
@@ -11,9 +12,11 @@ use lib.ListN.{length, getD, take}
 abbrev pub entry : ℕ → ℕ → ℕ
 entry a s = a * 256 + s
 
+-- the attribute of an entry
 abbrev pub attributeOf : ℕ → ℕ
 attributeOf e = e / 256
 
+-- its subset
 abbrev pub subsetOf : ℕ → ℕ
 subsetOf e = e % 256
 

@@ -1,4 +1,5 @@
--- Entries that have a relation each: entering keeps them so, and rising lists of them are told apart by the holders of attributes.
+-- Entries that have a relation each: entering keeps them so, and rising lists of them are told apart by
+-- the holders of attributes.
 use Prim.Native.Nat.{ℕ, _%_, _≤_, _<_}
 use mathlib.Core.Path.{_≡_, refl, sym, ap, ap₂, subst, _∙_}
 use mathlib.Core.List.{List, [], _∷_}

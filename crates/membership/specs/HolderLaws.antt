@@ -22,7 +22,13 @@ pub held-member : (p r : ℕ) (es : List ℕ) → r < 8 → RisingEntries p es �
 held-member p r [] hr h a = sym (bit-none r)
 held-member p r (e ∷ es) hr h a = go (bit e r) refl (eqb a (attributeOf e)) refl (held-member (attributeOf e) r es hr (h .1) a)
   where
-    go : (b : Bool) → bit e r ≡ b → (t : Bool) → eqb a (attributeOf e) ≡ t → member a (heldBy r es) ≡ bit (holdersIn es a) r → member a (cond b (attributeOf e ∷ heldBy r es) (heldBy r es)) ≡ bit (cond t (subsetOf e) (holdersIn es a)) r
+    go :
+        (b : Bool)
+        → bit e r ≡ b
+        → (t : Bool)
+        → eqb a (attributeOf e) ≡ t
+        → member a (heldBy r es) ≡ bit (holdersIn es a) r
+        → member a (cond b (attributeOf e ∷ heldBy r es) (heldBy r es)) ≡ bit (cond t (subsetOf e) (holdersIn es a)) r
     go true has true same rest = rw same (sym (subset-bit e r hr ∙ has))
     go true has false other rest = rw other rest
     go false not-has true same rest =

@@ -18,9 +18,9 @@ pub kept-same : (es : List ℕ) (f g : ℕ → Bool) → ((i : ℕ) → i < leng
 kept-same [] f g same = refl
 kept-same (e ∷ es) f g same = ap₂ (λ (b : Bool) (l : List ℕ). cond b (attributeOf e ∷ l) l) (same 0 (omega arith)) (kept-same es f g (λ i h. same (suc i) (omega arith)))
 
--- i entries are judged, k attributes are listed, and what is left comes from entry i on
+-- i entries are tested, k attributes are listed, and what is left comes from entry i on
 pub record Keeping (test : ℕ → Bool) (es before list : List ℕ) (k i : ℕ) : Type 0 where
-  pub judged : i ≤ length es
+  pub tested : i ≤ length es
   pub fewer : k ≤ i
   pub reached : k ≤ length (kept test es)
   pub size : length list ≡ length before
@@ -28,7 +28,7 @@ pub record Keeping (test : ℕ → Bool) (es before list : List ℕ) (k i : ℕ)
   pub rest : drop k (kept test es) ≡ kept test (drop i es)
 
 pub keeping-first : (test : ℕ → Bool) (es list : List ℕ) → Keeping test es list list 0 0
-keeping-first test es list = record { judged = omega arith; fewer = omega arith; reached = omega arith; size = refl; front = λ x h. absurd (omega arith); rest = refl }
+keeping-first test es list = record { tested = omega arith; fewer = omega arith; reached = omega arith; size = refl; front = λ x h. absurd (omega arith); rest = refl }
 
 module _ {test : ℕ → Bool} {es before list : List ℕ} {k i : ℕ} (h : Keeping test es before list k i) where
   -- an entry's attribute is written, and counts if it passes
@@ -45,7 +45,7 @@ module _ {test : ℕ → Bool} {es before list : List ℕ} {k i : ℕ} (h : Keep
       go false lacks =
           let fewer = h .fewer in
           record {
-            judged = omega arith;
+            tested = omega arith;
             fewer = omega arith;
             reached = rw (add-zero k) (h .reached);
             size = length-set list k a ∙ h .size;
@@ -58,7 +58,7 @@ module _ {test : ℕ → Bool} {es before list : List ℕ} {k i : ℕ} (h : Keep
           let fewer = h .fewer in
           let same = h .size in
           record {
-            judged = omega arith;
+            tested = omega arith;
             fewer = omega arith;
             reached = let below = here .below in omega arith;
             size = length-set list k a ∙ h .size;
@@ -69,10 +69,10 @@ module _ {test : ℕ → Bool} {es before list : List ℕ} {k i : ℕ} (h : Keep
           upTo : (x : ℕ) → x < k + 1 → x ≤ k
           upTo x below = omega arith
 
-  -- all entries are judged
+  -- all entries are tested
   end : length es ≤ i → length es ≤ length before → (k ≡ length (kept test es)) × (take k list ≡ kept test es)
   end all fits =
-      let judged = h .judged in
+      let tested = h .tested in
       let empty : drop k (kept test es) ≡ [] = h .rest ∙ ap (kept test) (drop-of-length-le es {i = i} (omega arith)) in
       let left = length-drop k (kept test es) in
       let none = ap length empty in
@@ -90,7 +90,7 @@ module _ (items : List ℕ) (count : ℕ) {test : ℕ → Bool} {before list : L
   size-is = length-take-le count items enough
 
   pub keeping-bounds : (i ≤ count) × (k ≤ i) × (length list ≡ length before)
-  keeping-bounds = let size = size-is in let judged = h .judged in (omega arith, h .fewer, h .size)
+  keeping-bounds = let size = size-is in let tested = h .tested in (omega arith, h .fewer, h .size)
 
   pub keeping-next : {d : ℕ} → i < count → d ≡ cond (test (getD items i 0)) 1 0 → Keeping test (take count items) before (set list k (getD items i 0 / 256)) (k + d) (i + 1)
   keeping-next inside digit =

@@ -2,9 +2,6 @@ pub mod Entries
 pub mod EnterLaws
 pub mod EntriesOnce
 pub mod TableLaws
-pub mod Runs
-pub mod Merging
-pub mod Entering
 pub mod Holders
 pub mod HolderLaws
 pub mod Keeping

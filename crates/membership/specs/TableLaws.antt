@@ -25,7 +25,12 @@ enter-front s (suc n) zero (a ∷ more) (e ∷ es) h = absurd (omega arith)
 enter-front s (suc n) (suc k) (a ∷ more) (e ∷ es) h =
     go (order a (attributeOf e)) (enter-front s n (suc k) more (e ∷ es) (omega arith)) (enter-front s n k (a ∷ more) es (omega arith)) (enter-front s n k more es (omega arith))
   where
-    go : Order a (attributeOf e) → take n (enter s more (e ∷ take k es)) ≡ take n (enter s more (e ∷ es)) → take n (enter s (a ∷ more) (take k es)) ≡ take n (enter s (a ∷ more) es) → take n (enter s more (take k es)) ≡ take n (enter s more es) → take (suc n) (enter s (a ∷ more) (e ∷ take k es)) ≡ take (suc n) (enter s (a ∷ more) (e ∷ es))
+    go :
+        Order a (attributeOf e)
+        → take n (enter s more (e ∷ take k es)) ≡ take n (enter s more (e ∷ es))
+        → take n (enter s (a ∷ more) (take k es)) ≡ take n (enter s (a ∷ more) es)
+        → take n (enter s more (take k es)) ≡ take n (enter s more es)
+        → take (suc n) (enter s (a ∷ more) (e ∷ take k es)) ≡ take (suc n) (enter s (a ∷ more) (e ∷ es))
     go (lower l) one two three = rw (enter-lower s a more e es l, enter-lower s a more e (take k es) l) (ap (λ (t : List ℕ). entry a s ∷ t) one)
     go (higher l) one two three = rw (enter-higher s a more e es l, enter-higher s a more e (take k es) l) (ap (λ (t : List ℕ). e ∷ t) two)
     go (equal l) one two three = rw (enter-equal s a more e es l, enter-equal s a more e (take k es) l) (ap (λ (t : List ℕ). bitOr e s ∷ t) three)
@@ -84,6 +89,7 @@ module _ {es items : List ℕ} {count : ℕ} (t : TableIn es items count) where
 
 -- ---- entries below 2 ^ 24
 
+-- each number is below the bound
 abbrev pub Below : ℕ → List ℕ → Type 0
 Below bound [] = Unit {0}
 Below bound (x ∷ xs) = (x < bound) × Below bound xs

@@ -8,8 +8,8 @@ use borrow.Author.Tests.{le-ltb}
 use lib.ListN.{length}
 use Rattle.refusal.specs.Chain.{refuse, refuse-stops, refuse-passes}
 use Rattle.refusal.specs.declared.Refusal.the-variants.{NodeMap}
-use Rattle.node.specs.declared.reader.Check.the-variants.{Refused}
-use Rattle.node.specs.declared.reader.Reading.{Reading}
+use Rattle.node.specs.declared.checking.Check.the-variants.{Refused}
+use Rattle.node.specs.declared.nodes.Reading.{Reading}
 use Rattle.node.specs.ReadNode.{sizeOf, valueOf, legal, checkFields, checkNode, nodeWith, nodeOf, withNode, readNode}
 use Rattle.node.specs.Legal.{legal-cases}
 
@@ -34,7 +34,13 @@ five-bytes m k x y z u v r =
     ∙ go (legal x) refl
     ∙ sym (ap (withNode _) (refuse-passes _ _ _ _ (le-ltb (length (x ∷ y ∷ z ∷ u ∷ v ∷ [])) 1 (omega arith))))
   where
-    go : (t : Bool) → legal x ≡ t → withNode (nodeWith x (valueOf x (x ∷ y ∷ z ∷ u ∷ v ∷ r))) (refuse Refused (not (legal x)) NodeMap (checkFields m k x (x ∷ y ∷ z ∷ u ∷ v ∷ r))) ≡ withNode (nodeWith x (valueOf x (x ∷ y ∷ z ∷ u ∷ v ∷ []))) (refuse Refused (not (legal x)) NodeMap (checkFields m k x (x ∷ y ∷ z ∷ u ∷ v ∷ [])))
+    go :
+        (t : Bool)
+        → legal x ≡ t
+        → withNode (nodeWith x (valueOf x (x ∷ y ∷ z ∷ u ∷ v ∷ r)))
+        (refuse Refused (not (legal x)) NodeMap (checkFields m k x (x ∷ y ∷ z ∷ u ∷ v ∷ r)))
+        ≡ withNode (nodeWith x (valueOf x (x ∷ y ∷ z ∷ u ∷ v ∷ [])))
+        (refuse Refused (not (legal x)) NodeMap (checkFields m k x (x ∷ y ∷ z ∷ u ∷ v ∷ [])))
     go true e =
         ap (withNode _) (refuse-passes _ _ _ _ (ap not e))
         ∙ five-fields m k x x y z u v r e

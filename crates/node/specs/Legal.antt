@@ -1,4 +1,5 @@
--- What passes a check: a legal map, and a node whose operands are earlier, whose relation is below m, whose attributes are special, whose set has bit 0 clear.
+-- What passes a check: a legal map, and a node whose operands are earlier, whose relation is below m, whose attributes
+-- are special, whose set has bit 0 clear.
 use Prim.Native.Nat.{ℕ, _+_, _*_, _%_, _<_, _≤_}
 use mathlib.Core.Path.{_≡_, refl, sym, ap, subst, _∙_}
 use mathlib.Core.Bool.{Bool, true, false, _||_}
@@ -15,8 +16,8 @@ use Rattle.refusal.specs.Chain.{refuse, refuse-has}
 use Rattle.refusal.specs.declared.Refusal.{Refusal}
 use Rattle.node.specs.declared.nodes.Node.{Node}
 use Rattle.node.specs.declared.nodes.Node.the-variants.{Relation, Binary, WithSet, Renaming, ProjectingOut}
-use Rattle.node.specs.declared.reader.Check.{Check}
-use Rattle.node.specs.declared.reader.Check.the-variants.{Legal, Refused}
+use Rattle.node.specs.declared.checking.Check.{Check}
+use Rattle.node.specs.declared.checking.Check.the-variants.{Legal, Refused}
 use Rattle.node.specs.ReadNode.{sizeOf, valueOf, legal, checkFields, checkNode, nodeWith, nodeOf}
 
 -- a legal map is one of five
@@ -47,7 +48,7 @@ last-map map ok =
 pub first-bit : (low high : ℕ) → bit (low + high * 256) 0 ≡ eqb (low % 2) 1
 first-bit low high = let same : (low + high * 256) % 2 ≡ low % 2 = omega arith in bit-first (low + high * 256) ∙ ap (λ (x : ℕ). eqb x 1) same
 
--- node k of a file with m relations
+-- FORMAT 1.3: each field of node k of a file with m relations has a value that is not wrong
 abbrev pub LegalNode : ℕ → ℕ → Node → Type 0
 LegalNode m k (Relation r) = r < m
 LegalNode m k (Binary op l r) = (l < k) × (r < k)
@@ -55,90 +56,93 @@ LegalNode m k (WithSet op e s) = (e < k) × Clear s
 LegalNode m k (Renaming e old new) = (e < k) × (special old ≡ true) × (special new ≡ true)
 LegalNode m k (ProjectingOut e old) = (e < k) × (special old ≡ true)
 
+-- a legal node of 2 to 5 bytes, which are there
 pub record LegalReading (m k : ℕ) (bytes : List ℕ) (node : Node) (size : ℕ) : Type 0 where
   pub legal : LegalNode m k node
   pub fits : size ≤ length bytes
   pub least : 2 ≤ size
   pub most : size ≤ 5
 
--- what a check of bytes with this map gives: their size, where they hold a legal node, or a refusal of the file's own bytes
-pub data Judged (m k map : ℕ) (bytes : List ℕ) : Check → Type 0 where
-  refused : {r : Refusal} → numberOf r ≤ 10 → Judged m k map bytes (Refused r)
-  passed : {size : ℕ} → legal map ≡ true → size ≡ sizeOf map → LegalReading m k bytes (nodeWith map (valueOf map bytes)) size → Judged m k map bytes (Legal size)
+-- what a check of bytes with this map gives: their size, where they hold a legal node, or a
+-- refusal of the file's own bytes
+pub data SoundCheck (m k map : ℕ) (bytes : List ℕ) : Check → Type 0 where
+  refused : {r : Refusal} → numberOf r ≤ 10 → SoundCheck m k map bytes (Refused r)
+  passed : {size : ℕ} → legal map ≡ true → size ≡ sizeOf map → LegalReading m k bytes (nodeWith map (valueOf map bytes)) size → SoundCheck m k map bytes (Legal size)
 
 module _ (m k : ℕ) (bytes : List ℕ) where
   -- ---- what holds of each end of a chain of refusals holds of the chain
 
-  by-refuse : {map : ℕ} (t : Bool) (r : Refusal) {next : Check} → numberOf r ≤ 10 → (t ≡ false → Judged m k map bytes next) → Judged m k map bytes (refuse Refused t r next)
-  by-refuse {map} t r {next} h f = refuse-has (Judged m k map bytes) Refused t r next (refused h) f
+  by-refuse : {map : ℕ} (t : Bool) (r : Refusal) {next : Check} → numberOf r ≤ 10 → (t ≡ false → SoundCheck m k map bytes next) → SoundCheck m k map bytes (refuse Refused t r next)
+  by-refuse {map} t r {next} h f = refuse-has (SoundCheck m k map bytes) Refused t r next (refused h) f
 
-  by-legal : (map size : ℕ) → legal map ≡ true → size ≡ sizeOf map → LegalNode m k (nodeWith map (valueOf map bytes)) → size ≤ length bytes → T (leb 2 size) → T (leb size 5) → Judged m k map bytes (Legal size)
+  by-legal : (map size : ℕ) → legal map ≡ true → size ≡ sizeOf map → LegalNode m k (nodeWith map (valueOf map bytes)) → size ≤ length bytes → T (leb 2 size) → T (leb size 5) → SoundCheck m k map bytes (Legal size)
   by-legal map size map-is size-is ok fits least most = passed map-is size-is (record { legal = ok; fits = fits; least = lit≤ least; most = lit≤ most })
 
   -- ---- the five chains
 
-  relation-judged : Judged m k 1 bytes (checkFields m k 1 bytes)
+  relation-sound : SoundCheck m k 1 bytes (checkFields m k 1 bytes)
   unfolding checkFields sizeOf
-  relation-judged =
+  relation-sound =
       by-refuse _ _ (lit≤ tt) λ enough.
       by-refuse _ _ (lit≤ tt) λ relation.
       by-legal 1 _ refl refl (leb-false _ _ relation) (ltb-false _ _ enough) tt tt
 
-  binary-judged : Judged m k 14 bytes (checkFields m k 14 bytes)
+  binary-sound : SoundCheck m k 14 bytes (checkFields m k 14 bytes)
   unfolding checkFields sizeOf
-  binary-judged =
+  binary-sound =
       by-refuse _ _ (lit≤ tt) λ enough.
       by-refuse _ _ (lit≤ tt) λ left.
       by-refuse _ _ (lit≤ tt) λ right.
       by-refuse _ _ (lit≤ tt) λ code.
       by-legal 14 _ refl refl (leb-false _ _ left, leb-false _ _ right) (ltb-false _ _ enough) tt tt
 
-  with-set-judged : Judged m k 26 bytes (checkFields m k 26 bytes)
+  with-set-sound : SoundCheck m k 26 bytes (checkFields m k 26 bytes)
   unfolding checkFields sizeOf
-  with-set-judged =
+  with-set-sound =
       by-refuse _ _ (lit≤ tt) λ enough.
       by-refuse _ _ (lit≤ tt) λ operand.
       by-refuse _ _ (lit≤ tt) λ code.
       by-refuse _ _ (lit≤ tt) λ set.
       by-legal 26 _ refl refl (leb-false _ _ operand, clear-set _ set) (ltb-false _ _ enough) tt tt
 
-  renaming-judged : Judged m k 98 bytes (checkFields m k 98 bytes)
+  renaming-sound : SoundCheck m k 98 bytes (checkFields m k 98 bytes)
   unfolding checkFields sizeOf
-  renaming-judged =
+  renaming-sound =
       by-refuse _ _ (lit≤ tt) λ enough.
       by-refuse _ _ (lit≤ tt) λ operand.
       by-refuse _ _ (lit≤ tt) λ old.
       by-refuse _ _ (lit≤ tt) λ new.
       by-legal 98 _ refl refl (leb-false _ _ operand, not-false _ old, not-false _ new) (ltb-false _ _ enough) tt tt
 
-  projecting-out-judged : Judged m k 34 bytes (checkFields m k 34 bytes)
+  projecting-out-sound : SoundCheck m k 34 bytes (checkFields m k 34 bytes)
   unfolding checkFields sizeOf
-  projecting-out-judged =
+  projecting-out-sound =
       by-refuse _ _ (lit≤ tt) λ enough.
       by-refuse _ _ (lit≤ tt) λ operand.
       by-refuse _ _ (lit≤ tt) λ old.
       by-legal 34 _ refl refl (leb-false _ _ operand, not-false _ old) (ltb-false _ _ enough) tt tt
 
-  pub node-judged : Judged m k (getD bytes 0 0) bytes (checkNode m k bytes)
+  pub check-sound : SoundCheck m k (getD bytes 0 0) bytes (checkNode m k bytes)
   unfolding checkNode
-  node-judged =
+  check-sound =
       by-refuse _ _ (lit≤ tt) λ some.
       by-refuse _ _ (lit≤ tt) λ map.
-      legal-cases (getD bytes 0 0) (λ (map : ℕ). Judged m k map bytes (checkFields m k map bytes)) relation-judged binary-judged with-set-judged renaming-judged projecting-out-judged (not-false _ map)
+      legal-cases (getD bytes 0 0) (λ (map : ℕ). SoundCheck m k map bytes (checkFields m k map bytes)) relation-sound binary-sound with-set-sound renaming-sound projecting-out-sound (not-false _ map)
 
 -- ---- what bytes that passed are
 
+-- what the bytes of a node that passed its check are
 pub record Passed (m k : ℕ) (bytes : List ℕ) (size : ℕ) : Type 0 where
   pub map-legal : legal (getD bytes 0 0) ≡ true
   pub size-is : size ≡ sizeOf (getD bytes 0 0)
   pub reading : LegalReading m k bytes (nodeOf bytes) size
 
-passed-is : {m k size : ℕ} {bytes : List ℕ} → Judged m k (getD bytes 0 0) bytes (Legal size) → Passed m k bytes size
+passed-is : {m k size : ℕ} {bytes : List ℕ} → SoundCheck m k (getD bytes 0 0) bytes (Legal size) → Passed m k bytes size
 unfolding nodeOf
 passed-is (passed map-is size-is reading) = record { map-legal = map-is; size-is = size-is; reading = reading }
 
 pub node-passed : (m k : ℕ) (bytes : List ℕ) (size : ℕ) → checkNode m k bytes ≡ Legal size → Passed m k bytes size
-node-passed m k bytes size e = passed-is (subst (Judged m k (getD bytes 0 0) bytes) e (node-judged m k bytes))
+node-passed m k bytes size e = passed-is (subst (SoundCheck m k (getD bytes 0 0) bytes) e (check-sound m k bytes))
 
-pub refused-number : {m k map : ℕ} {bytes : List ℕ} {r : Refusal} → Judged m k map bytes (Refused r) → numberOf r ≤ 10
+pub refused-number : {m k map : ℕ} {bytes : List ℕ} {r : Refusal} → SoundCheck m k map bytes (Refused r) → numberOf r ≤ 10
 refused-number (refused h) = h

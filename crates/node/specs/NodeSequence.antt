@@ -6,8 +6,8 @@ use native.Mathlib.Nat.{zero-add}
 use native.Mathlib.Omega.{arith}
 use lib.ListN.{length, drop, length-drop}
 use Rattle.refusal.specs.declared.Refusal.{Refusal}
-use Rattle.node.specs.declared.reader.Check.{Check}
-use Rattle.node.specs.declared.reader.Check.the-variants.{Legal, Refused}
+use Rattle.node.specs.declared.checking.Check.{Check}
+use Rattle.node.specs.declared.checking.Check.the-variants.{Legal, Refused}
 use Rattle.node.specs.ReadNode.{checkNode, afterNode, checkNodes}
 use Rattle.node.specs.Legal.{node-passed}
 
@@ -62,6 +62,11 @@ module _ (m : ℕ) (bytes : List ℕ) where
   nodes-fit end zero k at h e = let same : at ≡ end = cc in omega arith
   nodes-fit end (suc count) k at h e = go (nodes-fit end count (k + 1)) (checkNode m k (drop at bytes)) refl e
     where
-      go : ((at : ℕ) → at ≤ length bytes → checkNodes m count (k + 1) at bytes ≡ Legal end → end ≤ length bytes) → (c : Check) → checkNode m k (drop at bytes) ≡ c → afterNode c (λ size. checkNodes m count (k + 1) (at + size) bytes) ≡ Legal end → end ≤ length bytes
+      go :
+          ((at : ℕ) → at ≤ length bytes → checkNodes m count (k + 1) at bytes ≡ Legal end → end ≤ length bytes)
+          → (c : Check)
+          → checkNode m k (drop at bytes) ≡ c
+          → afterNode c (λ size. checkNodes m count (k + 1) (at + size) bytes) ≡ Legal end
+          → end ≤ length bytes
       go rest (Refused r) e f = absurd (let z : _≡_ {A = ℕ} 0 1 = cc in omega arith)
       go rest (Legal size) e f = rest (at + size) (node-fits k at size h e) f

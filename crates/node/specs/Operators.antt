@@ -1,4 +1,4 @@
--- Operators by their codes: "14 with code 1 union, 2 difference, 3 natural join, 4 product; 26 with code 5 selection, 6 projection" (document 01).
+-- Operators by their codes (FORMAT 1.4).
 use Prim.Native.Nat.{ℕ}
 use mathlib.Core.Bool.{Bool, cond}
 use lib.Dec.{eqb}
@@ -8,14 +8,14 @@ use Rattle.node.specs.declared.nodes.BinaryOp.the-variants.{Union, Diffe
 use Rattle.node.specs.declared.nodes.SetOp.{SetOp}
 use Rattle.node.specs.declared.nodes.SetOp.the-variants.{Selection, Projection}
 
--- the codes of map 14 and of map 26
+-- FORMAT 1.4: map 14 has the codes 1 to 4, map 26 has 5 and 6
 abbrev pub knownCode : ℕ → ℕ → Bool
 knownCode map code = cond (eqb map 14) (inRange 1 4 code) (inRange 5 6 code)
 
--- the operator of a code of map 14
+-- FORMAT 1.4: the operator of a code of map 14
 unfoldable pub binaryOf : ℕ → BinaryOp
 binaryOf code = cond (eqb code 1) Union (cond (eqb code 2) Difference (cond (eqb code 3) Join Product))
 
--- the operator of a code of map 26
+-- FORMAT 1.4: the operator of a code of map 26
 unfoldable pub setOpOf : ℕ → SetOp
 setOpOf code = cond (eqb code 5) Selection Projection

@@ -10,11 +10,11 @@ use Rattle.attribute_set.specs.Laws.{clear-lacks, has-set}
 use Rattle.refusal.specs.Number.{numberOf}
 use Rattle.refusal.specs.declared.Refusal.{Refusal}
 use Rattle.node.specs.declared.nodes.Node.{Node}
-use Rattle.node.specs.declared.reader.Check.{Check}
-use Rattle.node.specs.declared.reader.Check.the-variants.{Legal, Refused}
-use Rattle.node.specs.declared.reader.Reading.the-variants.{Read, Refused as ReadingRefused}
+use Rattle.node.specs.declared.checking.Check.{Check}
+use Rattle.node.specs.declared.checking.Check.the-variants.{Legal, Refused}
+use Rattle.node.specs.declared.nodes.Reading.the-variants.{Read, Refused as ReadingRefused}
 use Rattle.node.specs.ReadNode.{attributes, sizeOf, valueOf, legal, checkNode, Checked, nodeWith, nodeOf, withNode, readNode}
-use Rattle.node.specs.Legal.{LegalNode, LegalReading, node-passed, refused-number, Judged, node-judged}
+use Rattle.node.specs.Legal.{LegalNode, LegalReading, node-passed, refused-number, SoundCheck, check-sound}
 
 pub checked-legal : (bytes : List ℕ) → Checked bytes → legal (getD bytes 0 0) ≡ true
 checked-legal bytes c = node-passed _ _ bytes _ (c .passed) .map-legal
@@ -59,7 +59,11 @@ module _ (m k : ℕ) (bytes : List ℕ) where
   unfolding readNode
   read-checked node size = go (checkNode m k bytes) refl
     where
-      go : (c : Check) → checkNode m k bytes ≡ c → withNode (nodeOf bytes) c ≡ Read node size → (checkNode m k bytes ≡ Legal size) × (node ≡ nodeOf bytes) × (size ≡ sizeOf (getD bytes 0 0)) × (legal (getD bytes 0 0) ≡ true)
+      go :
+          (c : Check)
+          → checkNode m k bytes ≡ c
+          → withNode (nodeOf bytes) c ≡ Read node size
+          → (checkNode m k bytes ≡ Legal size) × (node ≡ nodeOf bytes) × (size ≡ sizeOf (getD bytes 0 0)) × (legal (getD bytes 0 0) ≡ true)
       go (Refused r) e h = absurd (let z : _≡_ {A = ℕ} 0 1 = cc in omega arith)
       go (Legal s) e h =
           let same : s ≡ size = cc in
@@ -81,4 +85,4 @@ node-legal m k bytes node size e =
     subst (λ (x : Node). LegalReading m k bytes x size) (sym (c .1)) (node-passed m k bytes size (c .0) .reading)
 
 pub node-refused : (m k : ℕ) (bytes : List ℕ) (r : Refusal) → readNode m k bytes ≡ ReadingRefused r → numberOf r ≤ 10
-node-refused m k bytes r e = refused-number (subst (Judged m k (getD bytes 0 0) bytes) (read-refused m k bytes r e) (node-judged m k bytes))
+node-refused m k bytes r e = refused-number (subst (SoundCheck m k (getD bytes 0 0) bytes) (read-refused m k bytes r e) (check-sound m k bytes))

@@ -1,14 +1,13 @@
-// Nodes of an expression, and reading one: "A node starts with a bit map of one byte; only the fields whose bit stands follow, in bit order".
+// Nodes of an expression (FORMAT 1.2 to 1.5), and the check of their bytes (FORMAT 8.3).
+mod checking;
 mod nodes;
-mod reader;
 
+pub use checking::Check;
+pub use checking::check_nodes;
 pub use nodes::BinaryOp;
+pub use nodes::Decoding;
 pub use nodes::Node;
+pub use nodes::Reading;
 pub use nodes::SetOp;
-pub use reader::Check;
-pub use reader::Decoding;
-pub use reader::Reading;
-pub use reader::check_nodes;
-pub use reader::decode;
-pub use reader::read_node;
-pub use reader::size_of;
+pub use nodes::binary_operator;
+pub use nodes::set_operator;

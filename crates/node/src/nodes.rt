@@ -1,9 +1,10 @@
-// Nodes of an expression, and operators by their codes.
+// Nodes of an expression, operators by their codes (FORMAT 1.4), and what reading a node gives.
 ghost use mathlib.Core.Path.{_≡_};
 ghost use Rattle.node.specs.Operators.{binaryOf, setOpOf};
 use attribute_set::AttrSet;
+use refusal::Refusal;
 
-// The operators of map 14.
+// The operators of map 14 (FORMAT 1.4).
 pub enum BinaryOp {
     Union,
     Difference,
@@ -11,13 +12,13 @@ pub enum BinaryOp {
     Product,
 }
 
-// The operators of map 26.
+// The operators of map 26 (FORMAT 1.4).
 pub enum SetOp {
     Selection,
     Projection,
 }
 
-// A node. An operand is the number of an earlier node.
+// A node (FORMAT 1.4). An operand is the number of an earlier node.
 pub enum Node {
     // a relation, by its number
     Relation(u8),
@@ -51,4 +52,16 @@ pub fn set_operator(code: u8) -> SetOp
         5 => SetOp::Selection,
         _ => SetOp::Projection,
     }
+}
+
+// A node with the number of bytes that it takes.
+pub struct Decoding {
+    pub node: Node,
+    pub size: usize,
+}
+
+// The same, or the first refusal.
+pub enum Reading {
+    Read(Node, usize),
+    Refused(Refusal),
 }

@@ -1,9 +1,9 @@
--- A node as a machine word, for callers in C and Rust.
+-- A node as a machine word, for callers in C and Rust (FORMAT 7.19).
 use Prim.Native.Nat.{ℕ, _+_, _*_, _/_, _%_}
 use Rattle.attribute_set.specs.AttrSet.{bitsOf}
 use Rattle.refusal.specs.Number.{numberOf}
-use Rattle.node.specs.declared.reader.Reading.{Reading}
-use Rattle.node.specs.declared.reader.Reading.the-variants.{Read, Refused}
+use Rattle.node.specs.declared.nodes.Reading.{Reading}
+use Rattle.node.specs.declared.nodes.Reading.the-variants.{Read, Refused}
 use Rattle.node.specs.declared.nodes.BinaryOp.{BinaryOp}
 use Rattle.node.specs.declared.nodes.BinaryOp.the-variants.{Union, Difference, Join, Product}
 use Rattle.node.specs.declared.nodes.SetOp.{SetOp}
@@ -11,12 +11,14 @@ use Rattle.node.specs.declared.nodes.SetOp.the-variants.{Selection, Projection}
 use Rattle.node.specs.declared.nodes.Node.{Node}
 use Rattle.node.specs.declared.nodes.Node.the-variants.{Relation, Binary, WithSet, Renaming, ProjectingOut}
 
+-- FORMAT 1.4: the code of an operator of map 14
 abbrev pub binaryNumber : BinaryOp → ℕ
 binaryNumber Union = 1
 binaryNumber Difference = 2
 binaryNumber Join = 3
 binaryNumber Product = 4
 
+-- FORMAT 1.4: the code of an operator of map 26
 abbrev pub setNumber : SetOp → ℕ
 setNumber Selection = 5
 setNumber Projection = 6
@@ -25,7 +27,7 @@ setNumber Projection = 6
 unfoldable pub wordOf : ℕ → ℕ → ℕ → ℕ → ℕ → ℕ
 wordOf a b c d e = a + b * 256 + c * 65536 + d * 16777216 + e * 4294967296
 
--- a node's map and its fields in bit order
+-- FORMAT 7.19: a node's map and its fields in bit order
 unfoldable pub nodeWord : Node → ℕ
 nodeWord (Relation r) = wordOf 1 r 0 0 0
 nodeWord (Binary op l r) = wordOf 14 l r (binaryNumber op) 0
@@ -33,11 +35,11 @@ nodeWord (WithSet op e s) = wordOf 26 e (setNumber op) (bitsOf s % 256) (bitsOf 
 nodeWord (Renaming e old new) = wordOf 98 e old new 0
 nodeWord (ProjectingOut e old) = wordOf 34 e old 0 0
 
--- 0, the number of the node's bytes, and the node
+-- FORMAT 7.19: 0, the number of the node's bytes, and the node
 unfoldable pub readWord : Node → ℕ → ℕ
 readWord node size = (size + nodeWord node * 256) * 256
 
--- what a reading is in numbers: the node and its length, or the refusal's number
+-- FORMAT 7.19: what a reading is in numbers: the node and its length, or the refusal's number
 abbrev pub readingNumber : Reading → ℕ
 readingNumber (Read node size) = readWord node size
 readingNumber (Refused r) = numberOf r

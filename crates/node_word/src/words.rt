@@ -1,4 +1,4 @@
-// A node in a machine word: its map and its fields in bit order, a byte each.
+// A node in a machine word: its map and its fields in bit order, a byte each (FORMAT 7.19).
 ghost use mathlib.Core.Path.{_≡_};
 ghost use Prim.Native.Nat.{_<_, _^_};
 ghost use Rattle.node_word.specs.NodeWord.{binaryNumber, setNumber, wordOf, nodeWord, readWord};
@@ -6,7 +6,8 @@ use node::BinaryOp;
 use node::Node;
 use node::SetOp;
 
-pub fn binary_number(op: BinaryOp) -> u8
+// The code of an operator of map 14.
+fn binary_number(op: BinaryOp) -> u8
     ensures { λ r. ⌜ r ≡ binaryNumber op ⌝ }
 {
     match op {
@@ -17,7 +18,8 @@ pub fn binary_number(op: BinaryOp) -> u8
     }
 }
 
-pub fn set_number(op: SetOp) -> u8
+// The code of an operator of map 26.
+fn set_number(op: SetOp) -> u8
     ensures { λ r. ⌜ r ≡ setNumber op ⌝ }
 {
     match op {
@@ -34,6 +36,7 @@ fn word(a: u8, b: u8, c: u8, d: u8, e: u8) -> u64
     a as u64 + b as u64 * 256 + c as u64 * 65536 + d as u64 * 16777216 + e as u64 * 4294967296
 }
 
+// The node alone.
 fn node_word(node: Node) -> u64
     ensures { λ r. ⌜ r ≡ nodeWord node ⌝ }
     ensures { λ r. ⌜ r < 2 ^ 40 ⌝ }

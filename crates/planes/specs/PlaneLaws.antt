@@ -51,7 +51,7 @@ module _ (b : ℕ) (tests : ℕ → ℕ → Bool) where
 
 -- ---- filling a column, byte by byte, plane by plane
 
--- bytes 0 to j - 1 of every plane are written, and byte j of the first c planes
+-- a loop over the 32 bytes: bytes 0 to j - 1 of every plane are written, and byte j of the first c planes
 pub record Filling (b : ℕ) (tests : ℕ → ℕ → Bool) (j c : ℕ) (column : List ℕ) : Type 0 where
   pub size : length column ≡ b * 32
   pub before : (p i : ℕ) → p < b → i < j → getD column (p * 32 + i) 0 ≡ mapByte (tests p) i
@@ -122,7 +122,10 @@ pub map-step : (step : (ℕ → Bool) → Bool) (column : List ℕ) (j : ℕ) �
 unfolding mapByte
 map-step step column j = pack-same 8 _ (λ i. step (bitIn column (j * 8 + i))) (λ i h. ap step (fun-ext λ p. sym (plane-bit column j i p h)))
 
-pub map-step2 : (step : (ℕ → Bool) → (ℕ → Bool) → Bool) (left right : List ℕ) (j : ℕ) → pack 8 (λ i. step (λ p. bit (getD left (p * 32 + j) 0) i) (λ p. bit (getD right (p * 32 + j) 0) i)) ≡ mapByte (λ s. step (bitIn left s) (bitIn right s)) j
+pub map-step2 :
+    (step : (ℕ → Bool) → (ℕ → Bool) → Bool) (left right : List ℕ) (j : ℕ)
+    → pack 8 (λ i. step (λ p. bit (getD left (p * 32 + j) 0) i) (λ p. bit (getD right (p * 32 + j) 0) i))
+    ≡ mapByte (λ s. step (bitIn left s) (bitIn right s)) j
 unfolding mapByte
 map-step2 step left right j =
     pack-same 8 _ (λ i. step (bitIn left (j * 8 + i)) (bitIn right (j * 8 + i)))

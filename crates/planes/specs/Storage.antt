@@ -10,11 +10,11 @@ use lib.ListN.{length, getD, take, drop, set, length-drop, length-append, List·
 use lib.Seq.{getD-set-same, getD-set-other, ext-getD, length-take-le, getD-take, getD-drop, paste, length-paste}
 use Rattle.bits.specs.Tab.{getD-right}
 
--- column q of all
+-- column q of all columns of w bytes in the work space
 unfoldable pub columnAt : ℕ → List ℕ → ℕ → List ℕ
 columnAt w work q = take w (drop (q * w) work)
 
--- the first c columns of those that start there are these; every other byte is as it was
+-- the first c columns of those that start at `start` are these; every other byte is as it was
 pub record Columns (w : ℕ) (column : ℕ → List ℕ) (start c : ℕ) (old work : List ℕ) : Type 0 where
   pub size : length work ≡ length old
   pub inside : (d i : ℕ) → d < c → i < w → getD work (start + d * w + i) 0 ≡ getD (column d) i 0
@@ -22,7 +22,13 @@ pub record Columns (w : ℕ) (column : ℕ → List ℕ) (start c : ℕ) (old wo
 
 -- ---- copying out
 
-pub copied-more : (column source : List ℕ) (at i : ℕ) → i < length column → ((k : ℕ) → k < i → getD column k 0 ≡ getD source (at + k) 0) → (k : ℕ) → k < i + 1 → getD (set column i (getD source (at + i) 0)) k 0 ≡ getD source (at + k) 0
+pub copied-more :
+    (column source : List ℕ) (at i : ℕ)
+    → i < length column
+    → ((k : ℕ) → k < i → getD column k 0 ≡ getD source (at + k) 0)
+    → (k : ℕ)
+    → k < i + 1
+    → getD (set column i (getD source (at + i) 0)) k 0 ≡ getD source (at + k) 0
 copied-more column source at i inside copied k below = go (eq-or-lt-of-le (le-of below))
   where
     le-of : k < i + 1 → k ≤ i
@@ -109,7 +115,13 @@ module _ (w : ℕ) where
     columns-none = record { size = refl; inside = λ d i h below. absurd (omega arith); outside = λ i h. refl }
 
     -- one column more
-    pub columns-more : (c : ℕ) (work next : List ℕ) → start + c * w + w ≤ length work → length next ≡ w → next ≡ column c → Columns w column start c old work → Columns w column start (c + 1) old (paste work (start + c * w) next w)
+    pub columns-more :
+        (c : ℕ) (work next : List ℕ)
+        → start + c * w + w ≤ length work
+        → length next ≡ w
+        → next ≡ column c
+        → Columns w column start c old work
+        → Columns w column start (c + 1) old (paste work (start + c * w) next w)
     columns-more c work next fits long is f =
         record {
           size = length-paste work (start + c * w) next w (omega arith) (omega arith) ∙ f .size;

@@ -1,1 +1,5 @@
+pub mod Formula
+pub mod Instantiation
+pub mod Plain
+pub mod Blocked
 pub mod Principal

@@ -1,4 +1,5 @@
--- Demand 3 for expressions: the instantiations of an expression's formula are the assignments that type it, each once, with the type that the rules give.
+-- Demand 3 for expressions: the instantiations of an expression's formula are the assignments that type it, each once,
+-- with the type that the rules give.
 use Prim.Native.Nat.{ℕ, _<_, _^_}
 use mathlib.Core.Path.{_≡_, refl, ap, _∙_}
 use mathlib.Core.Logic.{_↔_, Iff·trans, Iff·symm}
@@ -13,10 +14,10 @@ use Rattle.algebra.specs.ByAttribute.{typed-cells, cells-typed}
 use Rattle.states.specs.Coded.{plainCode, plain-values}
 use Rattle.states.specs.Instantiation.{Instantiation as StateInstantiation, InImage as InStateImage}
 use Rattle.states.specs.Principal.{FormulaOf as StateFormulaOf, CellOf as StateCellOf, JustOne, cell-fits, fits-cell, grounded as state-grounded, unique as state-unique, principal as state-principal}
-use Rattle.formulas.specs.Formula.{Formula, Fits, Grounded}
-use Rattle.formulas.specs.Instantiation.{Instantiation, InImage, HasImage, HasOutput}
-use Rattle.formulas.specs.Plain.{statesFormula, toStates, fromStates, types-are, fits-is, image-is, has-image, has-output}
-use Rattle.formulas.specs.Blocked.{Blocked, Fitting, Choice, chosen, chosenType, choice-fits, blocked-none, none-blocked}
+use Rattle.principal.specs.Formula.{Formula, Fits, Grounded}
+use Rattle.principal.specs.Instantiation.{Instantiation, InImage, HasImage, HasOutput}
+use Rattle.principal.specs.Plain.{statesFormula, toStates, fromStates, types-are, fits-is, image-is, has-image, has-output}
+use Rattle.principal.specs.Blocked.{Blocked, Fitting, Choice, chosen, chosenType, choice-fits, blocked-none, none-blocked}
 
 -- F is a formula of e: its bits are the cells of e, at the columns and subsets that there are
 pub record FormulaOf (e : Expression) (F : Formula) : Type 0 where

@@ -1,12 +1,15 @@
--- The number that document 01's table gives each refusal.
+-- The number of each refusal (FORMAT 8.1).
 use Prim.Native.Nat.{ℕ, pred, _≤_}
 use mathlib.Core.Path.{_≡_, refl, sym, ap, _∙_}
 use mathlib.Core.List.{List, [], _∷_}
 use lib.Dec.{lit≤}
 use lib.ListN.{getD}
 use Rattle.refusal.specs.declared.Refusal.{Refusal}
-use Rattle.refusal.specs.declared.Refusal.the-variants.{HeaderTruncated, RelationCount, NodeCount, NodeTruncated, NodeMap, OperatorCode, RelationNumber, Operand, Attribute, NodesFollowed, NodeNumber, WorkSpace, ResultSlice, InputTruncated, CountZero, ListedAttribute, InputFollowed, TooManyAttributes, RepeatedAttribute, TypeVariable, SpecialSubset}
+use Rattle.refusal.specs.declared.Refusal.the-variants.{HeaderTruncated, RelationCount, NodeCount, NodeTruncated, NodeMap, OperatorCode, RelationNumber, Operand, Attribute, NodesFollowed}
+use Rattle.refusal.specs.declared.Refusal.the-variants.{NodeNumber, WorkSpace, ResultSlice, InputTruncated, CountZero, ListedAttribute, InputFollowed, TooManyAttributes, RepeatedAttribute}
+use Rattle.refusal.specs.declared.Refusal.the-variants.{TypeVariable, SpecialSubset}
 
+-- FORMAT 8.1: the number of each name
 abbrev pub numberOf : Refusal → ℕ
 numberOf HeaderTruncated = 1
 numberOf RelationCount = 2
@@ -32,8 +35,12 @@ numberOf SpecialSubset = 21
 
 -- the table's rows, first to last
 table : List Refusal
-table = HeaderTruncated ∷ RelationCount ∷ NodeCount ∷ NodeTruncated ∷ NodeMap ∷ OperatorCode ∷ RelationNumber ∷ Operand ∷ Attribute ∷ NodesFollowed ∷ NodeNumber ∷ WorkSpace ∷ ResultSlice ∷ InputTruncated ∷ CountZero ∷ ListedAttribute ∷ InputFollowed ∷ TooManyAttributes ∷ RepeatedAttribute ∷ TypeVariable ∷ SpecialSubset ∷ []
+table =
+    HeaderTruncated ∷ RelationCount ∷ NodeCount ∷ NodeTruncated ∷ NodeMap ∷ OperatorCode ∷ RelationNumber ∷ Operand ∷ Attribute ∷
+    NodesFollowed ∷ NodeNumber ∷ WorkSpace ∷ ResultSlice ∷ InputTruncated ∷ CountZero ∷ ListedAttribute ∷ InputFollowed ∷
+    TooManyAttributes ∷ RepeatedAttribute ∷ TypeVariable ∷ SpecialSubset ∷ []
 
+-- the refusal with a number
 row : ℕ → Refusal
 row n = getD table (pred n) HeaderTruncated
 

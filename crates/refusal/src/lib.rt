@@ -1,54 +1,54 @@
-// The refusals of document 01 by name, and their numbers.
+// The refusals by name, and their numbers (FORMAT 8.1).
 ghost use mathlib.Core.Path.{_≡_};
 ghost use Rattle.refusal.specs.Number.{numberOf};
 
 pub enum Refusal {
-    // fewer than two bytes
+    // the file has fewer than two bytes
     HeaderTruncated,
-    // m outside its range
+    // m is not 1 to 8
     RelationCount,
-    // n outside its range
+    // n is not 1 to 64
     NodeCount,
-    // bytes end before or within a node
+    // the file ends before a node, or within one
     NodeTruncated,
-    // map not legal
+    // the map is none of the five
     NodeMap,
-    // code not one of its map's
+    // the code is none of its map's
     OperatorCode,
-    // relation number not below m
+    // the relation is m or more
     RelationNumber,
-    // operand not earlier
+    // the operand is the node itself or a later one
     Operand,
-    // attribute not 1 to 15, or bit 0 in a set
+    // an attribute is not 1 to 15, or bit 0 of a set stands
     Attribute,
-    // bytes after the last node
+    // bytes follow the last node
     NodesFollowed,
-    // node asked not below n
+    // the node asked for is n or more
     NodeNumber,
-    // work space under 1,024 n bytes
+    // the work space has fewer than 1,024 n bytes
     WorkSpace,
-    // result slice too short
+    // a result slice is too short
     ResultSlice,
-    // schema or instantiation ends early
+    // a schema or an instantiation ends too early
     InputTruncated,
-    // count byte 0
+    // a count byte is 0
     CountZero,
-    // listed attribute below 16, or not above the one before
+    // a listed attribute is below 16, or does not rise
     ListedAttribute,
-    // bytes left over after a schema or an instantiation
+    // bytes follow a schema or an instantiation
     InputFollowed,
-    // over 255 different ordinary attributes
+    // there are more than 255 different ordinary attributes
     TooManyAttributes,
-    // attribute in two lists of an instantiation
+    // two lists of an instantiation share an attribute
     RepeatedAttribute,
-    // standing bit is no type variable
+    // a bit stands that is no type variable
     TypeVariable,
-    // special attribute's subset not allowed
+    // a special attribute's subset is not allowed in its column
     SpecialSubset,
 }
 
 impl Refusal {
-    // The number of document 01's table.
+    // The number of FORMAT 8.1.
     pub fn number(self) -> u8
         ensures { λ r. ⌜ r ≡ numberOf self ⌝ }
     {

@@ -1,3 +1,4 @@
+pub mod WorkSpace
 pub mod StandingFit
 pub mod Tables
 pub mod RoundTrip

@@ -1,4 +1,5 @@
--- The link to demand 3, in tables: the bytes of an instantiation that fits are an instantiation of the node's stored formula, in the sense of demand 3, with the image and the output of its table. Theorems says it of what Apply leaves.
+-- The link to demand 3, in tables: the bytes of an instantiation that fits are an instantiation of the node's stored
+-- formula, in the sense of demand 3, with the image and the output of its table. Theorems says it of what Apply leaves.
 use Prim.Native.Nat.{ℕ, zero, suc, _*_, _^_, _≤_, _<_}
 use mathlib.Core.Path.{_≡_, refl, sym, ap, subst, _∙_}
 use mathlib.Core.Logic.{_↔_, Iff·trans}
@@ -19,16 +20,16 @@ use Rattle.attribute_set.specs.Laws.{special-range, special-above}
 use Rattle.types.specs.Types.{IsType, Assignment, holders}
 use Rattle.types.specs.Attributes.{special-ordinary}
 use Rattle.algebra.specs.Expression.{Legal}
-use Rattle.expression.specs.Accepted.{accepted-file}
-use Rattle.formulas.specs.Formula.{Formula, isVariable}
-use Rattle.formulas.specs.Instantiation.{Instantiation, HasImage, HasOutput}
-use Rattle.formulas.specs.Plain.{toStates, holders-is, variable, image-is, image-special, image-listed}
+use Rattle.expression_file.specs.Accepted.{accepted-file}
+use Rattle.principal.specs.Formula.{Formula, isVariable}
+use Rattle.principal.specs.Instantiation.{Instantiation, HasImage, HasOutput}
+use Rattle.principal.specs.Plain.{toStates, holders-is, variable, image-is, image-special, image-listed}
 use Rattle.states.specs.Members.{Place, inState, inList, nowhere, place}
 use Rattle.bits.specs.Truth.{is-true, is-false, by-true, same-test, any-proof}
-use Rattle.formula.specs.Expressions.{expressionAt, expression-legal}
-use Rattle.formula.specs.Stored.{formulaSpace}
-use Rattle.verdict.specs.StoredFormula.{formulaIn}
-use Rattle.verdict.specs.Theorems.{principal}
+use Rattle.node_expression.specs.NodeExpression.{expressionAt, expression-legal}
+use Rattle.stored_formula.specs.Formula.{formulaSpace}
+use Rattle.stored_formula.specs.StoredFormula.{formulaIn}
+use Rattle.stored_formula.specs.Theorems.{principal}
 use Rattle.type_record.specs.Record.{TypeRecord, recordBytes, typeOf}
 use Rattle.type_record.specs.RecordBytes.{IsRecord}
 use Rattle.type_record.specs.RecordTypes.{type-of-special, type-of-other, record-type}
@@ -36,9 +37,9 @@ use Rattle.membership.specs.Entries.{holdersIn}
 use Rattle.membership.specs.HolderLaws.{held-member}
 use Rattle.schema.specs.Schema.{noRecord, assignmentOf, recordsOf, entriesOf, mapsOf}
 use Rattle.schema.specs.RecordsLaws.{AllRecords}
-use Rattle.typing.specs.OutputRecord.{outputRecord, output-parts}
-use Rattle.typing.specs.TableTyped.{table-rules, output-record}
-use Rattle.typing.specs.Theorems.{RecordOf}
+use Rattle.table_types.specs.OutputRecord.{outputRecord, output-parts}
+use Rattle.typing_theorems.specs.TableTyped.{table-rules, output-record}
+use Rattle.typing_theorems.specs.Theorems.{RecordOf}
 use Rattle.instantiation.specs.Instantiation.{entriesIn, subsetsOf}
 use Rattle.instantiation.specs.Seen.{nothingSeen}
 use Rattle.instantiation.specs.ReadLaws.{IsLists, lists-read}
@@ -47,12 +48,13 @@ use Rattle.instantiation.specs.Owners.{lists-holders}
 use Rattle.instantiation.specs.TableLaws.{subsets-none}
 use Rattle.special_maps.specs.Special.{mapsFrom}
 use Rattle.special_maps.specs.SpecialLaws.{map-bit}
-use Rattle.application.specs.Apply.{outputBytes}
-use Rattle.application.specs.Fits.{fits-typed}
+use Rattle.apply_answer.specs.Apply.{outputBytes}
+use Rattle.fitting.specs.Fit.{fits-typed}
 use Rattle.round_trip.specs.Tables.{subsets-below}
 use Rattle.schema.specs.Image.{IsTable, image-size, image-records, image-maps, image-entries, image-at, holders-held}
 use Rattle.round_trip.specs.RoundTrip.{applied-table}
 use Rattle.round_trip.specs.Undoing.{Applies, applies-admits}
+use Rattle.admission.specs.Admission.{formulaSize}
 
 -- an instantiation whose subsets and lists are those of the bytes
 pub record AreBytes {F : Formula} (I : Instantiation F) (bytes : List ℕ) (ls : List (List ℕ)) : Type 0 where
@@ -78,9 +80,11 @@ module _ (file : List ℕ) (k : ℕ) (bytes work schema out : List ℕ) (m n : �
   abbrev image : List TypeRecord
   image = recordsOf m (mapsFrom (subsetsOf bytes)) (entriesIn ls)
 
+  -- the assignment that the schema means
   abbrev A : Assignment
   A = assignmentOf image
 
+  -- the output record
   abbrev output : TypeRecord
   output = outputRecord (expressionAt file k) (mapsFrom (subsetsOf bytes)) (entriesIn ls)
 
@@ -110,7 +114,7 @@ module _ (file : List ℕ) (k : ℕ) (bytes work schema out : List ℕ) (m n : �
       }
 
   -- an instantiation with that image and that output
-  image-instantiation : (work′ : List ℕ) → n * 1024 ≤ length work′ → (I : Instantiation (formulaIn (formulaSpace file work′) m k)) × (HasImage I A × HasOutput I (typeOf output))
+  image-instantiation : (work′ : List ℕ) → n * formulaSize ≤ length work′ → (I : Instantiation (formulaIn (formulaSpace file work′) m k)) × (HasImage I A × HasOutput I (typeOf output))
   image-instantiation work′ enough =
       let typed = fits-typed m few (expressionAt file k) legal (subsetsOf bytes) (entriesIn ls) (subsets-none bytes) (a .entries) (a .special) in
       let rules = rw (maps, entries) at (table-rules m few (expressionAt file k) legal image all size (rw (maps, entries) typed)) in
@@ -155,8 +159,14 @@ module _ (file : List ℕ) (k : ℕ) (bytes work schema out : List ℕ) (m n : �
     subset-bytes i h =
         let is = is-true (special i) h in
         let range = special-range i is in
-        sym (holders-is m A i (I .subset i h) (rw (← relations) (ltb→lt (I .subset i h) (2 ^ F .relations) (I .below i h))) (λ r less. same-test (A r i) (bit (I .subset i h) r) (Iff·trans (has-image r (rw relations less) i) (image-special I i h r))))
-        ∙ holders-is m A i (getD (subsetsOf bytes) i 0) (subsets-below m few (expressionAt file k) (subsetsOf bytes) (entriesIn ls) (subsets-none bytes) (a .entries) (a .special) i (omega arith)) (λ r less. special-has i r is less)
+        sym
+        (holders-is m A i (I .subset i h) (rw (← relations) (ltb→lt (I .subset i h) (2 ^ F .relations) (I .below i h)))
+        (λ r less. same-test (A r i) (bit (I .subset i h) r)
+        (Iff·trans (has-image r (rw relations less) i) (image-special I i h r))))
+        ∙ holders-is m A i (getD (subsetsOf bytes) i 0)
+        (subsets-below m few (expressionAt file k) (subsetsOf bytes) (entriesIn ls) (subsets-none bytes) (a .entries) (a .special) i
+        (omega arith))
+        (λ r less. special-has i r is less)
 
     -- an attribute of the list of s has the holders s
     listed-holders : (s : ℕ) (v : T (isVariable F s)) (x : ℕ) → T (I .list s v x) → holdersIn (entriesIn ls) x ≡ s
@@ -186,7 +196,12 @@ module _ (file : List ℕ) (k : ℕ) (bytes work schema out : List ℕ) (m n : �
         go (inState h) = absurd (subst T plain h)
         go (inList s′ v′ t) = moved s′ (sym (listed-holders s′ v′ x t) ∙ held) v′ t
         go (nowhere k none silent) =
-            let nobody = holders-is m A x 0 (pow-pos m) (λ r less. same-test (A r x) (bit 0 r) ((λ t. absurd (none r true (image-is I r x .0 (has-image r (rw relations less) x .0 t)))), (λ t. absurd (subst T (bit-none r) t)))) in
+            let nobody = holders-is m A x 0 (pow-pos m)
+            (λ r less. same-test (A r x) (bit 0 r) (
+              (λ t. absurd (none r true (image-is I r x .0 (has-image r (rw relations less) x .0 t)))),
+              (λ t. absurd (subst T (bit-none r) t)),
+            ))
+            in
             let same = sym held ∙ sym (holders-are x plain) ∙ nobody in
             let least = some in
             absurd (omega arith)
@@ -195,7 +210,13 @@ module _ (file : List ℕ) (k : ℕ) (bytes work schema out : List ℕ) (m n : �
     are-bytes = record { subsets = subset-bytes; lists = λ s v x. (list-bytes s v x, bytes-list s v x) }
 
   -- the bytes are an instantiation of the node's stored formula, with the image and the output of the table
-  pub bytes-instantiation : (work′ : List ℕ) → n * 1024 ≤ length work′ → (I : Instantiation (formulaIn (formulaSpace file work′) m k)) × (AreBytes I bytes ls × (HasImage I (assignmentOf (recordsOf m (mapsFrom (subsetsOf bytes)) (entriesIn ls))) × HasOutput I (typeOf (outputRecord (expressionAt file k) (mapsFrom (subsetsOf bytes)) (entriesIn ls)))))
+  pub bytes-instantiation :
+      (work′ : List ℕ)
+      → n * formulaSize ≤ length work′
+      → (I : Instantiation (formulaIn (formulaSpace file work′) m k))
+      × (AreBytes I bytes ls
+      × (HasImage I (assignmentOf (recordsOf m (mapsFrom (subsetsOf bytes)) (entriesIn ls)))
+      × HasOutput I (typeOf (outputRecord (expressionAt file k) (mapsFrom (subsetsOf bytes)) (entriesIn ls)))))
   bytes-instantiation work′ enough =
       let i = image-instantiation work′ enough in
       (i .0, (are-bytes (formulaIn (formulaSpace file work′) m k) refl (i .0) (i .1 .0), i .1))

@@ -1,4 +1,5 @@
--- The second half of demand 2: Apply and Recover undo each other, byte by byte. First in tables: what is read from the bytes that the other has written.
+-- The second half of demand 2: Apply and Recover undo each other, byte by byte. First in tables: what is read from the
+-- bytes that the other has written.
 use Prim.Native.Nat.{ℕ, _≤_}
 use mathlib.Core.Path.{_≡_, sym, ap, ap₂, _∙_}
 use mathlib.Core.Bool.{true, false}
@@ -8,42 +9,46 @@ use lib.ListN.{length, getD, drop}
 use Rattle.bits.specs.Word.{Bytes}
 use Rattle.algebra.specs.Expression.{Expression}
 use Rattle.type_record.specs.Record.{TypeRecord}
-use Rattle.schema.specs.Schema.{recordsRead, readRecords, schemaBytes, recordsOf, entriesOf, mapsOf, schemaReading}
+use Rattle.schema.specs.Schema.{readRecords, schemaBytes, recordsOf, entriesOf, mapsOf, schemaReading}
 use Rattle.schema.specs.RecordsLaws.{AllRecords, records-read, records-written}
 use Rattle.schema.specs.EntriesLaws.{table-records}
 use Rattle.schema.specs.TableLaws.{ReadSchema}
 use Rattle.instantiation.specs.Seen.{nothingSeen, repeatedIn}
-use Rattle.instantiation.specs.Instantiation.{listsRead, readLists, entriesIn, allListed, subsetsOf, listsOf, instantiationBytes, instantiationReading}
+use Rattle.instantiation.specs.Instantiation.{readLists, entriesIn, allListed, subsetsOf, listsOf, instantiationBytes, instantiationReading}
 use Rattle.instantiation.specs.ReadLaws.{IsLists, lists-read, lists-written, written-lists, written-subsets}
 use Rattle.instantiation.specs.EntriesLaws.{entries-rising, entries-below, entries-lists, lists-of, lists-once, lists-entries}
 use Rattle.instantiation.specs.TableLaws.{ReadInstantiation, read-instantiation, subsets-size, subsets-none, subsets-small}
 use Rattle.special_maps.specs.Special.{mapsFrom, subsetsFrom}
 use Rattle.special_maps.specs.SpecialLaws.{subsets-back, maps-back, subset-zero}
 use Rattle.special_maps.specs.SpecialLaws as Special
-use Rattle.application.specs.Fits.{entriesFit, specialsFit}
-use Rattle.application.specs.Apply.{imageBytes}
-use Rattle.application.specs.Recover.{recoveredBytes}
+use Rattle.fitting.specs.Fit.{entriesFit, specialsFit}
+use Rattle.apply_answer.specs.Apply.{imageBytes}
+use Rattle.recover_answer.specs.Recover.{recoveredBytes}
 use Rattle.schema.specs.Image.{IsTable, held-positive, image-schema as table-schema, schema-table}
 use Rattle.round_trip.specs.Tables.{fit-table}
+use Rattle.refusal.specs.Several.{severalRead as recordsRead, severalRead as listsRead}
 
 -- ---- an instantiation that fits, its image, and what is recovered from it
 
-module _ (m : ℕ) (few : m ≤ 8) (e : Expression) (bytes : List ℕ) (below : Bytes bytes) (ls : List (List ℕ)) (long : 47 ≤ length bytes) (read : readLists bytes 256 0 (drop 47 bytes) ≡ listsRead ls) (once : repeatedIn nothingSeen (allListed ls) ≡ false) (most : length (entriesIn ls) ≤ 255) (fit : entriesFit m e (entriesIn ls) ≡ true) (special : specialsFit m e (subsetsOf bytes) ≡ true) where
-  lists : IsLists ls
-  lists = lists-read bytes ls below long read
+module _ (m : ℕ) (few : m ≤ 8) (e : Expression) (bytes : List ℕ) (below : Bytes bytes) (ls : List (List ℕ)) (long : 47 ≤ length bytes)
+    (read : readLists bytes 256 0 (drop 47 bytes) ≡ listsRead ls) (once : repeatedIn nothingSeen (allListed ls) ≡ false)
+    (most : length (entriesIn ls) ≤ 255) (fit : entriesFit m e (entriesIn ls) ≡ true) (special : specialsFit m e (subsetsOf bytes) ≡ true)
+  where
+    lists : IsLists ls
+    lists = lists-read bytes ls below long read
 
-  pub applied-table : IsTable m (mapsFrom (subsetsOf bytes)) (entriesIn ls)
-  applied-table = fit-table m few e (subsetsOf bytes) (entriesIn ls) (subsets-none bytes) fit special most (entries-rising ls lists) (entries-below ls lists)
+    pub applied-table : IsTable m (mapsFrom (subsetsOf bytes)) (entriesIn ls)
+    applied-table = fit-table m few e (subsetsOf bytes) (entriesIn ls) (subsets-none bytes) fit special most (entries-rising ls lists) (entries-below ls lists)
 
-  -- the image is read as the table that was applied
-  pub image-schema : ReadSchema m (imageBytes m (subsetsOf bytes) (entriesIn ls)) (schemaReading m (imageBytes m (subsetsOf bytes) (entriesIn ls))) (recordsOf m (mapsFrom (subsetsOf bytes)) (entriesIn ls))
-  image-schema = table-schema m few (mapsFrom (subsetsOf bytes)) (entriesIn ls) applied-table
+    -- the image is read as the table that was applied
+    pub image-schema : ReadSchema m (imageBytes m (subsetsOf bytes) (entriesIn ls)) (schemaReading m (imageBytes m (subsetsOf bytes) (entriesIn ls))) (recordsOf m (mapsFrom (subsetsOf bytes)) (entriesIn ls))
+    image-schema = table-schema m few (mapsFrom (subsetsOf bytes)) (entriesIn ls) applied-table
 
-  -- what is recovered from that table is the instantiation
-  pub recovered-same : getD ls 0 [] ≡ [] → recoveredBytes (mapsFrom (subsetsOf bytes)) (entriesIn ls) ≡ bytes
-  recovered-same none =
-      ap₂ instantiationBytes (subsets-back (subsetsOf bytes) (subsets-size bytes) (subsets-small bytes below)) (entries-lists ls lists none once)
-      ∙ lists-written bytes ls below long read
+    -- what is recovered from that table is the instantiation
+    pub recovered-same : getD ls 0 [] ≡ [] → recoveredBytes (mapsFrom (subsetsOf bytes)) (entriesIn ls) ≡ bytes
+    recovered-same none =
+        ap₂ instantiationBytes (subsets-back (subsetsOf bytes) (subsets-size bytes) (subsets-small bytes below)) (entries-lists ls lists none once)
+        ∙ lists-written bytes ls below long read
 
 -- ---- a schema that fits, its instantiation, and what is applied to it
 
@@ -58,7 +63,10 @@ module _ (m : ℕ) (few : m ≤ 8) (schema : List ℕ) (below : Bytes schema) (t
   written-lists-are = lists-of (entriesOf ts) (recovered-table .rising) (recovered-table .below) most
 
   -- the instantiation is read as the table that was recovered
-  pub written-instantiation : 47 ≤ length (recoveredBytes (mapsOf ts) (entriesOf ts)) → ReadInstantiation (recoveredBytes (mapsOf ts) (entriesOf ts)) (instantiationReading (recoveredBytes (mapsOf ts) (entriesOf ts))) (listsOf (entriesOf ts))
+  pub written-instantiation :
+      47 ≤ length (recoveredBytes (mapsOf ts) (entriesOf ts))
+      → ReadInstantiation (recoveredBytes (mapsOf ts) (entriesOf ts)) (instantiationReading (recoveredBytes (mapsOf ts) (entriesOf ts)))
+      (listsOf (entriesOf ts))
   written-instantiation long =
       let back = lists-entries (entriesOf ts) (recovered-table .rising) (held-positive m (entriesOf ts) (recovered-table .held)) in
       read-instantiation (recoveredBytes (mapsOf ts) (entriesOf ts)) (listsOf (entriesOf ts)) long

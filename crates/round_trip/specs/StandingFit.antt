@@ -1,4 +1,5 @@
--- 20 by the standing bits: the code tests the entries; that is document 01's "standing bit is no type variable", for all 256 bits of the map as it stands in the bytes.
+-- 20 by the standing bits: the code tests the entries; that is the test of FORMAT 6.3, for all 256 bits of the plane
+-- as it stands in the bytes.
 use Prim.Native.Nat.{ℕ, _≤_, _<_}
 use mathlib.Core.Path.{_≡_, refl, sym, ap, ap₂, _∙_}
 use mathlib.Core.Logic.{_↔_}
@@ -12,14 +13,17 @@ use Rattle.bits.specs.AllBelow.{allBelow, in-all, all-in, not-all, all-fails}
 use Rattle.bits.specs.Booleans.{same-test, and-left, and-right}
 use Rattle.bits.specs.Word.{Bytes}
 use Rattle.refusal.specs.declared.Refusal.the-variants.{TypeVariable, SpecialSubset}
-use Rattle.expression.specs.declared.files.Acceptance.the-variants.{Accepted}
-use Rattle.expression.specs.Admission.{sliced}
+use Rattle.expression_file.specs.declared.files.Acceptance.the-variants.{Accepted}
+use Rattle.admission.specs.Admission.{sliced, admitted}
 use Rattle.algebra.specs.Expression.{Expression}
 use Rattle.states.specs.Formula.{typeVariable}
-use Rattle.formula.specs.Expressions.{expressionAt}
-use Rattle.formula.specs.Stored.{allowedBit, admitted, formulaSpace}
-use Rattle.formula.specs.StoredLaws.{allowed-below, admitted-passes, admitted-space}
-use Rattle.verdict.specs.StoredFormula.{formulaIn, stored-allowed}
+use Rattle.node_expression.specs.NodeExpression.{expressionAt}
+use Rattle.stored_formula.specs.FormulaBytes.{allowedBit}
+use Rattle.stored_formula.specs.Formula.{formulaSpace}
+use Rattle.stored_formula.specs.FormulaBytesLaws.{allowed-below}
+use Rattle.admission.specs.AdmissionLaws.{admitted-passes}
+use Rattle.stored_formula.specs.FormulaLaws.{admitted-space}
+use Rattle.stored_formula.specs.StoredFormula.{formulaIn, stored-allowed}
 use Rattle.membership.specs.Entries.{subsetOf}
 use Rattle.schema.specs.Bounds.{Held, at-held}
 use Rattle.schema.specs.declared.reading.Judgement.the-variants.{Read}
@@ -28,11 +32,13 @@ use Rattle.instantiation.specs.ListZero.{list-zero}
 use Rattle.instantiation.specs.ReadLaws.{lists-read}
 use Rattle.instantiation.specs.StandingBits.{zero-clear, standing-entry, entry-standing}
 use Rattle.instantiation.specs.TableLaws.{ReadInstantiation, instantiation-read, read-entries}
-use Rattle.application.specs.Fits.{entriesFit, specialsFit, entry-fits, fit-entries}
-use Rattle.application.specs.Apply.{tableApplied, applyAnswer}
-use Rattle.application.specs.ApplyLaws.{table-fits, entries-refused, specials-refused, read-goes, apply-goes, apply-passed}
-use Rattle.application.specs.declared.applying.Application.{Application}
-use Rattle.application.specs.declared.applying.Application.the-variants.{Refused}
+use Rattle.fitting.specs.Fit.{entriesFit, specialsFit, entry-fits, fit-entries}
+use Rattle.apply_answer.specs.Apply.{tableApplied, applyAnswer}
+use Rattle.apply_answer.specs.ApplyLaws.{table-fits, entries-refused, specials-refused, read-goes, apply-goes, apply-passed}
+use Rattle.apply_answer.specs.declared.Application.{Application}
+use Rattle.apply_answer.specs.declared.Application.the-variants.{Refused}
+use Rattle.type_record.specs.Record.{outputSize}
+use Rattle.schema.specs.Schema.{schemaSize}
 
 -- entries that fit are each held by some of m relations
 pub fit-held : (m : ℕ) (e : Expression) (es : List ℕ) → entriesFit m e es ≡ true → Held m es
@@ -101,7 +107,9 @@ module _ (m : ℕ) (e : Expression) (bytes : List ℕ) (below : Bytes bytes) (i 
 
 -- ---- Apply's answer, where nothing before 20 is refused
 
-module _ (file : List ℕ) (k : ℕ) (bytes work schema out : List ℕ) (m n : ℕ) (below : Bytes bytes) (goes : sliced (sliced (admitted file k (length work)) (length schema) 4104) (length out) 513 ≡ Accepted m n) (read : instantiationReading bytes .judgement ≡ Read) where
+module _ (file : List ℕ) (k : ℕ) (bytes work schema out : List ℕ) (m n : ℕ) (below : Bytes bytes)
+    (goes : sliced (sliced (admitted file k (length work)) (length schema) schemaSize) (length out) outputSize ≡ Accepted m n)
+    (read : instantiationReading bytes .judgement ≡ Read) where
   found : (ls : List (List ℕ)) × ReadInstantiation bytes (instantiationReading bytes) ls
   found = instantiation-read bytes read
 
@@ -125,8 +133,20 @@ module _ (file : List ℕ) (k : ℕ) (bytes work schema out : List ℕ) (m n : �
 
       go : (t : Bool) → entriesFit m (expressionAt file k) (instantiationReading bytes .entries) ≡ t → (u : Bool) → specialsFit m (expressionAt file k) (instantiationReading bytes .subsets) ≡ u → t ≡ false
       go false fails u is = refl
-      go true fit false fails = absurd (let wrong = other (Refused SpecialSubset) (specials-refused m (expressionAt file k) (instantiationReading bytes .subsets) (instantiationReading bytes .entries) schema out fit fails .0) in let z : _≡_ {A = ℕ} 0 1 = cc in omega arith)
-      go true fit true special = absurd (let wrong = other _ (table-fits m (expressionAt file k) (instantiationReading bytes .subsets) (instantiationReading bytes .entries) schema out fit special .0) in let z : _≡_ {A = ℕ} 0 1 = cc in omega arith)
+      go true fit false fails =
+          absurd
+          (let wrong = other (Refused SpecialSubset)
+          (specials-refused m (expressionAt file k) (instantiationReading bytes .subsets) (instantiationReading bytes .entries)
+          schema out fit fails .0)
+          in
+          let z : _≡_ {A = ℕ} 0 1 = cc in omega arith)
+      go true fit true special =
+          absurd
+          (let wrong = other _
+          (table-fits m (expressionAt file k) (instantiationReading bytes .subsets) (instantiationReading bytes .entries) schema
+          out fit special .0)
+          in
+          let z : _≡_ {A = ℕ} 0 1 = cc in omega arith)
 
   fails-said : standingFit m (expressionAt file k) bytes ≡ false → applyAnswer file k bytes (length work) (length schema) (length out) ≡ Refused TypeVariable
   fails-said fails =
@@ -143,12 +163,18 @@ module _ (file : List ℕ) (k : ℕ) (bytes work schema out : List ℕ) (m n : �
       ap (λ (t : Bool). ltb 0 s && t) (rw (← space) (stored-allowed file m n (admits .accepted) work (admits .workSpace) k (admits .node) 0 s (lit< tt) h))
 
   -- 20: some standing bit of the map in the bytes is no type variable of the node's stored formula
-  pub apply-variable : (applyAnswer file k bytes (length work) (length schema) (length out) ≡ Refused TypeVariable) ↔ ((s : ℕ) × ((s < 256) × ((standing bytes s ≡ true) × (typeVariable (formulaIn (formulaSpace file work) m k .allowed 0) s ≡ false))))
+  pub apply-variable :
+      (applyAnswer file k bytes (length work) (length schema) (length out) ≡ Refused TypeVariable) ↔
+      ((s : ℕ)
+      × ((s < 256) × ((standing bytes s ≡ true) × (typeVariable (formulaIn (formulaSpace file work) m k .allowed 0) s ≡ false))))
   unfolding standingFit
   apply-variable = (
     (λ said.
         let at = all-fails 256 (λ s. not (standing bytes s) || typeVariable (allowedBit m (expressionAt file k) 0) s) (said-fails said) in
         let parts = fails-both (standing bytes (at .0)) (typeVariable (allowedBit m (expressionAt file k) 0) (at .0)) (at .1 .1) in
         (at .0, (at .1 .0, (parts .0, stored-variable (at .0) (at .1 .0) ∙ parts .1)))),
-    (λ at. fails-said (not-all 256 (λ s. not (standing bytes s) || typeVariable (allowedBit m (expressionAt file k) 0) s) (at .0) (at .1 .0) (both-fail (standing bytes (at .0)) (typeVariable (allowedBit m (expressionAt file k) 0) (at .0)) (at .1 .1 .0) (sym (stored-variable (at .0) (at .1 .0)) ∙ at .1 .1 .1)))),
+    (λ at. fails-said
+        (not-all 256 (λ s. not (standing bytes s) || typeVariable (allowedBit m (expressionAt file k) 0) s) (at .0) (at .1 .0)
+        (both-fail (standing bytes (at .0)) (typeVariable (allowedBit m (expressionAt file k) 0) (at .0)) (at .1 .1 .0)
+        (sym (stored-variable (at .0) (at .1 .0)) ∙ at .1 .1 .1)))),
   )

@@ -1,4 +1,5 @@
--- Which tables there are: those of schemas, and those of instantiations that fit. A table fits a node exactly where it types it.
+-- Which tables there are: those of schemas, and those of instantiations that fit. A table fits a node
+-- exactly where it types it.
 use Prim.Native.Nat.{ℕ, zero, suc, _^_, _≤_, _<_}
 use mathlib.Core.Path.{_≡_, ap₂, _∙_}
 use mathlib.Core.Bool.{true, _&&_}
@@ -12,20 +13,20 @@ use Rattle.algebra.specs.Expression.{Expression, Legal}
 use Rattle.algebra.specs.Cell.{plain}
 use Rattle.algebra.specs.CellLaws.{cell-depends}
 use Rattle.bits.specs.Booleans.{same-test, and-left, and-right}
-use Rattle.formula.specs.Stored.{allowedBit}
-use Rattle.formula.specs.StoredLaws.{allowed-is, allowed-below}
+use Rattle.stored_formula.specs.FormulaBytes.{allowedBit}
+use Rattle.stored_formula.specs.FormulaBytesLaws.{allowed-is, allowed-below}
 use Rattle.membership.specs.Entries.{subsetOf}
 use Rattle.membership.specs.EnterLaws.{RisingEntries}
 use Rattle.membership.specs.TableLaws.{Below}
-use Rattle.typing.specs.Output.{specialHolders, typedIn}
-use Rattle.typing.specs.OutputLaws.{typed-special, typed-entry}
-use Rattle.typing.specs.OutputRecord.{entry-cell}
+use Rattle.table_types.specs.Output.{specialHolders, typedIn}
+use Rattle.table_types.specs.OutputLaws.{typed-special, typed-entry}
+use Rattle.table_types.specs.OutputRecord.{entry-cell}
 use Rattle.special_maps.specs.Special.{mapsFrom, subsetsFrom}
 use Rattle.special_maps.specs.SpecialLaws.{maps-length, maps-even, maps-small as subset-maps-small, maps-empty as subset-maps-empty, subset-bit, subset-below, subset-zero, maps-back}
 use Rattle.schema.specs.Bounds.{held-at}
-use Rattle.application.specs.Fits.{entriesFit, specialsFit, fit-entries, special-fits, fit-specials, fits-typed}
+use Rattle.fitting.specs.Fit.{entriesFit, specialsFit, fit-entries, special-fits, fit-specials, fits-typed}
 use Rattle.schema.specs.Image.{IsTable}
-use Rattle.application.specs.Recover.{fits}
+use Rattle.recover_answer.specs.Recover.{fits}
 use Rattle.round_trip.specs.StandingFit.{fit-held}
 
 -- ---- of instantiations
@@ -68,7 +69,10 @@ module _ (m : ℕ) (few : m ≤ 8) (e : Expression) (legal : Legal m e) (maps es
   fit-typed : fits m e maps es ≡ true → typedIn e maps es ≡ true
   fit-typed fit =
       let back = maps-back maps (table .size) (table .small) in
-      rw back at (fits-typed m few e legal (subsetsFrom maps) es (subset-zero maps (table .even)) (and-left (entriesFit m e es) (specialsFit m e (subsetsFrom maps)) fit) (and-right (entriesFit m e es) (specialsFit m e (subsetsFrom maps)) fit))
+      rw back at
+      (fits-typed m few e legal (subsetsFrom maps) es (subset-zero maps (table .even))
+      (and-left (entriesFit m e es) (specialsFit m e (subsetsFrom maps)) fit)
+      (and-right (entriesFit m e es) (specialsFit m e (subsetsFrom maps)) fit))
 
   pub fits-same : fits m e maps es ≡ typedIn e maps es
   fits-same = same-test (fits m e maps es) (typedIn e maps es) (fit-typed, typed-fit)

@@ -1,14 +1,18 @@
--- The second half of demand 2, and the link to demand 3, of what Apply and Recover leave in their slices: "Apply and Recover undo each other byte by byte"; Recover recovers exactly where the rules derive a type; Apply's output record is Typing's for the schema that Apply writes; and the bytes that Apply accepts are an instantiation of the stored formula in the sense of demand 3. A reader needs, besides this page:
+-- The second half of demand 2, and the link to demand 3, of what Apply and Recover leave in their slices: each undoes
+-- the other, byte by byte; Recover recovers exactly where the rules derive a type; Apply's output record is Typing's
+-- for the schema that Apply writes; and the bytes that Apply accepts are an instantiation of the stored formula in the
+-- sense of demand 3 (FORMAT 6.7). A reader needs, besides this page:
 --   applyAnswer, applySpace, applySchema, applyOut   what Apply leaves, by its contract   (crate application, Apply)
 --   recoverAnswer, recoverOut             what Recover leaves, by its contract   (crate application, Recover)
 --   typingAnswer, typingOut               what Typing leaves, by its contract    (crate typing, Typing)
 --   Typed                                 the typing rules                       (crate algebra, Rules)
 --   Recovers                              that Recover refuses nothing, and the records of the schema   (Undoing)
---   readRecords, assignmentOf             a schema's records, and the assignment that they mean   (crate schema, Schema)
+--   readRecords, assignmentOf             a schema's records, and the assignment they mean   (crate schema, Schema)
 --   RecordOf                              the record of a type                   (crate typing, Theorems)
---   Instantiation, HasImage, HasOutput    instantiations, image and output       (crate formulas, Instantiation)
+--   Instantiation, HasImage, HasOutput    instantiations, image and output       (crate principal, Instantiation)
 --   AreBytes                              an instantiation that has the subsets and lists of bytes   (Link)
---   InstantiationOf                       bytes that are an instantiation, with the schema and the output record of its image and output   (below)
+--   InstantiationOf                       bytes that are an instantiation, and the schema and record of its image and
+--                                         output   (below)
 use Prim.Native.Nat.{ℕ, _*_, _≤_}
 use mathlib.Core.Path.{_≡_, refl, sym, ap, ap₂, _∙_}
 use mathlib.Core.Logic.{_↔_}
@@ -21,39 +25,42 @@ use Rattle.bits.specs.Word.{Bytes}
 use Rattle.types.specs.Types.{Attrs}
 use Rattle.algebra.specs.Expression.{Legal}
 use Rattle.algebra.specs.Rules.{Typed}
-use Rattle.expression.specs.declared.files.Acceptance.the-variants.{Accepted}
-use Rattle.expression.specs.ReadFile.{acceptance}
-use Rattle.expression.specs.Accepted.{accepted-file}
-use Rattle.formulas.specs.Formula.{Formula}
-use Rattle.formulas.specs.Instantiation.{Instantiation, HasImage, HasOutput}
-use Rattle.formula.specs.Expressions.{expressionAt, expression-legal}
-use Rattle.formula.specs.Stored.{formulaSpace}
-use Rattle.verdict.specs.StoredFormula.{formulaIn}
-use Rattle.type_record.specs.Record.{TypeRecord, typeOf}
+use Rattle.expression_file.specs.declared.files.Acceptance.the-variants.{Accepted}
+use Rattle.expression_file.specs.ReadFile.{acceptance}
+use Rattle.expression_file.specs.Accepted.{accepted-file}
+use Rattle.principal.specs.Formula.{Formula}
+use Rattle.principal.specs.Instantiation.{Instantiation, HasImage, HasOutput}
+use Rattle.node_expression.specs.NodeExpression.{expressionAt, expression-legal}
+use Rattle.stored_formula.specs.Formula.{formulaSpace}
+use Rattle.stored_formula.specs.StoredFormula.{formulaIn}
+use Rattle.type_record.specs.Record.{TypeRecord, typeOf, outputSize}
 use Rattle.type_record.specs.RecordBytes.{record-length}
 use Rattle.special_maps.specs.Special.{mapsFrom}
-use Rattle.schema.specs.Schema.{recordsRead, readRecords, assignmentOf, recordsOf, entriesOf, mapsOf}
+use Rattle.schema.specs.Schema.{readRecords, assignmentOf, recordsOf, entriesOf, mapsOf, schemaSize}
 use Rattle.schema.specs.RecordsLaws.{AllRecords, records-read}
-use Rattle.instantiation.specs.Instantiation.{listsRead, readLists, entriesIn, subsetsOf}
-use Rattle.typing.specs.Output.{typedIn, outputMap, outputList}
-use Rattle.typing.specs.OutputRecord.{outputRecord}
-use Rattle.typing.specs.TableTyped.{table-rules, rules-table}
-use Rattle.typing.specs.Typing.{typingAnswer, typingOut}
-use Rattle.typing.specs.Theorems.{RecordOf, typing-untyped}
-use Rattle.typing.specs.declared.operation.Answer.the-variants.{Typed as TypedAnswer, Untyped as TypingUntyped}
-use Rattle.application.specs.Apply.{imageBytes, outputBytes, applyAnswer, applySpace, applySchema, applyOut}
-use Rattle.application.specs.Recover.{recoveredBytes, recoverAnswer, recoverOut}
-use Rattle.application.specs.WorkSpace.{applyFills, apply-space}
-use Rattle.application.specs.declared.applying.Application.{Application}
-use Rattle.application.specs.declared.applying.Application.the-variants.{Applied}
-use Rattle.application.specs.declared.recovering.Recovery.the-variants.{Recovered, Untyped}
+use Rattle.instantiation.specs.Instantiation.{readLists, entriesIn, subsetsOf, instantiationSize}
+use Rattle.table_types.specs.Output.{typedIn, outputMap, outputList}
+use Rattle.table_types.specs.OutputRecord.{outputRecord}
+use Rattle.typing_theorems.specs.TableTyped.{table-rules, rules-table}
+use Rattle.typing_answer.specs.Typing.{typingAnswer, typingOut}
+use Rattle.typing_theorems.specs.Theorems.{RecordOf, typing-untyped}
+use Rattle.typing_answer.specs.declared.Answer.the-variants.{Typed as TypedAnswer, Untyped as TypingUntyped}
+use Rattle.apply_answer.specs.Apply.{imageBytes, outputBytes, applyAnswer, applySpace, applySchema, applyOut}
+use Rattle.recover_answer.specs.Recover.{recoveredBytes, recoverAnswer, recoverOut}
+use Rattle.round_trip.specs.WorkSpace.{applyFills, apply-space}
+use Rattle.apply_answer.specs.declared.Application.{Application}
+use Rattle.apply_answer.specs.declared.Application.the-variants.{Applied}
+use Rattle.recover_answer.specs.declared.Recovery.the-variants.{Recovered, Untyped}
 use Rattle.round_trip.specs.Undoing.{Recovers, Applies, applies-admits, apply-table, apply-size, read-image, applied-recovered, applied-typing, recovered-typed, recovered-untyped, recovered-applied}
 use Rattle.round_trip.specs.Unrefused.{applied-applies, recovered-recovers}
 use Rattle.round_trip.specs.Link.{AreBytes, bytes-instantiation, output-is-record}
+use Rattle.refusal.specs.Several.{severalRead as recordsRead, severalRead as listsRead}
+use Rattle.admission.specs.Admission.{formulaSize}
 
 -- ---- Apply answered that it applied, with a schema of `size` bytes and an output record of `width` bytes
 
--- these bytes are an instantiation of a formula: it has the subsets and the lists that they say, its image is the assignment that the schema means, and its output is the type that the record means
+-- these bytes are an instantiation of a formula: it has the subsets and the lists that they say, its image is the
+-- assignment that the schema means, and its output is the type that the record means
 pub record InstantiationOf (F : Formula) (m : ℕ) (bytes schema output : List ℕ) : Type 0 where
   pub instantiation : Instantiation F
   pub lists : List (List ℕ)
@@ -72,7 +79,9 @@ module _ (file : List ℕ) (k : ℕ) (bytes work schema out : List ℕ) (size wi
   apply-filled = apply-space file k bytes work (length schema) (length out) ∙ ap (λ (a : Application). cond (applyFills a) (formulaSpace file work) work) applied
 
 -- the parts that Apply has written, in its table
-module _ (file : List ℕ) (k : ℕ) (bytes work schema out : List ℕ) (m n : ℕ) (ls : List (List ℕ)) (a : Applies file k bytes (length work) (length schema) (length out) m n ls) (size width : ℕ) (applied : applyAnswer file k bytes (length work) (length schema) (length out) ≡ Applied size width) where
+module _ (file : List ℕ) (k : ℕ) (bytes work schema out : List ℕ) (m n : ℕ) (ls : List (List ℕ))
+    (a : Applies file k bytes (length work) (length schema) (length out) m n ls) (size width : ℕ)
+    (applied : applyAnswer file k bytes (length work) (length schema) (length out) ≡ Applied size width) where
   schema-part : take size (applySchema file k bytes (length work) schema (length out)) ≡ imageBytes m (subsetsOf bytes) (entriesIn ls)
   schema-part =
       ap₂ take (apply-size file k bytes work schema out m n ls a size width applied .0) (apply-table file k bytes work schema out m n ls a .1 .0)
@@ -80,7 +89,12 @@ module _ (file : List ℕ) (k : ℕ) (bytes work schema out : List ℕ) (m n : �
 
   output-part : take width (applyOut file k bytes (length work) (length schema) out) ≡ outputBytes (expressionAt file k) (subsetsOf bytes) (entriesIn ls)
   output-part =
-      ap₂ take (apply-size file k bytes work schema out m n ls a size width applied .1 ∙ sym (record-length (outputMap (expressionAt file k) (mapsFrom (subsetsOf bytes))) (outputList (expressionAt file k) (entriesIn ls)))) (apply-table file k bytes work schema out m n ls a .1 .1)
+      ap₂ take
+      (apply-size file k bytes work schema out m n ls a size width applied .1
+      ∙ sym
+      (record-length (outputMap (expressionAt file k) (mapsFrom (subsetsOf bytes)))
+      (outputList (expressionAt file k) (entriesIn ls))))
+      (apply-table file k bytes work schema out m n ls a .1 .1)
       ∙ take-over (outputBytes (expressionAt file k) (subsetsOf bytes) (entriesIn ls)) out
 
 module _ (file : List ℕ) (k : ℕ) (bytes work schema out : List ℕ) (below : Bytes bytes) (size width : ℕ) (applied : applyAnswer file k bytes (length work) (length schema) (length out) ≡ Applied size width) where
@@ -88,11 +102,19 @@ module _ (file : List ℕ) (k : ℕ) (bytes work schema out : List ℕ) (below :
   abbrev pub schemaPart : List ℕ
   schemaPart = take size (applySchema file k bytes (length work) schema (length out))
 
+  -- the part of the output slice that Apply wrote
   abbrev pub outputPart : List ℕ
   outputPart = take width (applyOut file k bytes (length work) (length schema) out)
 
   -- recovering from the schema that was written gives the same instantiation, byte by byte
-  pub apply-recover : (m n : ℕ) → acceptance file ≡ Accepted m n → (work′ out′ : List ℕ) → n * 1024 ≤ length work′ → 812 ≤ length out′ → (recoverAnswer file k schemaPart (length work′) (length out′) ≡ Recovered (length bytes)) × (recoverOut file k schemaPart (length work′) out′ ≡ over bytes out′)
+  pub apply-recover :
+      (m n : ℕ)
+      → acceptance file ≡ Accepted m n
+      → (work′ out′ : List ℕ)
+      → n * formulaSize ≤ length work′
+      → instantiationSize ≤ length out′
+      → (recoverAnswer file k schemaPart (length work′) (length out′) ≡ Recovered (length bytes))
+      × (recoverOut file k schemaPart (length work′) out′ ≡ over bytes out′)
   apply-recover m n accepted work′ out′ space slice =
       let found = applied-applies file k bytes (length work) (length schema) (length out) size width applied in
       let a = found .1 .1 .1 in
@@ -102,7 +124,7 @@ module _ (file : List ℕ) (k : ℕ) (bytes work schema out : List ℕ) (below :
       (applied-recovered file k bytes work schema out (found .0) (found .1 .0) (found .1 .1 .0) below a work′ out′ (rw nodes space) slice)
 
   -- Typing gives that schema the output record that was written
-  pub apply-typing : (out′ : List ℕ) → 513 ≤ length out′ → (typingAnswer file k schemaPart (length out′) ≡ TypedAnswer width) × (typingOut file k schemaPart out′ ≡ over outputPart out′)
+  pub apply-typing : (out′ : List ℕ) → outputSize ≤ length out′ → (typingAnswer file k schemaPart (length out′) ≡ TypedAnswer width) × (typingOut file k schemaPart out′ ≡ over outputPart out′)
   apply-typing out′ slice =
       let found = applied-applies file k bytes (length work) (length schema) (length out) size width applied in
       let a = found .1 .1 .1 in
@@ -110,17 +132,27 @@ module _ (file : List ℕ) (k : ℕ) (bytes work schema out : List ℕ) (below :
       rw (schema-part file k bytes work schema out (found .0) (found .1 .0) (found .1 .1 .0) a size width applied, output-part file k bytes work schema out (found .0) (found .1 .0) (found .1 .1 .0) a size width applied)
       (gives .0 ∙ ap TypedAnswer (sym (apply-size file k bytes work schema out (found .0) (found .1 .0) (found .1 .1 .0) a size width applied .1)), gives .1)
 
-  -- the bytes are an instantiation of the formula that Apply left in the work space, with the image and the output that Apply wrote
+  -- the bytes are an instantiation of the formula that Apply left in the work space, with the image and
+  -- the output that Apply wrote
   pub apply-instantiation : (m n : ℕ) → acceptance file ≡ Accepted m n → InstantiationOf (formulaIn (applySpace file k bytes work (length schema) (length out)) m k) m bytes schemaPart outputPart
   apply-instantiation m n accepted =
       let found = applied-applies file k bytes (length work) (length schema) (length out) size width applied in
       let a = found .1 .1 .1 in
       let counts = sym (applies-admits a .accepted) ∙ accepted in
       let relations : found .0 ≡ m = cc in
-      rw (apply-filled file k bytes work schema out size width applied, schema-part file k bytes work schema out (found .0) (found .1 .0) (found .1 .1 .0) a size width applied, output-part file k bytes work schema out (found .0) (found .1 .0) (found .1 .1 .0) a size width applied, ← relations)
+      rw (
+        apply-filled file k bytes work schema out size width applied,
+        schema-part file k bytes work schema out (found .0) (found .1 .0) (found .1 .1 .0) a size width applied,
+        output-part file k bytes work schema out (found .0) (found .1 .0) (found .1 .1 .0) a size width applied,
+        ← relations,
+      )
       (made (found .0) (found .1 .0) (found .1 .1 .0) a)
     where
-      made : (m n : ℕ) (ls : List (List ℕ)) → Applies file k bytes (length work) (length schema) (length out) m n ls → InstantiationOf (formulaIn (formulaSpace file work) m k) m bytes (imageBytes m (subsetsOf bytes) (entriesIn ls)) (outputBytes (expressionAt file k) (subsetsOf bytes) (entriesIn ls))
+      made :
+          (m n : ℕ) (ls : List (List ℕ))
+          → Applies file k bytes (length work) (length schema) (length out) m n ls
+          → InstantiationOf (formulaIn (formulaSpace file work) m k) m bytes (imageBytes m (subsetsOf bytes) (entriesIn ls))
+          (outputBytes (expressionAt file k) (subsetsOf bytes) (entriesIn ls))
       made m n ls a =
           let i = bytes-instantiation file k bytes work schema out m n ls below a work (applies-admits a .workSpace) in
           record {
@@ -170,7 +202,11 @@ module _ (file : List ℕ) (k : ℕ) (schema work out : List ℕ) (m n : ℕ) (t
     (λ none. go none (typedIn (expressionAt file k) (mapsOf ts) (entriesOf ts)) refl),
   )
     where
-      go : ((t : Attrs) → Typed (assignmentOf ts) (expressionAt file k) t → ⊥) → (t : Bool) → typedIn (expressionAt file k) (mapsOf ts) (entriesOf ts) ≡ t → recoverAnswer file k schema (length work) (length out) ≡ Untyped
+      go :
+          ((t : Attrs) → Typed (assignmentOf ts) (expressionAt file k) t → ⊥)
+          → (t : Bool)
+          → typedIn (expressionAt file k) (mapsOf ts) (entriesOf ts) ≡ t
+          → recoverAnswer file k schema (length work) (length out) ≡ Untyped
       go none true e = absurd (none _ (table-rules m few (expressionAt file k) legal ts (read .1) (read .0) e))
       go none false e = recovered-untyped file k schema work out m n ts below r e
 
@@ -189,7 +225,16 @@ module _ (file : List ℕ) (k : ℕ) (schema work out : List ℕ) (below : Bytes
   instantiationPart = take size (recoverOut file k schema (length work) out)
 
   -- applying it gives the same schema, byte by byte
-  pub recover-apply : (m n : ℕ) → acceptance file ≡ Accepted m n → (work′ schema′ out′ : List ℕ) → n * 1024 ≤ length work′ → 4104 ≤ length schema′ → 513 ≤ length out′ → (width : ℕ) × ((applyAnswer file k instantiationPart (length work′) (length schema′) (length out′) ≡ Applied (length schema) width) × (applySchema file k instantiationPart (length work′) schema′ (length out′) ≡ over schema schema′))
+  pub recover-apply :
+      (m n : ℕ)
+      → acceptance file ≡ Accepted m n
+      → (work′ schema′ out′ : List ℕ)
+      → n * formulaSize ≤ length work′
+      → schemaSize ≤ length schema′
+      → outputSize ≤ length out′
+      → (width : ℕ)
+      × ((applyAnswer file k instantiationPart (length work′) (length schema′) (length out′) ≡ Applied (length schema) width)
+      × (applySchema file k instantiationPart (length work′) schema′ (length out′) ≡ over schema schema′))
   recover-apply m n accepted work′ schema′ out′ space room slice =
       let found = recovered-recovers file k schema work out size said in
       let r = found .1 .1 .1 in
@@ -202,7 +247,14 @@ module _ (file : List ℕ) (k : ℕ) (schema work out : List ℕ) (below : Bytes
 -- ---- Recover beside Typing
 
 -- Recover says untyped exactly where Typing does
-pub recover-typing : (file : List ℕ) (k : ℕ) (schema work out : List ℕ) → Bytes schema → (m n : ℕ) (ts : List TypeRecord) → Recovers file k schema (length work) (length out) m n ts → (out′ : List ℕ) → 513 ≤ length out′ → (recoverAnswer file k schema (length work) (length out) ≡ Untyped) ↔ (typingAnswer file k schema (length out′) ≡ TypingUntyped)
+pub recover-typing :
+    (file : List ℕ) (k : ℕ) (schema work out : List ℕ)
+    → Bytes schema
+    → (m n : ℕ) (ts : List TypeRecord)
+    → Recovers file k schema (length work) (length out) m n ts
+    → (out′ : List ℕ)
+    → outputSize ≤ length out′
+    → (recoverAnswer file k schema (length work) (length out) ≡ Untyped) ↔ (typingAnswer file k schema (length out′) ≡ TypingUntyped)
 recover-typing file k schema work out below m n ts r out′ slice =
     let rules = recover-untyped file k schema work out m n ts below r in
     let typing = typing-untyped file k schema out′ m n ts (record { accepted = r .accepted; node = r .node; slice = slice; bytes = below; read = r .read; few = r .few }) in

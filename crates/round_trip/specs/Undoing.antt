@@ -1,4 +1,5 @@
--- Apply and Recover undo each other, in the bytes of tables: what each gives where nothing is refused, and what the other gives for that. Theorems says it of the slices.
+-- Apply and Recover undo each other, in the bytes of tables: what each gives where nothing is refused, and what the
+-- other gives for that. Theorems says it of the slices.
 use Prim.Native.Nat.{ℕ, _*_, _≤_, _<_}
 use mathlib.Core.Path.{_≡_, refl, sym, ap, ap₂, _∙_}
 use mathlib.Core.Bool.{true, false, _&&_, and-eq-true-iff}
@@ -8,69 +9,77 @@ use lib.ListN.{length}
 use Rattle.bits.specs.Tab.{over}
 use Rattle.bits.specs.Word.{Bytes}
 use Rattle.algebra.specs.Expression.{Legal}
-use Rattle.expression.specs.declared.files.Acceptance.the-variants.{Accepted}
-use Rattle.expression.specs.ReadFile.{acceptance}
-use Rattle.expression.specs.Accepted.{accepted-file}
-use Rattle.expression.specs.Admission.{asked, sliced}
-use Rattle.expression.specs.AdmissionLaws.{sliced-passes, asked-passes}
-use Rattle.formula.specs.Expressions.{expressionAt, expression-legal}
-use Rattle.formula.specs.Stored.{admitted}
-use Rattle.formula.specs.StoredLaws.{Admits, admitted-passes}
-use Rattle.type_record.specs.Record.{TypeRecord, recordSize}
-use Rattle.schema.specs.Schema.{Schema, recordsRead, readRecords, recordsOf, entriesOf, mapsOf, schemaReading}
+use Rattle.expression_file.specs.declared.files.Acceptance.the-variants.{Accepted}
+use Rattle.expression_file.specs.ReadFile.{acceptance}
+use Rattle.expression_file.specs.Accepted.{accepted-file}
+use Rattle.admission.specs.Admission.{asked, sliced, admitted, formulaSize}
+use Rattle.admission.specs.AdmissionLaws.{sliced-passes, asked-passes, Admits, admitted-passes}
+use Rattle.node_expression.specs.NodeExpression.{expressionAt, expression-legal}
+use Rattle.type_record.specs.Record.{TypeRecord, recordSize, outputSize}
+use Rattle.schema.specs.Schema.{Schema, readRecords, recordsOf, entriesOf, mapsOf, schemaReading, schemaSize}
 use Rattle.schema.specs.RecordsLaws.{schema-most}
 use Rattle.schema.specs.TableLaws.{ReadSchema, read-schema, read-entries}
-use Rattle.instantiation.specs.Instantiation.{Instantiation, entriesIn, subsetsOf, listsOf, instantiationReading}
+use Rattle.instantiation.specs.Instantiation.{Instantiation, entriesIn, subsetsOf, listsOf, instantiationReading, instantiationSize}
 use Rattle.instantiation.specs.ReadLaws.{lists-read, written-long}
 use Rattle.instantiation.specs.TableLaws.{ReadInstantiation, subsets-none}
 use Rattle.instantiation.specs.TableLaws as Instantiations
-use Rattle.typing.specs.Output.{typedIn, outputList}
-use Rattle.typing.specs.Typing.{typingAnswer, typingOut}
-use Rattle.typing.specs.TypingLaws.{answer-typed, out-typed, typing-records}
-use Rattle.typing.specs.declared.operation.Answer.the-variants.{Typed}
+use Rattle.table_types.specs.Output.{typedIn, outputList}
+use Rattle.typing_answer.specs.Typing.{typingAnswer, typingOut}
+use Rattle.typing_answer.specs.TypingLaws.{answer-typed, out-typed, typing-records}
+use Rattle.typing_answer.specs.declared.Answer.the-variants.{Typed}
 use Rattle.special_maps.specs.Special.{mapsFrom, subsetsFrom}
 use Rattle.special_maps.specs.SpecialLaws.{subsets-back}
-use Rattle.application.specs.Fits.{entriesFit, specialsFit, fits-typed}
-use Rattle.application.specs.Apply.{imageBytes, outputBytes, tableApplied, tableImage, tableOutput, applyAnswer, applySchema, applyOut}
-use Rattle.application.specs.ApplyLaws as Applying
-use Rattle.application.specs.Recover.{fits, recoveredBytes, tableRecovered, tableInstantiation, recoverAnswer, recoverOut}
-use Rattle.application.specs.RecoverLaws as Recovering
+use Rattle.fitting.specs.Fit.{entriesFit, specialsFit, fits-typed}
+use Rattle.apply_answer.specs.Apply.{imageBytes, outputBytes, tableApplied, tableImage, tableOutput, applyAnswer, applySchema, applyOut}
+use Rattle.apply_answer.specs.ApplyLaws as Applying
+use Rattle.recover_answer.specs.Recover.{fits, recoveredBytes, tableRecovered, tableInstantiation, recoverAnswer, recoverOut}
+use Rattle.recover_answer.specs.RecoverLaws as Recovering
 use Rattle.schema.specs.Image.{IsTable, image-size, image-records, image-maps, image-entries}
 use Rattle.round_trip.specs.Tables.{fits-same}
 use Rattle.round_trip.specs.StandingFit.{fit-held}
 use Rattle.instantiation.specs.ListZero.{list-zero}
 use Rattle.round_trip.specs.RoundTrip.{applied-table, image-schema, recovered-same, recovered-table, written-instantiation, written-table, image-same}
-use Rattle.application.specs.declared.applying.Application.the-variants.{Applied}
-use Rattle.application.specs.declared.recovering.Recovery.the-variants.{Recovered, Untyped}
+use Rattle.apply_answer.specs.declared.Application.the-variants.{Applied}
+use Rattle.recover_answer.specs.declared.Recovery.the-variants.{Recovered, Untyped}
+use Rattle.refusal.specs.Several.{severalRead as recordsRead}
 
 -- ---- Recover on a schema with these records
 
--- nothing is refused: node k of an accepted file, a schema with these records, a work space and an instantiation slice that are long enough
+-- nothing is refused: node k of an accepted file, a schema with these records, a work space and an instantiation
+-- slice that are long enough
 pub record Recovers (file : List ℕ) (k : ℕ) (schema : List ℕ) (space size m n : ℕ) (ts : List TypeRecord) : Type 0 where
   pub accepted : acceptance file ≡ Accepted m n
   pub node : k < n
-  pub workSpace : n * 1024 ≤ space
-  pub slice : 812 ≤ size
+  pub workSpace : n * formulaSize ≤ space
+  pub slice : instantiationSize ≤ size
   pub read : readRecords m schema ≡ recordsRead ts
   pub few : length (entriesOf ts) ≤ 255
 
-pub recover-table : (file : List ℕ) (k : ℕ) (schema work out : List ℕ) (m n : ℕ) (ts : List TypeRecord) → Recovers file k schema (length work) (length out) m n ts → (recoverAnswer file k schema (length work) (length out) ≡ tableRecovered m (expressionAt file k) (mapsOf ts) (entriesOf ts)) × (recoverOut file k schema (length work) out ≡ tableInstantiation m (expressionAt file k) (mapsOf ts) (entriesOf ts) out)
+pub recover-table :
+    (file : List ℕ) (k : ℕ) (schema work out : List ℕ) (m n : ℕ) (ts : List TypeRecord)
+    → Recovers file k schema (length work) (length out) m n ts
+    → (recoverAnswer file k schema (length work) (length out) ≡ tableRecovered m (expressionAt file k) (mapsOf ts) (entriesOf ts))
+    × (recoverOut file k schema (length work) out ≡ tableInstantiation m (expressionAt file k) (mapsOf ts) (entriesOf ts) out)
 recover-table file k schema work out m n ts r =
     let made = read-schema m schema ts (r .read) (r .few) in
     let judged = ap (λ (s : Schema). s .judgement) (made .is) in
     let special = ap (λ (s : Schema). s .special) (made .is) in
     let entries = read-entries m schema (schemaReading m schema) ts made in
     let table = Recovering.read-goes file m n (expressionAt file k) (schemaReading m schema) work out judged _ _ _ refl refl refl in
-    let goes = Recovering.recover-goes file k schema work out m n (sliced-passes (admitted file k (length work)) (length out) 812 (admitted-passes file k (length work) (record { accepted = r .accepted; node = r .node; workSpace = r .workSpace })) (r .slice)) _ _ _ refl refl refl in (
+    let goes = Recovering.recover-goes file k schema work out m n
+    (sliced-passes (admitted file k (length work)) (length out) instantiationSize
+    (admitted-passes file k (length work) (record { accepted = r .accepted; node = r .node; workSpace = r .workSpace })) (r .slice))
+    _ _ _ refl refl refl in (
       sym (goes .0) ∙ sym (table .0) ∙ ap₂ (tableRecovered m (expressionAt file k)) special entries,
       sym (goes .1 .1) ∙ sym (table .1 .1) ∙ ap₂ (λ (x y : List ℕ). tableInstantiation m (expressionAt file k) x y out) special entries,
     )
 
 -- ---- Apply on an instantiation with these lists
 
--- nothing is refused: node k of an accepted file, an instantiation with these lists whose table fits the node, and slices that are long enough
+-- nothing is refused: node k of an accepted file, an instantiation with these lists whose table fits the node, and
+-- slices that are long enough
 pub record Applies (file : List ℕ) (k : ℕ) (bytes : List ℕ) (space size outSize m n : ℕ) (ls : List (List ℕ)) : Type 0 where
-  pub goes : sliced (sliced (admitted file k space) size 4104) outSize 513 ≡ Accepted m n
+  pub goes : sliced (sliced (admitted file k space) size schemaSize) outSize outputSize ≡ Accepted m n
   pub read : ReadInstantiation bytes (instantiationReading bytes) ls
   pub entries : entriesFit m (expressionAt file k) (entriesIn ls) ≡ true
   pub special : specialsFit m (expressionAt file k) (subsetsOf bytes) ≡ true
@@ -78,7 +87,15 @@ pub record Applies (file : List ℕ) (k : ℕ) (bytes : List ℕ) (space size ou
 pub applies-admits : {file : List ℕ} {k : ℕ} {bytes : List ℕ} {space size outSize m n : ℕ} {ls : List (List ℕ)} → Applies file k bytes space size outSize m n ls → Admits file k space m n
 applies-admits {file} {k} {bytes} {space} {size} {outSize} a = Applying.apply-passed file k space size outSize (a .goes) .0
 
-pub apply-table : (file : List ℕ) (k : ℕ) (bytes work schema out : List ℕ) (m n : ℕ) (ls : List (List ℕ)) → Applies file k bytes (length work) (length schema) (length out) m n ls → (applyAnswer file k bytes (length work) (length schema) (length out) ≡ Applied (length (imageBytes m (subsetsOf bytes) (entriesIn ls))) (recordSize (length (outputList (expressionAt file k) (entriesIn ls))))) × ((applySchema file k bytes (length work) schema (length out) ≡ over (imageBytes m (subsetsOf bytes) (entriesIn ls)) schema) × (applyOut file k bytes (length work) (length schema) out ≡ over (outputBytes (expressionAt file k) (subsetsOf bytes) (entriesIn ls)) out))
+pub apply-table :
+    (file : List ℕ) (k : ℕ) (bytes work schema out : List ℕ) (m n : ℕ) (ls : List (List ℕ))
+    → Applies file k bytes (length work) (length schema) (length out) m n ls
+    → (applyAnswer file k bytes (length work) (length schema) (length out)
+    ≡ Applied (length (imageBytes m (subsetsOf bytes) (entriesIn ls)))
+    (recordSize (length (outputList (expressionAt file k) (entriesIn ls)))))
+    × ((applySchema file k bytes (length work) schema (length out) ≡ over (imageBytes m (subsetsOf bytes) (entriesIn ls)) schema)
+    × (applyOut file k bytes (length work) (length schema) out
+    ≡ over (outputBytes (expressionAt file k) (subsetsOf bytes) (entriesIn ls)) out))
 apply-table file k bytes work schema out m n ls a =
     let r = a .read in
     let judged = ap (λ (i : Instantiation). i .judgement) (r .is) in
@@ -95,14 +112,26 @@ apply-table file k bytes work schema out m n ls a =
     )
 
 -- the lengths that Apply gives are the image's and the output record's
-pub apply-size : (file : List ℕ) (k : ℕ) (bytes work schema out : List ℕ) (m n : ℕ) (ls : List (List ℕ)) → Applies file k bytes (length work) (length schema) (length out) m n ls → (size width : ℕ) → applyAnswer file k bytes (length work) (length schema) (length out) ≡ Applied size width → (size ≡ length (imageBytes m (subsetsOf bytes) (entriesIn ls))) × (width ≡ recordSize (length (outputList (expressionAt file k) (entriesIn ls))))
+pub apply-size :
+    (file : List ℕ) (k : ℕ) (bytes work schema out : List ℕ) (m n : ℕ) (ls : List (List ℕ))
+    → Applies file k bytes (length work) (length schema) (length out) m n ls
+    → (size width : ℕ)
+    → applyAnswer file k bytes (length work) (length schema) (length out) ≡ Applied size width
+    → (size ≡ length (imageBytes m (subsetsOf bytes) (entriesIn ls)))
+    × (width ≡ recordSize (length (outputList (expressionAt file k) (entriesIn ls))))
 apply-size file k bytes work schema out m n ls a size width said = sized (sym said ∙ apply-table file k bytes work schema out m n ls a .0)
   where
     sized : {x y z w : ℕ} → Applied x y ≡ Applied z w → (x ≡ z) × (y ≡ w)
     sized e = (cc, cc)
 
 -- it lies within the schema slice: eight records of at most 513 bytes
-pub apply-fits : (file : List ℕ) (k : ℕ) (bytes work schema out : List ℕ) (m n : ℕ) (ls : List (List ℕ)) → Bytes bytes → Applies file k bytes (length work) (length schema) (length out) m n ls → (size width : ℕ) → applyAnswer file k bytes (length work) (length schema) (length out) ≡ Applied size width → size ≤ length schema
+pub apply-fits :
+    (file : List ℕ) (k : ℕ) (bytes work schema out : List ℕ) (m n : ℕ) (ls : List (List ℕ))
+    → Bytes bytes
+    → Applies file k bytes (length work) (length schema) (length out) m n ls
+    → (size width : ℕ)
+    → applyAnswer file k bytes (length work) (length schema) (length out) ≡ Applied size width
+    → size ≤ length schema
 apply-fits file k bytes work schema out m n ls below a size width said =
     let few = accepted-file file m n (applies-admits a .accepted) .counts .relations .1 in
     let table = applied-table m few (expressionAt file k) bytes below ls (a .read .long) (a .read .read) (a .read .once) (a .read .few) (a .entries) (a .special) in
@@ -137,19 +166,47 @@ module _ (file : List ℕ) (k : ℕ) (bytes work schema out : List ℕ) (m n : �
   fits-back = ap₂ _&&_ (a .entries) (ap (specialsFit m (expressionAt file k)) (subsets-back (subsetsOf bytes) (Instantiations.subsets-size bytes) (Instantiations.subsets-small bytes below)) ∙ a .special)
 
   -- recovering from the image gives the same instantiation, byte by byte
-  pub applied-recovered : (work′ out′ : List ℕ) → n * 1024 ≤ length work′ → 812 ≤ length out′ → (recoverAnswer file k (imageBytes m (subsetsOf bytes) (entriesIn ls)) (length work′) (length out′) ≡ Recovered (length bytes)) × (recoverOut file k (imageBytes m (subsetsOf bytes) (entriesIn ls)) (length work′) out′ ≡ over bytes out′)
+  pub applied-recovered :
+      (work′ out′ : List ℕ)
+      → n * formulaSize ≤ length work′
+      → instantiationSize ≤ length out′
+      → (recoverAnswer file k (imageBytes m (subsetsOf bytes) (entriesIn ls)) (length work′) (length out′) ≡ Recovered (length bytes))
+      × (recoverOut file k (imageBytes m (subsetsOf bytes) (entriesIn ls)) (length work′) out′ ≡ over bytes out′)
   applied-recovered work′ out′ space slice =
-      let results = recover-table file k (imageBytes m (subsetsOf bytes) (entriesIn ls)) work′ out′ m n (recordsOf m (mapsFrom (subsetsOf bytes)) (entriesIn ls)) (record { accepted = applies-admits a .accepted; node = applies-admits a .node; workSpace = space; slice = slice; read = read-image .read; few = read-image .few }) in
-      let same = recovered-same m few (expressionAt file k) bytes below ls (a .read .long) (a .read .read) (a .read .once) (a .read .few) (a .entries) (a .special) (list-zero m ls (lists-read bytes ls below (a .read .long) (a .read .read)) (a .read .once) (fit-held m (expressionAt file k) (entriesIn ls) (a .entries))) in
+      let results = recover-table file k (imageBytes m (subsetsOf bytes) (entriesIn ls)) work′ out′ m n
+      (recordsOf m (mapsFrom (subsetsOf bytes)) (entriesIn ls))
+      (record {
+        accepted = applies-admits a .accepted;
+        node = applies-admits a .node;
+        workSpace = space;
+        slice = slice;
+        read = read-image .read;
+        few = read-image .few;
+      })
+      in
+      let same = recovered-same m few (expressionAt file k) bytes below ls (a .read .long) (a .read .read) (a .read .once) (a .read .few)
+      (a .entries) (a .special)
+      (list-zero m ls (lists-read bytes ls below (a .read .long) (a .read .read)) (a .read .once)
+      (fit-held m (expressionAt file k) (entriesIn ls) (a .entries)))
+      in
       let gives = Recovering.recovered-fits m (expressionAt file k) (mapsFrom (subsetsOf bytes)) (entriesIn ls) out′ fits-back in (
         results .0 ∙ rw (maps-are, entries-are) (gives .0 ∙ ap (λ (l : List ℕ). Recovered (length l)) same),
         results .1 ∙ rw (maps-are, entries-are) (gives .1 ∙ ap (λ (l : List ℕ). over l out′) same),
       )
 
   -- Typing gives the image the output record that Apply writes
-  pub applied-typing : (out′ : List ℕ) → 513 ≤ length out′ → (typingAnswer file k (imageBytes m (subsetsOf bytes) (entriesIn ls)) (length out′) ≡ Typed (recordSize (length (outputList (expressionAt file k) (entriesIn ls))))) × (typingOut file k (imageBytes m (subsetsOf bytes) (entriesIn ls)) out′ ≡ over (outputBytes (expressionAt file k) (subsetsOf bytes) (entriesIn ls)) out′)
+  pub applied-typing :
+      (out′ : List ℕ)
+      → outputSize ≤ length out′
+      → (typingAnswer file k (imageBytes m (subsetsOf bytes) (entriesIn ls)) (length out′)
+      ≡ Typed (recordSize (length (outputList (expressionAt file k) (entriesIn ls)))))
+      × (typingOut file k (imageBytes m (subsetsOf bytes) (entriesIn ls)) out′
+      ≡ over (outputBytes (expressionAt file k) (subsetsOf bytes) (entriesIn ls)) out′)
   applied-typing out′ slice =
-      let results = typing-records file k (imageBytes m (subsetsOf bytes) (entriesIn ls)) out′ m n (recordsOf m (mapsFrom (subsetsOf bytes)) (entriesIn ls)) (sliced-passes (asked file k) (length out′) 513 (asked-passes file k (applies-admits a .accepted) (applies-admits a .node)) slice) (read-image .read) (read-image .few) in
+      let results = typing-records file k (imageBytes m (subsetsOf bytes) (entriesIn ls)) out′ m n
+      (recordsOf m (mapsFrom (subsetsOf bytes)) (entriesIn ls))
+      (sliced-passes (asked file k) (length out′) outputSize (asked-passes file k (applies-admits a .accepted) (applies-admits a .node)) slice)
+      (read-image .read) (read-image .few) in
       let typed = fits-typed m few (expressionAt file k) legal (subsetsOf bytes) (entriesIn ls) (subsets-none bytes) (a .entries) (a .special) in (
         results .0 ∙ rw (maps-are, entries-are) (answer-typed (expressionAt file k) (mapsFrom (subsetsOf bytes)) (entriesIn ls) typed),
         results .1 ∙ rw (maps-are, entries-are) (out-typed (expressionAt file k) (mapsFrom (subsetsOf bytes)) (entriesIn ls) out′ typed),
@@ -169,7 +226,10 @@ module _ (file : List ℕ) (k : ℕ) (schema work out : List ℕ) (m n : ℕ) (t
   fits-typing = fits-same m most (expressionAt file k) (expression-legal file m n (r .accepted) k (r .node)) (mapsOf ts) (entriesOf ts) known
 
   -- what Recover answers, and what it writes, where the table is typed and where it is not
-  pub recovered-typed : typedIn (expressionAt file k) (mapsOf ts) (entriesOf ts) ≡ true → (recoverAnswer file k schema (length work) (length out) ≡ Recovered (length (recoveredBytes (mapsOf ts) (entriesOf ts)))) × (recoverOut file k schema (length work) out ≡ over (recoveredBytes (mapsOf ts) (entriesOf ts)) out)
+  pub recovered-typed :
+      typedIn (expressionAt file k) (mapsOf ts) (entriesOf ts) ≡ true
+      → (recoverAnswer file k schema (length work) (length out) ≡ Recovered (length (recoveredBytes (mapsOf ts) (entriesOf ts))))
+      × (recoverOut file k schema (length work) out ≡ over (recoveredBytes (mapsOf ts) (entriesOf ts)) out)
   recovered-typed typed =
       let results = recover-table file k schema work out m n ts r in
       let gives = Recovering.recovered-fits m (expressionAt file k) (mapsOf ts) (entriesOf ts) out (fits-typing ∙ typed) in
@@ -179,7 +239,15 @@ module _ (file : List ℕ) (k : ℕ) (schema work out : List ℕ) (m n : ℕ) (t
   recovered-untyped untyped = recover-table file k schema work out m n ts r .0 ∙ Recovering.recovered-refused m (expressionAt file k) (mapsOf ts) (entriesOf ts) out (fits-typing ∙ untyped) .0
 
   -- applying what is recovered gives the same schema, byte by byte
-  pub recovered-applied : typedIn (expressionAt file k) (mapsOf ts) (entriesOf ts) ≡ true → (work′ schema′ out′ : List ℕ) → n * 1024 ≤ length work′ → 4104 ≤ length schema′ → 513 ≤ length out′ → (applyAnswer file k (recoveredBytes (mapsOf ts) (entriesOf ts)) (length work′) (length schema′) (length out′) ≡ Applied (length schema) (recordSize (length (outputList (expressionAt file k) (entriesOf ts))))) × (applySchema file k (recoveredBytes (mapsOf ts) (entriesOf ts)) (length work′) schema′ (length out′) ≡ over schema schema′)
+  pub recovered-applied :
+      typedIn (expressionAt file k) (mapsOf ts) (entriesOf ts) ≡ true
+      → (work′ schema′ out′ : List ℕ)
+      → n * formulaSize ≤ length work′
+      → schemaSize ≤ length schema′
+      → outputSize ≤ length out′
+      → (applyAnswer file k (recoveredBytes (mapsOf ts) (entriesOf ts)) (length work′) (length schema′) (length out′)
+      ≡ Applied (length schema) (recordSize (length (outputList (expressionAt file k) (entriesOf ts)))))
+      × (applySchema file k (recoveredBytes (mapsOf ts) (entriesOf ts)) (length work′) schema′ (length out′) ≡ over schema schema′)
   recovered-applied typed work′ schema′ out′ space size slice =
       let long = written-long (subsetsFrom (mapsOf ts)) (listsOf (entriesOf ts)) in
       let read = written-instantiation m most schema below ts (r .read) (r .few) long in
@@ -188,7 +256,11 @@ module _ (file : List ℕ) (k : ℕ) (schema work out : List ℕ) (m n : ℕ) (t
       let both = and-eq-true-iff (entriesFit m (expressionAt file k) (entriesOf ts)) (specialsFit m (expressionAt file k) (subsetsFrom (mapsOf ts))) .0 fit in
       let applied = apply-table file k (recoveredBytes (mapsOf ts) (entriesOf ts)) work′ schema′ out′ m n (listsOf (entriesOf ts))
       (record {
-        goes = sliced-passes (sliced (admitted file k (length work′)) (length schema′) 4104) (length out′) 513 (sliced-passes (admitted file k (length work′)) (length schema′) 4104 (admitted-passes file k (length work′) (record { accepted = r .accepted; node = r .node; workSpace = space })) size) slice;
+        goes =
+            sliced-passes (sliced (admitted file k (length work′)) (length schema′) schemaSize) (length out′) outputSize
+            (sliced-passes (admitted file k (length work′)) (length schema′) schemaSize
+            (admitted-passes file k (length work′) (record { accepted = r .accepted; node = r .node; workSpace = space })) size)
+            slice;
         read = read;
         entries = rw (same .1) (both .0);
         special = rw (same .0) (both .1);

@@ -1,35 +1,38 @@
--- Where Apply answers that it applied, and where Recover answers at all, nothing was refused: what there was to read, and for Apply that it fits, from the answer itself.
+-- Where Apply answers that it applied, and where Recover answers at all, nothing was refused: what there was to read,
+-- and for Apply that it fits, from the answer itself.
 use Prim.Native.Nat.{ℕ}
 use mathlib.Core.Path.{_≡_, refl, sym, ap, _∙_}
 use mathlib.Core.List.{List}
 use native.Mathlib.Omega.{arith}
 use lib.ListN.{length}
 use Rattle.refusal.specs.declared.Refusal.{Refusal}
-use Rattle.expression.specs.declared.files.Acceptance.{Acceptance}
-use Rattle.expression.specs.declared.files.Acceptance.the-variants.{Accepted, Refused as FileRefused}
-use Rattle.expression.specs.Admission.{sliced}
-use Rattle.expression.specs.AdmissionLaws.{sliced-passed}
-use Rattle.formula.specs.Expressions.{expressionAt}
-use Rattle.formula.specs.Stored.{admitted}
-use Rattle.formula.specs.StoredLaws.{admitted-passed}
-use Rattle.type_record.specs.Record.{TypeRecord}
-use Rattle.schema.specs.Schema.{schemaReading}
+use Rattle.expression_file.specs.declared.files.Acceptance.{Acceptance}
+use Rattle.expression_file.specs.declared.files.Acceptance.the-variants.{Accepted, Refused as FileRefused}
+use Rattle.admission.specs.Admission.{sliced, admitted}
+use Rattle.admission.specs.AdmissionLaws.{sliced-passed, admitted-passed}
+use Rattle.node_expression.specs.NodeExpression.{expressionAt}
+use Rattle.type_record.specs.Record.{TypeRecord, outputSize}
+use Rattle.schema.specs.Schema.{schemaReading, schemaSize}
 use Rattle.schema.specs.TableLaws.{schema-read}
 use Rattle.schema.specs.declared.reading.Judgement.{Judgement}
 use Rattle.schema.specs.declared.reading.Judgement.the-variants.{Read as SchemaRead, Refused as SchemaRefused}
-use Rattle.instantiation.specs.Instantiation.{Instantiation, instantiationReading}
+use Rattle.instantiation.specs.Instantiation.{Instantiation, instantiationReading, instantiationSize}
 use Rattle.instantiation.specs.TableLaws.{instantiation-read, read-entries}
-use Rattle.application.specs.Fits.{entriesFit, specialsFit}
-use Rattle.application.specs.ApplyLaws.{applied-fits, read-applied, apply-applied}
-use Rattle.application.specs.Apply.{readApplied, applyAnswer}
-use Rattle.application.specs.Recover.{recoverAnswer}
-use Rattle.application.specs.RecoverLaws as Recovering
+use Rattle.fitting.specs.Fit.{entriesFit, specialsFit}
+use Rattle.apply_answer.specs.ApplyLaws.{applied-fits, read-applied, apply-applied}
+use Rattle.apply_answer.specs.Apply.{readApplied, applyAnswer}
+use Rattle.recover_answer.specs.Recover.{recoverAnswer}
+use Rattle.recover_answer.specs.RecoverLaws as Recovering
 use Rattle.round_trip.specs.Undoing.{Applies, Recovers}
-use Rattle.application.specs.declared.applying.Application.the-variants.{Applied}
-use Rattle.application.specs.declared.recovering.Recovery.the-variants.{Recovered, Untyped, Refused}
+use Rattle.apply_answer.specs.declared.Application.the-variants.{Applied}
+use Rattle.recover_answer.specs.declared.Recovery.the-variants.{Recovered, Untyped, Refused}
 
 module _ (file : List ℕ) (k : ℕ) (bytes : List ℕ) (space size outSize : ℕ) where
-  made : (m n s w : ℕ) → sliced (sliced (admitted file k space) size 4104) outSize 513 ≡ Accepted m n → readApplied m (expressionAt file k) (instantiationReading bytes) ≡ Applied s w → (ls : List (List ℕ)) × Applies file k bytes space size outSize m n ls
+  made :
+      (m n s w : ℕ)
+      → sliced (sliced (admitted file k space) size schemaSize) outSize outputSize ≡ Accepted m n
+      → readApplied m (expressionAt file k) (instantiationReading bytes) ≡ Applied s w
+      → (ls : List (List ℕ)) × Applies file k bytes space size outSize m n ls
   made m n s w goes said =
       let read = read-applied m (expressionAt file k) (instantiationReading bytes) s w said in
       let lists = instantiation-read bytes (read .0) in
@@ -46,23 +49,24 @@ module _ (file : List ℕ) (k : ℕ) (bytes : List ℕ) (space size outSize : �
 
 -- Recover recovered, or said untyped: nothing was refused
 module _ (file : List ℕ) (k : ℕ) (schema work out : List ℕ) where
+  -- what there was to read: m, n and the records
   abbrev pub Read : Type 0
   Read = (m : ℕ) × ((n : ℕ) × ((ts : List TypeRecord) × Recovers file k schema (length work) (length out) m n ts))
 
   pub answered-recovers : ((r : Refusal) → recoverAnswer file k schema (length work) (length out) ≡ Refused r → ⊥) → Read
-  answered-recovers other = admission (sliced (admitted file k (length work)) (length out) 812) refl
+  answered-recovers other = admission (sliced (admitted file k (length work)) (length out) instantiationSize) refl
     where
-      read : (m n : ℕ) → sliced (admitted file k (length work)) (length out) 812 ≡ Accepted m n → (j : Judgement) → schemaReading m schema .judgement ≡ j → Read
+      read : (m n : ℕ) → sliced (admitted file k (length work)) (length out) instantiationSize ≡ Accepted m n → (j : Judgement) → schemaReading m schema .judgement ≡ j → Read
       read m n goes (SchemaRefused r) is =
           let stops = Recovering.read-stops file m n (expressionAt file k) (schemaReading m schema) work out r is in
           absurd (other r (sym (Recovering.recover-goes file k schema work out m n goes _ _ _ refl refl refl .0) ∙ sym (stops .0)))
       read m n goes SchemaRead is =
-          let slice = sliced-passed (admitted file k (length work)) (length out) 812 goes in
+          let slice = sliced-passed (admitted file k (length work)) (length out) instantiationSize goes in
           let admits = admitted-passed file k (length work) (slice .0) in
           let records = schema-read m schema is in
           (m, (n, (records .0, record { accepted = admits .accepted; node = admits .node; workSpace = admits .workSpace; slice = slice .1; read = records .1 .read; few = records .1 .few })))
 
-      admission : (a : Acceptance) → sliced (admitted file k (length work)) (length out) 812 ≡ a → Read
+      admission : (a : Acceptance) → sliced (admitted file k (length work)) (length out) instantiationSize ≡ a → Read
       admission (FileRefused r) is = absurd (other r (sym (Recovering.recover-stops file k schema work out r is .0)))
       admission (Accepted m n) is = read m n is (schemaReading m schema .judgement) refl
 

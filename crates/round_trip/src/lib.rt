@@ -1,15 +1,18 @@
-// Apply, and then Recover on the bytes just written. In specs/: the second half of demand 2, and the link to demand 3.
+// Apply, and then Recover on the bytes just written (FORMAT 7.12). In specs/: the second half of demand 2,
+// and the link to demand 3.
 ghost use mathlib.Core.Path.{_≡_};
 ghost use lib.ListN.{length};
-ghost use Rattle.application.specs.Apply.{applyAnswer, applySchema, applyOut};
+ghost use Rattle.apply_answer.specs.Apply.{applyAnswer, applySchema, applyOut};
 ghost use Rattle.round_trip.specs.Composed.{unlessShort, roundTrip, roundTripSpace, roundTripOut};
-use application::Application;
-use application::Recovery;
-use application::apply;
-use application::recover;
+use apply::apply;
+use apply_answer::Application;
+use instantiation::INSTANTIATION_SIZE;
+use recover::recover;
+use recover_answer::Recovery;
 use refusal::Refusal;
 
-// Applies an instantiation and recovers it from the schema that was written: the same bytes, where nothing is refused.
+// Apply, then Recover (FORMAT 7.12): applies an instantiation and recovers it from the schema that was written: the
+// same bytes, where nothing is refused.
 pub fn apply_and_recover(
     file: &[u8],
     node: usize,
@@ -25,7 +28,7 @@ pub fn apply_and_recover(
     ensures { λ _. ⌜ now (out .exit) ≡ unlessShort (length (now (recovered .entry))) (now (out .entry)) (applyOut (now (file .entry)) node (now (instantiation .entry)) (length (now (work .entry))) (length (now (schema .entry))) (now (out .entry))) ⌝ }
     ensures { λ _. ⌜ now (recovered .exit) ≡ roundTripOut (applyAnswer (now (file .entry)) node (now (instantiation .entry)) (length (now (work .entry))) (length (now (schema .entry))) (length (now (out .entry)))) (now (instantiation .entry)) (now (recovered .entry)) ⌝ }
 {
-    if recovered.len() < 812 {
+    if recovered.len() < INSTANTIATION_SIZE {
         return Recovery::Refused(Refusal::ResultSlice);
     }
     match apply(file, node, instantiation, work, schema, out) {

@@ -1,3 +1,3 @@
-mod More
-mod Prefix
-mod Resume
+mod OneMoreRecord
+mod RecordsBefore
+mod RecordsResumed

@@ -1,4 +1,5 @@
--- Laws of the table of a schema's records: the order and the bounds of its entries, who holds an attribute, and the records that it was made of.
+-- Laws of the table of a schema's records: the order and the bounds of its entries, who holds an attribute, and the
+-- records that it was made of.
 use Prim.Native.Nat.{ℕ, zero, suc, _+_, _-_, _^_, _≤_, _<_}
 use mathlib.Core.Path.{_≡_, refl, sym, ap, ap₂, _∙_}
 use mathlib.Core.Bool.{Bool, _&&_, _||_, and-true, and-false, or-false}
@@ -28,7 +29,12 @@ single-below r h = pow-lt {i = r} {j = 8} h
 
 -- ---- in general
 
-has-from : (P : List ℕ → Type 0) (m r : ℕ) (ts : List TypeRecord) (es : List ℕ) → r + length ts ≤ m → ((q : ℕ) (t : TypeRecord) (fs : List ℕ) → q < m → P fs → P (enter (2 ^ q) (t .ordinary) fs)) → P es → P (entriesFrom r ts es)
+has-from :
+    (P : List ℕ → Type 0) (m r : ℕ) (ts : List TypeRecord) (es : List ℕ)
+    → r + length ts ≤ m
+    → ((q : ℕ) (t : TypeRecord) (fs : List ℕ) → q < m → P fs → P (enter (2 ^ q) (t .ordinary) fs))
+    → P es
+    → P (entriesFrom r ts es)
 has-from P m r [] es fits each h = h
 has-from P m r (t ∷ ts) es fits each h = has-from P m (r + 1) ts (enter (2 ^ r) (t .ordinary) es) (omega arith) each (each r t es (omega arith) h)
 
@@ -64,7 +70,14 @@ entries-below ts fits all = below-from 0 ts [] (omega arith) all tt
 -- ---- who holds an attribute
 
 -- relations from r on hold what their records list, besides those that held it before
-holders-from : (r : ℕ) (ts : List TypeRecord) (es : List ℕ) → r + length ts ≤ 8 → AllRecords ts → RisingEntries 15 es → (a q : ℕ) → q < 8 → bit (holdersIn (entriesFrom r ts es) a) q ≡ leb r q && member a (getD ts (q - r) noRecord .ordinary) || bit (holdersIn es a) q
+holders-from :
+    (r : ℕ) (ts : List TypeRecord) (es : List ℕ)
+    → r + length ts ≤ 8
+    → AllRecords ts
+    → RisingEntries 15 es
+    → (a q : ℕ)
+    → q < 8
+    → bit (holdersIn (entriesFrom r ts es) a) q ≡ leb r q && member a (getD ts (q - r) noRecord .ordinary) || bit (holdersIn es a) q
 holders-from r [] es fits all rising a q hq = sym (ap (λ (t : Bool). t || bit (holdersIn es a) q) (and-false (leb r q)))
 holders-from r (t ∷ ts) es fits all rising a q hq =
     holders-from (r + 1) ts (enter (2 ^ r) (t .ordinary) es) (omega arith) (all .1) (enter-rising (2 ^ r) 15 (t .ordinary) es small (all .0 .rising) rising) a q hq
@@ -75,7 +88,11 @@ holders-from r (t ∷ ts) es fits all rising a q hq =
     small : 2 ^ r < 256
     small = single-below r (omega arith)
 
-    go : Order q r → leb (r + 1) q && member a (getD ts (q - (r + 1)) noRecord .ordinary) || (member a (t .ordinary) && eqb r q || bit (holdersIn es a) q) ≡ leb r q && member a (getD (t ∷ ts) (q - r) noRecord .ordinary) || bit (holdersIn es a) q
+    go :
+        Order q r
+        → leb (r + 1) q && member a (getD ts (q - (r + 1)) noRecord .ordinary) ||
+        (member a (t .ordinary) && eqb r q || bit (holdersIn es a) q)
+        ≡ leb r q && member a (getD (t ∷ ts) (q - r) noRecord .ordinary) || bit (holdersIn es a) q
     go (lower l) = rw (lt-leb (r + 1) q (omega arith), lt-leb r q l, ne-eqb r q (λ e. omega arith), and-false (member a (t .ordinary)))
     go (equal l) =
         let none : q - r ≡ 0 = omega arith in

@@ -20,13 +20,15 @@ use Rattle.membership.specs.EntriesOnce.{Positive, entries-once}
 use Rattle.membership.specs.Holders.{heldBy}
 use Rattle.membership.specs.HolderLaws.{held-member, held-rising, held-few, held-below, holders-small}
 use Rattle.membership.specs.TableLaws.{Below}
-use Rattle.schema.specs.Schema.{recordsRead, readRecords, noRecord, schemaBytes, entriesOf, mapsOf, schemaReading, recordsOf}
+use Rattle.schema.specs.Schema.{readRecords, noRecord, schemaBytes, entriesOf, mapsOf, schemaReading, recordsOf}
 use Rattle.schema.specs.RecordsLaws.{AllRecords, written-records}
 use Rattle.schema.specs.EntriesLaws.{entries-rising, entries-below, entries-holders, records-size, record-of, records-all}
 use Rattle.schema.specs.TableLaws.{ReadSchema, read-schema, maps-at, maps-is, maps-size}
 use Rattle.schema.specs.Bounds.{Held, schema-held}
+use Rattle.refusal.specs.Several.{severalRead as recordsRead}
 
--- a table of m relations: rising entries of two bytes, each held by some of them, at most 255; a map for each, with bit 0 clear, and empty ones from m on
+-- a table of m relations: rising entries of two bytes, each held by some of them, at most 255; a map for each, with bit
+-- 0 clear, and empty ones from m on
 pub record IsTable (m : ℕ) (maps es : List ℕ) : Type 0 where
   pub size : length maps ≡ 8
   pub even : (r : ℕ) → getD maps r 0 % 2 ≡ 0
@@ -105,7 +107,9 @@ module _ (m : ℕ) (few : m ≤ 8) (maps es : List ℕ) (table : IsTable m maps 
 
   -- and so are the maps
   pub image-maps : mapsOf (recordsOf m maps es) ≡ maps
-  image-maps = ext-getD 0 (mapsOf (recordsOf m maps es)) maps (maps-size (recordsOf m maps es) ∙ sym (table .size)) (λ r h. let size = maps-size (recordsOf m maps es) in maps-is (recordsOf m maps es) r (omega arith) ∙ go r (decLt r m))
+  image-maps =
+      ext-getD 0 (mapsOf (recordsOf m maps es)) maps (maps-size (recordsOf m maps es) ∙ sym (table .size))
+      (λ r h. let size = maps-size (recordsOf m maps es) in maps-is (recordsOf m maps es) r (omega arith) ∙ go r (decLt r m))
     where
       go : (r : ℕ) → Dec (r < m) → getD (recordsOf m maps es) r noRecord .map ≡ getD maps r 0
       go r (yes below) = ap (λ (t : TypeRecord). t .map) (image-at r below)

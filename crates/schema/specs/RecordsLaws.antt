@@ -1,4 +1,5 @@
--- Laws of a schema's records: what is read are records, writing and reading undo each other, and each assignment has one schema.
+-- Laws of a schema's records: what is read are records, writing and reading undo each other, and each
+-- assignment has one schema.
 use Prim.Native.Nat.{ℕ, zero, suc, _+_, _*_, _≤_, _<_}
 use mathlib.Core.Path.{_≡_, refl, sym, ap, ap₂, _∙_}
 use mathlib.Core.List.{List, [], _∷_, _++_}
@@ -9,12 +10,14 @@ use lib.Seq.{getD-drop, drop-at}
 use Rattle.bits.specs.Word.{Bytes, bytes-append}
 use Rattle.type_record.specs.declared.records.RecordReading.{RecordReading}
 use Rattle.type_record.specs.declared.records.RecordReading.the-variants.{Read as RecordRead, Refused as RecordRefused}
-use Rattle.type_record.specs.Record.{TypeRecord, readRecord, recordSize, recordAt, recordBytes}
+use Rattle.type_record.specs.Record.{TypeRecord, readRecord, recordSize, recordAt, recordBytes, outputSize}
 use Rattle.type_record.specs.RecordBytes.{IsRecord, size-most, record-length, record-bytes}
 use Rattle.type_record.specs.RecordReading.{record-map, record-read}
 use Rattle.type_record.specs.RecordRoundTrip.{read-written, written-read, written-record}
 use Rattle.type_record.specs.RecordTypes.{type-once}
-use Rattle.schema.specs.Schema.{Records, recordsRefused, recordsRead, precede, follow, atEnd, readRecords, schemaBytes, assignmentOf}
+use Rattle.schema.specs.Schema.{Records, follow, readRecords, schemaBytes, assignmentOf}
+use Rattle.refusal.specs.Several.{severalRefused as recordsRefused, severalRead as recordsRead, precede, atEnd}
+use Rattle.refusal.specs.declared.Refusal.the-variants.{InputFollowed}
 
 -- all of them are records
 abbrev pub AllRecords : List TypeRecord → Type 0
@@ -23,7 +26,7 @@ AllRecords (t ∷ ts) = IsRecord t × AllRecords ts
 
 -- ---- reading
 
-ended : (bytes : List ℕ) (ts : List TypeRecord) → atEnd bytes ≡ recordsRead ts → (bytes ≡ []) × (ts ≡ [])
+ended : (bytes : List ℕ) (ts : List TypeRecord) → atEnd InputFollowed bytes ≡ recordsRead ts → (bytes ≡ []) × (ts ≡ [])
 ended [] ts e = (refl, cc)
 ended (b ∷ bs) ts e = absurd (let z : _≡_ {A = ℕ} 0 1 = cc in omega arith)
 
@@ -84,7 +87,7 @@ written-records (t ∷ ts) all =
     rw (written-read t (schemaBytes ts) (all .0), written-record t (schemaBytes ts) (all .0), size, written-records ts (all .1))
 
 -- a schema has at most 513 bytes a record
-pub schema-most : (ts : List TypeRecord) → AllRecords ts → length (schemaBytes ts) ≤ length ts * 513
+pub schema-most : (ts : List TypeRecord) → AllRecords ts → length (schemaBytes ts) ≤ length ts * outputSize
 unfolding schemaBytes
 schema-most [] all = omega arith
 schema-most (t ∷ ts) all =
@@ -110,7 +113,14 @@ records-once (t ∷ ts) (u ∷ us) size t-all u-all same =
     (records-once ts us (omega arith) (t-all .1) (u-all .1) (λ r h. same (suc r) (omega arith)))
 
 -- two schemas that mean the same are the same bytes
-pub schema-once : (m : ℕ) (bytes others : List ℕ) (ts us : List TypeRecord) → Bytes bytes → Bytes others → readRecords m bytes ≡ recordsRead ts → readRecords m others ≡ recordsRead us → ((r : ℕ) → r < m → (a : ℕ) → assignmentOf ts r a ≡ assignmentOf us r a) → bytes ≡ others
+pub schema-once :
+    (m : ℕ) (bytes others : List ℕ) (ts us : List TypeRecord)
+    → Bytes bytes
+    → Bytes others
+    → readRecords m bytes ≡ recordsRead ts
+    → readRecords m others ≡ recordsRead us
+    → ((r : ℕ) → r < m → (a : ℕ) → assignmentOf ts r a ≡ assignmentOf us r a)
+    → bytes ≡ others
 schema-once m bytes others ts us below below′ e e′ same =
     let t = records-read m bytes ts below e in
     let u = records-read m others us below′ e′ in

@@ -1,5 +1,5 @@
--- Schemas: "A schema is m such records, and each record begins where the one before it ends. It has at most 255 different ordinary attributes." (document 01)
-use Prim.Native.Nat.{ℕ, zero, suc, _+_, _%_, _^_, _≤_, _<_}
+-- Schemas (FORMAT 5.1 to 5.3, 8.4).
+use Prim.Native.Nat.{ℕ, zero, suc, _+_, _%_, _^_, _≤_}
 use mathlib.Core.Path.{_≡_}
 use mathlib.Core.Bool.{cond}
 use mathlib.Core.List.{List, [], _∷_, _++_}
@@ -9,6 +9,7 @@ use Rattle.bits.specs.Tab.{tab}
 use Rattle.types.specs.Types.{Assignment}
 use Rattle.refusal.specs.declared.Refusal.{Refusal}
 use Rattle.refusal.specs.declared.Refusal.the-variants.{InputFollowed, TooManyAttributes}
+use Rattle.refusal.specs.Several.{Several, severalRefused as recordsRefused, severalRead as recordsRead, precede, atEnd}
 use Rattle.type_record.specs.declared.records.RecordReading.{RecordReading}
 use Rattle.type_record.specs.declared.records.RecordReading.the-variants.{Read as RecordRead, Refused as RecordRefused}
 use Rattle.type_record.specs.Record.{TypeRecord, readRecord, recordSize, recordAt, recordBytes, typeOf}
@@ -18,41 +19,38 @@ use Rattle.schema.specs.declared.reading.Judgement.{Judgement}
 use Rattle.schema.specs.declared.reading.Judgement.the-variants.{Read, Refused}
 use Rattle.schema.specs.declared.reading.SchemaReading.{SchemaReading}
 
+-- FORMAT 9.9: the bytes of the longest schema, and the least length of a slice for one
+abbrev pub schemaSize : ℕ
+schemaSize = 4104
+
 -- ---- the records
 
-pub data Records : Type 0 where
-  recordsRefused : Refusal → Records
-  recordsRead : List TypeRecord → Records
-
-abbrev pub precede : TypeRecord → Records → Records
-precede t (recordsRefused r) = recordsRefused r
-precede t (recordsRead ts) = recordsRead (t ∷ ts)
+-- the records of a schema, or the first refusal
+abbrev pub Records : Type 0
+Records = Several TypeRecord
 
 -- what a record's reading gives, with the reading of what follows it
 abbrev pub follow : RecordReading → List ℕ → (List ℕ → Records) → Records
 follow (RecordRefused r) bytes rest = recordsRefused r
 follow (RecordRead map n) bytes rest = precede (recordAt bytes map n) (rest (drop (recordSize n) bytes))
 
--- "bytes left over"
-abbrev pub atEnd : List ℕ → Records
-atEnd [] = recordsRead []
-atEnd (b ∷ bs) = recordsRefused InputFollowed
-
--- so many records, and then the end: "14 to 16 as the bytes come; 17"
+-- FORMAT 5.1, 8.4: so many records, each where the one before ends, and then 17
 unfoldable pub readRecords : ℕ → List ℕ → Records
-readRecords zero bytes = atEnd bytes
+readRecords zero bytes = atEnd InputFollowed bytes
 readRecords (suc m) bytes = follow (readRecord bytes) bytes (readRecords m)
 
+-- FORMAT 5.1: the bytes of these records
 unfoldable pub schemaBytes : List TypeRecord → List ℕ
 schemaBytes [] = []
 schemaBytes (t ∷ ts) = recordBytes (t .map) (t .ordinary) ++ schemaBytes ts
 
 -- ---- what they say
 
+-- the record of the empty type
 abbrev pub noRecord : TypeRecord
 noRecord = record { map = 0; ordinary = [] }
 
--- the assignment that the records mean: relation r has the type of record r
+-- FORMAT 5.3: the assignment that the records mean: relation r has the type of record r
 abbrev pub assignmentOf : List TypeRecord → Assignment
 assignmentOf ts r = typeOf (getD ts r noRecord)
 
@@ -67,6 +65,7 @@ entriesFrom r (t ∷ ts) es = entriesFrom (r + 1) ts (enter (2 ^ r) (t .ordinary
 unfoldable pub entriesOf : List TypeRecord → List ℕ
 entriesOf ts = entriesFrom 0 ts []
 
+-- the map of special attributes of each of eight relations; 0 where there is no record
 unfoldable pub mapsOf : List TypeRecord → List ℕ
 mapsOf ts = tab 8 (λ r. getD ts r noRecord .map)
 
@@ -79,16 +78,18 @@ pub record Schema : Type 0 where
   pub special : List ℕ
   pub entries : List ℕ
 
+-- a refused schema: its table is empty
 unfoldable pub refusedSchema : Refusal → Schema
 refusedSchema r = record { judgement = Refused r; special = mapsOf []; entries = [] }
 
--- "over 255 different ordinary attributes", once the records are read
+-- FORMAT 8.4: 18, once the records are read; and the membership table
 abbrev pub tabled : Records → Schema
 tabled (recordsRefused r) = refusedSchema r
 tabled (recordsRead ts) =
     cond (ltb 255 (length (entriesOf ts))) (refusedSchema TooManyAttributes)
     (record { judgement = Read; special = mapsOf ts; entries = entriesOf ts })
 
+-- FORMAT 8.4: what the bytes of a schema of m relations say
 unfoldable pub schemaReading : ℕ → List ℕ → Schema
 schemaReading m bytes = tabled (readRecords m bytes)
 
@@ -102,7 +103,7 @@ EntriesStand judgement entries items = judgement ≡ Read → take (length entri
 
 -- ---- writing
 
--- the records of m relations that a table says
+-- FORMAT 5.3: the records of m relations that a table says
 unfoldable pub recordsOf : ℕ → List ℕ → List ℕ → List TypeRecord
 recordsOf m special entries = tab m (λ r. record { map = getD special r 0; ordinary = heldBy r entries })
 

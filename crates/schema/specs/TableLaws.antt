@@ -1,6 +1,6 @@
 -- Laws of a schema that was read: its records, and the table that is made of them.
 use Prim.Native.Nat.{ℕ, zero, suc, _%_, _≤_, _<_}
-use mathlib.Core.Path.{_≡_, refl, ap, _∙_}
+use mathlib.Core.Path.{_≡_, refl, ap}
 use mathlib.Core.Bool.{Bool, true, false, cond}
 use mathlib.Core.List.{List, [], _∷_}
 use native.Mathlib.Decide.{decLt}
@@ -12,9 +12,10 @@ use Rattle.bits.specs.Tab.{tab, length-tab, getD-tab}
 use Rattle.bits.specs.Word.{Bytes}
 use Rattle.refusal.specs.declared.Refusal.{Refusal}
 use Rattle.refusal.specs.declared.Refusal.the-variants.{TooManyAttributes}
+use Rattle.refusal.specs.Several.{severalRefused as recordsRefused, severalRead as recordsRead}
 use Rattle.type_record.specs.Record.{TypeRecord}
 use Rattle.membership.specs.TableLaws.{items-stand}
-use Rattle.schema.specs.Schema.{Schema, Records, recordsRefused, recordsRead, readRecords, noRecord, entriesOf, mapsOf, refusedSchema, tabled, schemaReading, readingOf, WritesFrom}
+use Rattle.schema.specs.Schema.{Schema, Records, readRecords, noRecord, entriesOf, mapsOf, refusedSchema, tabled, schemaReading, readingOf, WritesFrom}
 use Rattle.schema.specs.RecordsLaws.{AllRecords, records-read}
 use Rattle.schema.specs.EntriesLaws.{entries-below}
 use Rattle.schema.specs.declared.reading.Judgement.the-variants.{Read}
@@ -34,7 +35,16 @@ pub schema-read : (m : ℕ) (bytes : List ℕ) → schemaReading m bytes .judgem
 unfolding schemaReading
 schema-read m bytes e = go (readRecords m bytes) refl e
   where
-    counted : (ts : List TypeRecord) → readRecords m bytes ≡ recordsRead ts → (t : Bool) → ltb 255 (length (entriesOf ts)) ≡ t → cond t (refusedSchema TooManyAttributes) (record { judgement = Read; special = mapsOf ts; entries = entriesOf ts }) .judgement ≡ Read → (us : List TypeRecord) × ReadSchema m bytes (cond t (refusedSchema TooManyAttributes) (record { judgement = Read; special = mapsOf ts; entries = entriesOf ts })) us
+    counted :
+        (ts : List TypeRecord)
+        → readRecords m bytes ≡ recordsRead ts
+        → (t : Bool)
+        → ltb 255 (length (entriesOf ts)) ≡ t
+        → cond t (refusedSchema TooManyAttributes) (record { judgement = Read; special = mapsOf ts; entries = entriesOf ts }) .judgement
+        ≡ Read
+        → (us : List TypeRecord)
+        × ReadSchema m bytes
+        (cond t (refusedSchema TooManyAttributes) (record { judgement = Read; special = mapsOf ts; entries = entriesOf ts })) us
     counted ts read true many e = absurd (refused-not TooManyAttributes e)
     counted ts read false few e = (ts, record { read = read; few = ltb-false 255 (length (entriesOf ts)) few; is = refl })
 
@@ -92,7 +102,13 @@ unfolding mapsOf
 maps-size ts = length-tab 8 (λ r. getD ts r noRecord .map)
 
 -- it is one that can be written, where its entries stand in a slice
-pub read-table : (m : ℕ) (bytes : List ℕ) (s : Schema) (ts : List TypeRecord) (items : List ℕ) → m ≤ 8 → Bytes bytes → ReadSchema m bytes s ts → take (length (s .entries)) items ≡ s .entries → WritesFrom (s .special) items (length (s .entries))
+pub read-table :
+    (m : ℕ) (bytes : List ℕ) (s : Schema) (ts : List TypeRecord) (items : List ℕ)
+    → m ≤ 8
+    → Bytes bytes
+    → ReadSchema m bytes s ts
+    → take (length (s .entries)) items ≡ s .entries
+    → WritesFrom (s .special) items (length (s .entries))
 read-table m bytes s ts items most below r stands =
     let read = records-read m bytes ts below (r .read) in
     let size = read .0 in

@@ -1,10 +1,10 @@
-// Reading a schema: "A schema is m such records, and each record begins where the one before it ends."
+// Reading a schema (FORMAT 5.1, 8.4).
 ghost use mathlib.Core.Path.{_≡_};
 ghost use Prim.Native.Nat.{_≤_};
 ghost use lib.ListN.{length};
 ghost use Rattle.membership.specs.Entries.{RoomFor, SpareFor};
-ghost use Rattle.schema.specs.Schema.{schemaReading, refusedSchema, readingOf, EntriesStand};
-use membership::enter;
+ghost use Rattle.schema.specs.Schema.{refusedSchema, readingOf, schemaReading, EntriesStand};
+use entering::enter;
 use refusal::Refusal;
 use type_record::RecordReading;
 use type_record::read_record;
@@ -24,6 +24,7 @@ pub struct SchemaReading {
     pub count: usize,
 }
 
+// A refused schema, with an empty table.
 fn refused(r: Refusal) -> SchemaReading
     ensures { λ s. ⌜ s ≡ readingOf (refusedSchema r) ⌝ }
 {
@@ -34,8 +35,8 @@ fn refused(r: Refusal) -> SchemaReading
     }
 }
 
-// The schema of m relations in these bytes. Its entries stand at the front of `items`; what stands after them, and in
-// the second slice, is free.
+// The schema of m relations in these bytes (FORMAT 8.4): refusals 14 to 18. Its entries stand at the front of `items`;
+// what stands after them, and in the second slice, is free.
 pub fn read_schema(bytes: &[u8], m: u8, items: &mut [u32], spare: &mut [u32]) -> SchemaReading
     requires { ⌜ m ≤ 8 ⌝ }
     requires { ⌜ RoomFor (length (now bytes)) (now items) × SpareFor (length (now bytes)) (now spare) ⌝ }

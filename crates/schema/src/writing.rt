@@ -1,9 +1,9 @@
-// Writing a schema from the membership table.
+// Writing a schema from the membership table (FORMAT 5.1).
 ghost use mathlib.Core.Path.{_≡_};
 ghost use Prim.Native.Nat.{_≤_};
 ghost use lib.ListN.{length, take};
 ghost use Rattle.bits.specs.Tab.{over};
-ghost use Rattle.schema.specs.Schema.{schemaBytes, recordsOf, WritesFrom};
+ghost use Rattle.schema.specs.Schema.{schemaBytes, recordsOf, WritesFrom, schemaSize};
 use membership::held_by;
 use type_record::write_record;
 
@@ -19,7 +19,7 @@ pub fn write_schema(
 ) -> usize
     requires { ⌜ m ≤ 8 ⌝ }
     requires { ⌜ WritesFrom (now special) (now items) count ⌝ }
-    requires { ⌜ (4104 ≤ length (now out)) × (count ≤ length (now list)) ⌝ }
+    requires { ⌜ (schemaSize ≤ length (now out)) × (count ≤ length (now list)) ⌝ }
     ensures { λ r. ⌜ r ≡ length (schemaBytes (recordsOf m (now (special .entry)) (take count (now (items .entry))))) ⌝ }
     ensures { λ _. ⌜ now (out .exit) ≡ over (schemaBytes (recordsOf m (now (special .entry)) (take count (now (items .entry))))) (now (out .entry)) ⌝ }
 {

@@ -1,4 +1,4 @@
--- Special attributes, as a subset for each attribute and as a map for each relation: "Relation r's image holds .. the special attributes whose subset contains r" (document 01).
+-- Special attributes, as a subset for each attribute and as a map for each relation (FORMAT 6.4).
 use Prim.Native.Nat.{ℕ, _+_, _-_, _*_, _/_, _%_, _^_, _≤_, _<_}
 use mathlib.Core.Path.{_≡_, ap, _∙_}
 use mathlib.Core.List.{List}
@@ -14,6 +14,7 @@ use Rattle.bits.specs.Tab.{tab}
 unfoldable pub mapOf : List ℕ → ℕ → ℕ
 mapOf subsets r = pack 16 (λ i. bit (getD subsets i 0) r)
 
+-- FORMAT 6.4: the maps of eight relations
 unfoldable pub mapsFrom : List ℕ → List ℕ
 mapsFrom subsets = tab 8 (mapOf subsets)
 
@@ -21,6 +22,7 @@ mapsFrom subsets = tab 8 (mapOf subsets)
 unfoldable pub subsetFrom : List ℕ → ℕ → ℕ
 subsetFrom maps i = pack 8 (λ r. bit (getD maps r 0) i)
 
+-- FORMAT 7.11: the subsets of all attributes, by number
 unfoldable pub subsetsFrom : List ℕ → List ℕ
 subsetsFrom maps = tab 16 (subsetFrom maps)
 

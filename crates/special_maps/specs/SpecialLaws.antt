@@ -29,7 +29,12 @@ module _ (subsets : List ℕ) where
 
   map-even : getD subsets 0 0 ≡ 0 → (r : ℕ) → mapOf subsets r % 2 ≡ 0
   unfolding mapOf
-  map-even none r = digit-clear (mapOf subsets r % 2) (mod-lt (mapOf subsets r) (lit< tt)) (sym (bit-first (mapOf subsets r)) ∙ bit-pack 16 (λ i. bit (getD subsets i 0) r) 0 (lit< tt) ∙ ap (λ (x : ℕ). bit x r) none ∙ bit-none r)
+  map-even none r =
+      digit-clear (mapOf subsets r % 2) (mod-lt (mapOf subsets r) (lit< tt))
+      (sym (bit-first (mapOf subsets r))
+      ∙ bit-pack 16 (λ i. bit (getD subsets i 0) r) 0 (lit< tt)
+      ∙ ap (λ (x : ℕ). bit x r) none
+      ∙ bit-none r)
 
   -- bit 0 is clear where attribute 0 has no relation
   pub maps-even : getD subsets 0 0 ≡ 0 → (r : ℕ) → getD (mapsFrom subsets) r 0 % 2 ≡ 0

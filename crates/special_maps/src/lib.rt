@@ -1,4 +1,5 @@
-// The special attributes of a membership table: as a subset for each attribute, and as a map for each relation.
+// The special attributes of a membership table: as a subset for each attribute, and as a map for
+// each relation (FORMAT 6.4).
 ghost use mathlib.Core.Path.{_≡_};
 ghost use Prim.Native.Nat.{_<_};
 ghost use lib.ListN.{length};

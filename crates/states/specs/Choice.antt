@@ -1,4 +1,5 @@
--- A choice of an allowed state for each special attribute, with an ordinary attribute for every variable: the assignment that it gives fits, and some filled assignment fits exactly when some choice covers every relation.
+-- A choice of an allowed state for each special attribute, with an ordinary attribute for every variable: the
+-- assignment that it gives fits, and some filled assignment fits exactly when some choice covers every relation.
 use Prim.Native.Nat.{ℕ, _+_, _-_, _≤_, _<_, _^_}
 use mathlib.Core.Path.{_≡_, refl, sym, ap, ap₂, _∙_}
 use mathlib.Core.Bool.{Bool, true, false, cond, _&&_, _||_, or-true}
@@ -19,6 +20,7 @@ use Rattle.states.specs.Formula.{TypeOver, AssignmentOver, Finite, IsAss
 use Rattle.states.specs.Instance.{not-zero}
 use Rattle.states.specs.States.{held-none, holders-value, holders-below, holders-is, variable, fits-at}
 
+-- a state for each special attribute, allowed in its column
 pub record Choice {K : Kinds} (C : Coded K) (F : Formula K) (state : ℕ → ℕ) : Type 0 where
   pub below : (i : ℕ) → T (special i) → state i < C .base ^ F .relations
   pub allowed : (i : ℕ) → T (special i) → F .allowed i (state i) ≡ true
@@ -27,9 +29,11 @@ pub record Choice {K : Kinds} (C : Coded K) (F : Formula K) (state : ℕ → ℕ
 abbrev pub chosenState : {K : Kinds} (C : Coded K) (F : Formula K) → (ℕ → ℕ) → ℕ → ℕ
 chosenState C F state a = cond (special a) (state a) (cond (ordinary a && isVariable C F (a - 16)) (a - 16) 0)
 
+-- the assignment of a choice: relation r has each attribute as its state says
 abbrev pub chosen : {K : Kinds} (C : Coded K) (F : Formula K) → (ℕ → ℕ) → AssignmentOver K
 chosen C F state r a = valueAt C (chosenState C F state a) r
 
+-- the type of the result under it
 abbrev pub chosenType : {K : Kinds} (C : Coded K) (F : Formula K) → (ℕ → ℕ) → TypeOver K
 chosenType C F state a = F .output (column a) (chosenState C F state a)
 
@@ -71,7 +75,11 @@ module _ {K : Kinds} (C : Coded K) (F : Formula K) (ground : Grounded F) where
             variables (λ h. special-ordinary a h (by-true (both .0))) (by-true (both .1))
             (ap₂ (λ (b d : Bool). cond b (state a) (cond d (a - 16) 0)) e k)
             (let least = leb→le 16 a (by-true (both .0)) in omega arith)
-        go false e false k = others (λ h. let z : _≡_ {A = Bool} true false = sym (is-true (special a) h) ∙ e in absurd (let y : _≡_ {A = ℕ} 0 1 = cc in omega arith)) (ap₂ (λ (b d : Bool). cond b (state a) (cond d (a - 16) 0)) e k)
+        go false e false k =
+            others
+            (λ h. let z : _≡_ {A = Bool} true false = sym (is-true (special a) h)
+            ∙ e in absurd (let y : _≡_ {A = ℕ} 0 1 = cc in omega arith))
+            (ap₂ (λ (b d : Bool). cond b (state a) (cond d (a - 16) 0)) e k)
 
     state-small : (a : ℕ) → chosenState C F state a < C .base ^ F .relations
     state-small a = go (origin a)
@@ -163,9 +171,22 @@ module _ {K : Kinds} (C : Coded K) (F : Formula K) (ground : Grounded F) where
         some a h = not-zero (holders C (F .relations) A a) (λ e. held-none C (A r a) h (sym (holders-value C (F .relations) A a r below) ∙ ap (λ (s : ℕ). valueAt C s r) e ∙ value-none C r))
 
         go : (a : ℕ) → T (K .has (A r a)) → Kind a → covers C F (holders C (F .relations) A) r ≡ true
-        go a h (isSpecial k) = ap (λ (b : Bool). b || anyBelow (C .base ^ F .relations) (byList C F r)) (in-any 16 (byState C (holders C (F .relations) A) r) a (let b = special-bounds a k in omega arith) (ap₂ _&&_ (is-true (special a) k) (held a h)))
+        go a h (isSpecial k) =
+            ap (λ (b : Bool). b || anyBelow (C .base ^ F .relations) (byList C F r))
+            (in-any 16 (byState C (holders C (F .relations) A) r) a (let b = special-bounds a k in omega arith)
+            (ap₂ _&&_ (is-true (special a) k) (held a h)))
         go a h (isOrdinary k) =
             let s = holders C (F .relations) A a in
-            let v : isVariable C F s ≡ true = is-true (isVariable C F (holders C (F .relations) A a)) (variable C F s .1 (record { some = some a h; below = holders-below C (F .relations) A a; allowed = fits-at C F A t a 0 s (column-other a (λ z. special-ordinary a z k)) refl .0 (fits a) .0 })) in
-            ap (λ (b : Bool). anyBelow 16 (byState C (holders C (F .relations) A) r) || b) (in-any (C .base ^ F .relations) (byList C F r) s (holders-below C (F .relations) A a) (ap₂ _&&_ v (held a h))) ∙ or-true (anyBelow 16 (byState C (holders C (F .relations) A) r))
+            let v : isVariable C F s
+            ≡ true = is-true (isVariable C F (holders C (F .relations) A a))
+            (variable C F s .1
+            (record {
+              some = some a h;
+              below = holders-below C (F .relations) A a;
+              allowed = fits-at C F A t a 0 s (column-other a (λ z. special-ordinary a z k)) refl .0 (fits a) .0;
+            }))
+            in
+            ap (λ (b : Bool). anyBelow 16 (byState C (holders C (F .relations) A) r) || b)
+            (in-any (C .base ^ F .relations) (byList C F r) s (holders-below C (F .relations) A a) (ap₂ _&&_ v (held a h)))
+            ∙ or-true (anyBelow 16 (byState C (holders C (F .relations) A) r))
         go a h (isZero e) = absurd (held-none C (A r a) h (ap (A r) e ∙ types r below .positive))

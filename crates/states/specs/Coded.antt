@@ -10,6 +10,7 @@ use Rattle.bits.specs.Pack.{pack, bit-pack, pack-below, bits-once}
 use Rattle.algebra.specs.Cell.{Kinds, plain, sameBool}
 use Rattle.states.specs.Digits.{digit, digit-is, digit-none, digit-below, fromDigits, digit-from, from-below, digits-once}
 
+-- kinds whose values are the digits of a base: each value has a digit below it, and each such digit a value
 pub record Coded (K : Kinds) : Type 0 where
   -- so many values
   pub base : ℕ
@@ -52,6 +53,7 @@ bit-only true d h = sym h
 bit-only false true h = h
 bit-only false false h = refl
 
+-- base 2: 0 for lacking, 1 for having
 abbrev pub plainCode : Coded plain
 plainCode =
     record {

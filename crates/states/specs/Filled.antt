@@ -1,4 +1,4 @@
--- Filled assignments and images: "an assignment now gives every relation at least one attribute" (document 02, point 4).
+-- Filled assignments and images, in which every relation has an attribute (request 4).
 use Prim.Native.Nat.{ℕ, _<_}
 use mathlib.Core.Path.{refl}
 use mathlib.Core.Logic.{_↔_, ∥∥₁-elim, ∥∥₁-prop}

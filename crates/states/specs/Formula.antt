@@ -1,4 +1,5 @@
--- Types, assignments and formulas over any coded kinds: a formula says which states of the relations are allowed in each column, and what the output then has.
+-- Types, assignments and formulas over any coded kinds: a formula says which states of the relations are allowed in
+-- each column, and what the output then has.
 use Prim.Native.Nat.{ℕ, _^_, _≤_, _<_}
 use mathlib.Core.Path.{_≡_}
 use mathlib.Core.Bool.{Bool, true, _&&_}
@@ -15,20 +16,24 @@ TypeOver K = ℕ → K .Value
 unfoldable pub Finite : (K : Kinds) → TypeOver K → Type 0
 Finite K t = ∥ ((bound : ℕ) × ((a : ℕ) → bound ≤ a → t a ≡ K .none)) ∥₁
 
+-- a type: from some attribute on it lacks all, and it lacks 0
 pub record IsType (K : Kinds) (t : TypeOver K) : Type 0 where
   pub positive : t 0 ≡ K .none
   pub finite : Finite K t
 
+-- what each relation has of each attribute
 abbrev pub AssignmentOver : Kinds → Type 0
 AssignmentOver K = ℕ → TypeOver K
 
+-- each of the m relations has a type
 abbrev pub IsAssignment : (K : Kinds) → ℕ → AssignmentOver K → Type 0
 IsAssignment K m A = (r : ℕ) → r < m → IsType K (A r)
 
--- "an assignment now gives every relation at least one attribute"
+-- every relation has an attribute (request 4)
 abbrev pub Filled : (K : Kinds) → ℕ → AssignmentOver K → Type 0
 Filled K m A = (r : ℕ) → r < m → ∥ ((a : ℕ) × T (K .has (A r a))) ∥₁
 
+-- which states of the relations each column allows, and what the result then has
 pub record Formula (K : Kinds) : Type 0 where
   -- m
   pub relations : ℕ
@@ -40,11 +45,11 @@ pub record Formula (K : Kinds) : Type 0 where
 abbrev pub holders : {K : Kinds} → Coded K → ℕ → AssignmentOver K → ℕ → ℕ
 holders C m A a = stateOf C m (λ r. A r a)
 
--- "The type variables are the s above 0 allowed in column 0.": by which states column 0 allows
+-- FORMAT 3.9: a number above 0 that column 0 allows
 abbrev pub typeVariable : (ℕ → Bool) → ℕ → Bool
 typeVariable allowed s = ltb 0 s && allowed s
 
--- of a formula: a state of its relations
+-- a type variable of a formula is a state of its relations
 abbrev pub isVariable : {K : Kinds} → Coded K → Formula K → ℕ → Bool
 isVariable C F s = ltb s (C .base ^ F .relations) && typeVariable (F .allowed 0) s
 

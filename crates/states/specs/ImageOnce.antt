@@ -9,9 +9,8 @@ use Rattle.attribute_set.specs.AttrSet.{special}
 use Rattle.types.specs.Types.{ordinary}
 use Rattle.types.specs.Types as Plain
 use Rattle.types.specs.Laws.{finite-prop}
-use Rattle.bits.specs.Truth.{same-test}
+use Rattle.bits.specs.Truth.{same-test, any-proof}
 use Rattle.types.specs.Attributes.{special-ordinary}
-use Rattle.bits.specs.Truth.{any-proof}
 use Rattle.algebra.specs.Cell.{Kinds}
 use Rattle.states.specs.Coded.{Coded, valueAt, states-once}
 use Rattle.states.specs.Formula.{Formula, isVariable}
@@ -58,7 +57,13 @@ module _ {K : Kinds} (C : Coded K) (F : Formula K) where
         below = isProp→PathP (λ i. (k : ℕ) (h : T (special k)) → T (ltb (p i k h) (C .base ^ F .relations))) (λ i. Π-prop λ k. Π-prop λ h. T-prop (ltb (p i k h) (C .base ^ F .relations))) (I .below) (J .below) i;
         allowed = isProp→PathP (λ i. (k : ℕ) (h : T (special k)) → T (F .allowed k (p i k h))) (λ i. Π-prop λ k. Π-prop λ h. T-prop (F .allowed k (p i k h))) (I .allowed) (J .allowed) i;
         list = q i;
-        ordinaries = isProp→PathP (λ i. (s : ℕ) (w : T (isVariable C F s)) (a : ℕ) → T (q i s w a) → T (ordinary a)) (λ i. Π-prop λ s. Π-prop λ w. Π-prop λ a. Π-prop λ l. T-prop (ordinary a)) (I .ordinaries) (J .ordinaries) i;
+        ordinaries =
+            isProp→PathP (λ i. (s : ℕ) (w : T (isVariable C F s)) (a : ℕ) → T (q i s w a) → T (ordinary a))
+            (λ i. Π-prop λ s. Π-prop λ w. Π-prop λ a. Π-prop λ l. T-prop (ordinary a)) (I .ordinaries) (J .ordinaries) i;
         finite = isProp→PathP (λ i. (s : ℕ) (w : T (isVariable C F s)) → Plain.Finite (q i s w)) (λ i. Π-prop λ s. Π-prop λ w. finite-prop _) (I .finite) (J .finite) i;
-        disjoint = isProp→PathP (λ i. (s s′ : ℕ) (w : T (isVariable C F s)) (w′ : T (isVariable C F s′)) (a : ℕ) → T (q i s w a) → T (q i s′ w′ a) → s ≡ s′) (λ i. Π-prop λ s. Π-prop λ s′. Π-prop λ w. Π-prop λ w′. Π-prop λ a. Π-prop λ l. Π-prop λ l′. ℕ-set s s′) (I .disjoint) (J .disjoint) i;
+        disjoint =
+            isProp→PathP
+            (λ i. (s s′ : ℕ) (w : T (isVariable C F s)) (w′ : T (isVariable C F s′)) (a : ℕ) → T (q i s w a) → T (q i s′ w′ a) → s ≡ s′)
+            (λ i. Π-prop λ s. Π-prop λ s′. Π-prop λ w. Π-prop λ w′. Π-prop λ a. Π-prop λ l. Π-prop λ l′. ℕ-set s s′) (I .disjoint)
+            (J .disjoint) i;
       }

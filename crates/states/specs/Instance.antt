@@ -43,6 +43,7 @@ module _ {K : Kinds} (C : Coded K) (F : Formula K) (ground : Grounded F) (A : As
       ∥∥₁-elim (bounded K (F .relations) A types) (finite-prop (heldBy C (F .relations) A s))
       λ b. finite-by (b .0) (λ a h. is-false _ λ l. omega (arith, held C (F .relations) A s a l, holders-none C (F .relations) A a (b .1 a h)))
 
+  -- the instantiation of an assignment that fits: each attribute by the state of the relations that have it
   pub instance : Instantiation C F
   instance =
       record {
@@ -77,7 +78,10 @@ module _ {K : Kinds} (C : Coded K) (F : Formula K) (ground : Grounded F) (A : As
 
       into : Kind a → A r a ≡ v → InImage instance r a v
       into (isSpecial h) x = InImage.specials h (same ∙ x)
-      into (isOrdinary h) x = InImage.listed (holders C (F .relations) A a) (holders-variable a h (some-holder r a below (subst (λ (u : K .Value). T (K .has u)) (sym x) has))) (held-here C (F .relations) A a h) (same ∙ x)
+      into (isOrdinary h) x =
+          InImage.listed (holders C (F .relations) A a)
+          (holders-variable a h (some-holder r a below (subst (λ (u : K .Value). T (K .has u)) (sym x) has)))
+          (held-here C (F .relations) A a h) (same ∙ x)
       into (isZero e) x = absurd (held-none C v has (sym x ∙ ap (A r) e ∙ types r below .positive))
 
       out : InImage instance r a v → A r a ≡ v

@@ -6,9 +6,8 @@ use mathlib.Core.Logic.{_↔_, _⊎_, inl, inr}
 use lib.Dec.{T}
 use Rattle.attribute_set.specs.AttrSet.{special}
 use Rattle.types.specs.Attributes.{special-ordinary}
-use Rattle.bits.specs.Truth.{decided}
+use Rattle.bits.specs.Truth.{decided, any-proof}
 use Rattle.bits.specs.Search.{Below, found, missing, search-below}
-use Rattle.bits.specs.Truth.{any-proof}
 use Rattle.algebra.specs.Cell.{Kinds}
 use Rattle.states.specs.Coded.{Coded, valueAt}
 use Rattle.states.specs.Formula.{Formula, isVariable}
@@ -66,6 +65,7 @@ unfolding after
 after-out true f t = (tt, t)
 after-out false f t = absurd t
 
+-- where an instantiation has attribute a: as a special attribute, in the list of a variable, or nowhere
 pub data Place {K : Kinds} {C : Coded K} {F : Formula K} (I : Instantiation C F) (a : ℕ) : Type 0 where
   inState : T (special a) → Place I a
   inList : (s : ℕ) (w : T (isVariable C F s)) → T (I .list s w a) → Place I a

@@ -1,4 +1,5 @@
--- For any coded kinds: the instantiations of a formula by states are the assignments that fit it, each once; and with the cells of an expression, those in which no attribute breaks a rule.
+-- For any coded kinds: the instantiations of a formula by states are the assignments that fit it, each once; and with
+-- the cells of an expression, those in which no attribute breaks a rule.
 use Prim.Native.Nat.{ℕ, _<_, _^_}
 use mathlib.Core.Path.{_≡_, sym, ap₂, fun-ext, _∙_}
 use mathlib.Core.Logic.{_↔_, Iff·trans, Iff·symm}
@@ -19,7 +20,8 @@ use Rattle.states.specs.Instance.{instance, instance-image, instance-out
 use Rattle.states.specs.ImageFits.{fits}
 use Rattle.states.specs.ImageOnce.{same-state, same-list, same-data}
 
--- F is a formula of e: its bits are the cells of e, at the columns and states that there are
+-- F is the formula of e: at each column and each state of its relations it allows what breaks no rule in e, and its
+-- output is what the result has
 pub record FormulaOf {K : Kinds} (C : Coded K) (e : Expression) (F : Formula K) : Type 0 where
   pub allowed : (c s : ℕ) → c < 16 → s < C .base ^ F .relations → F .allowed c s ≡ ok K e c (valueAt C s)
   pub output : (c s : ℕ) → c < 16 → s < C .base ^ F .relations → F .output c s ≡ cond (ok K e c (valueAt C s)) (out K e c (valueAt C s)) (K .none)
@@ -29,7 +31,7 @@ pub record CellOf (K : Kinds) (A : AssignmentOver K) (e : Expression) (t : TypeO
   pub allowed : ok K e (column a) (λ r. A r a) ≡ true
   pub output : out K e (column a) (λ r. A r a) ≡ t a
 
--- just one
+-- just one instantiation has A as image and t as output
 pub record JustOne {K : Kinds} (C : Coded K) (F : Formula K) (A : AssignmentOver K) (t : TypeOver K) : Type 0 where
   pub instantiation : Instantiation C F
   pub image : HasImage instantiation A
@@ -37,7 +39,10 @@ pub record JustOne {K : Kinds} (C : Coded K) (F : Formula K) (A : AssignmentOver
   pub only : (J : Instantiation C F) → HasImage J A → HasOutput J t → J ≡ instantiation
 
 module _ {K : Kinds} (C : Coded K) (e : Expression) (F : Formula K) (legal : Legal (F .relations) e) (is : FormulaOf C e F) where
-  same-cell : (A : AssignmentOver K) (a : ℕ) → (ok K e (column a) (valueAt C (holders C (F .relations) A a)) ≡ ok K e (column a) (λ r. A r a)) × (out K e (column a) (valueAt C (holders C (F .relations) A a)) ≡ out K e (column a) (λ r. A r a))
+  same-cell :
+      (A : AssignmentOver K) (a : ℕ)
+      → (ok K e (column a) (valueAt C (holders C (F .relations) A a)) ≡ ok K e (column a) (λ r. A r a))
+      × (out K e (column a) (valueAt C (holders C (F .relations) A a)) ≡ out K e (column a) (λ r. A r a))
   same-cell A a = cell-depends K (F .relations) e legal (column a) (valueAt C (holders C (F .relations) A a)) (λ r. A r a) (λ r h. holders-value C (F .relations) A a r h)
 
   pub cell-fits : (A : AssignmentOver K) (t : TypeOver K) (a : ℕ) → CellOf K A e t a → Fits C F A t a
@@ -78,7 +83,8 @@ module _ {K : Kinds} (C : Coded K) (e : Expression) (F : Formula K) (legal : Leg
       (fun-ext λ i. fun-ext λ h. same-state C F I J same i h)
       (fun-ext λ s. fun-ext λ w. fun-ext λ a. same-list C F I J same s w a)
 
-  -- principal: no attribute breaks a rule, with the result t, exactly when just one instantiation has that image and that output
+  -- principal: no attribute breaks a rule, with the result t, exactly when just one instantiation has
+  -- that image and that output
   pub principal : (A : AssignmentOver K) → IsAssignment K (F .relations) A → (t : TypeOver K) → ((a : ℕ) → CellOf K A e t a) ↔ JustOne C F A t
   principal A types t = (into, λ one. λ a. fits-cell A t a (fits C F grounded A t (one .instantiation) (one .image) (one .output) a (place (one .instantiation) a)))
     where

@@ -34,6 +34,7 @@ unfoldable pub reach : {K : Kinds} → Coded K → Formula K → ℕ → ℕ →
 reach C F zero u = eqb u (listed C F)
 reach C F (suc n) u = anyBelow (C .base ^ F .relations) (λ s. F .allowed (suc n) s && anyBelow (2 ^ F .relations) (λ w. reach C F n w && eqb (bitOr w (maskOf C (F .relations) s)) u))
 
+-- allowed states and variables can fill every relation
 pub fillable : {K : Kinds} → Coded K → Formula K → Bool
 fillable C F = reach C F 15 (2 ^ F .relations - 1)
 
@@ -51,6 +52,7 @@ module _ {K : Kinds} (C : Coded K) (F : Formula K) where
   union zero state = listed C F
   union (suc n) state = bitOr (union n state) (maskOf C (F .relations) (state (suc n)))
 
+  -- allowed states of attributes 1 to n
   record Chosen (n : ℕ) (state : ℕ → ℕ) : Type 0 where
     below : (i : ℕ) → 1 ≤ i → i ≤ n → state i < C .base ^ F .relations
     allowed : (i : ℕ) → 1 ≤ i → i ≤ n → F .allowed i (state i) ≡ true
@@ -74,7 +76,10 @@ module _ {K : Kinds} (C : Coded K) (F : Formula K) where
       in-any (C .base ^ F .relations) _ (state (suc n)) (h .below (suc n) (omega arith) (omega arith))
       (ap₂ _&&_ (h .allowed (suc n) (omega arith) (omega arith))
       (in-any (2 ^ F .relations) _ (union n state) (union-below n state)
-      (ap₂ _&&_ (chosen-reach n state (record { below = λ i l k. h .below i l (omega arith); allowed = λ i l k. h .allowed i l (omega arith) })) (eq-eqb (bitOr (union n state) (maskOf C (F .relations) (state (suc n)))) (bitOr (union n state) (maskOf C (F .relations) (state (suc n)))) refl))))
+      (ap₂ _&&_
+      (chosen-reach n state (record { below = λ i l k. h .below i l (omega arith); allowed = λ i l k. h .allowed i l (omega arith) }))
+      (eq-eqb (bitOr (union n state) (maskOf C (F .relations) (state (suc n))))
+      (bitOr (union n state) (maskOf C (F .relations) (state (suc n)))) refl))))
 
   -- the choice with one state more
   abbrev extended : ℕ → ℕ → (ℕ → ℕ) → ℕ → ℕ
@@ -132,7 +137,8 @@ module _ {K : Kinds} (C : Coded K) (F : Formula K) where
 
   union-full : (state : ℕ → ℕ) → ((r : ℕ) → r < F .relations → covers C F state r ≡ true) ↔ (union 15 state ≡ 2 ^ F .relations - 1)
   union-full state = (
-    (λ h. bits-once (F .relations) (union 15 state) (2 ^ F .relations - 1) (union-below 15 state) (ones-lt (F .relations)) (λ r below. union-bit 15 (omega arith) state r below ∙ h r below ∙ sym (bit-ones (F .relations) r below))),
+    (λ h. bits-once (F .relations) (union 15 state) (2 ^ F .relations - 1) (union-below 15 state) (ones-lt (F .relations))
+        (λ r below. union-bit 15 (omega arith) state r below ∙ h r below ∙ sym (bit-ones (F .relations) r below))),
     (λ e r below. sym (union-bit 15 (omega arith) state r below) ∙ ap (λ (x : ℕ). bit x r) e ∙ bit-ones (F .relations) r below),
   )
 
@@ -143,7 +149,11 @@ module _ {K : Kinds} (C : Coded K) (F : Formula K) where
   fillable-fits ground h =
       let found = reach-chosen 15 (2 ^ F .relations - 1) h in
       let state = found .0 in
-      let choice : Choice C F state = record { below = λ i k. let b = special-bounds i k in found .1 .0 .below i (omega arith) (omega arith); allowed = λ i k. let b = special-bounds i k in found .1 .0 .allowed i (omega arith) (omega arith) } in
+      let choice : Choice C F state = record {
+        below = λ i k. let b = special-bounds i k in found .1 .0 .below i (omega arith) (omega arith);
+        allowed = λ i k. let b = special-bounds i k in found .1 .0 .allowed i (omega arith) (omega arith);
+      }
+      in
       record {
         assignment = chosen C F state;
         types = choice-types C F ground state choice;

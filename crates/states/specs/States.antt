@@ -74,6 +74,7 @@ bounded K (suc m) A types =
 
 -- ---- variables, and fitting
 
+-- what a type variable is: above 0, a state of the relations, allowed in column 0
 pub record Variable {K : Kinds} (C : Coded K) (F : Formula K) (s : ℕ) : Type 0 where
   pub some : 0 < s
   pub below : s < C .base ^ F .relations

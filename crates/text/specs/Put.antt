@@ -50,6 +50,7 @@ put-put at a b old h =
     (simp append-assoc)
 
 -- ---- what a writer leaves: these bytes from `at` on, and the place after them
+-- the bytes stand from a place on, the rest is as it was, and `end` is the place after them
 pub record Wrote (at : ℕ) (bytes old now : List ℕ) (end : ℕ) : Type 0 where
   pub end-is : end ≡ at + length bytes
   pub fits : end ≤ length old
@@ -93,7 +94,12 @@ pub wrote-front : {bytes old now : List ℕ} {end : ℕ} → Wrote 0 bytes old n
 wrote-front {bytes} {old} u = let e = u .end-is in (u .now-is ∙ put-front bytes old, omega arith)
 
 -- a copy of a list, element by element
-pub wrote-next : (at i : ℕ) (bytes old now : List ℕ) → i < length bytes → at + i < length old → Wrote at (take i bytes) old now (at + i) → Wrote at (take (i + 1) bytes) old (set now (at + i) (getD bytes i 0)) (at + (i + 1))
+pub wrote-next :
+    (at i : ℕ) (bytes old now : List ℕ)
+    → i < length bytes
+    → at + i < length old
+    → Wrote at (take i bytes) old now (at + i)
+    → Wrote at (take (i + 1) bytes) old (set now (at + i) (getD bytes i 0)) (at + (i + 1))
 wrote-next at i bytes old now h k u =
     let size = u .size in
     let one = wrote-byte (at + i) (getD bytes i 0) now (omega arith) in

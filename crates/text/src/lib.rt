@@ -6,6 +6,7 @@ ghost use lib.ListN.{length};
 ghost use Rattle.text.specs.Put.{Wrote};
 ghost use Rattle.text.specs.Characters.{decimal, hexDigit, subsetText};
 
+// One byte.
 pub fn write_byte(text: &mut [u8], at: usize, b: u8) -> usize
     requires { ⌜ at + 1 ≤ length (now text) ⌝ }
     ensures { λ r. ⌜ Wrote at (b ∷ []) (now (text .entry)) (now (text .exit)) r ⌝ }
@@ -14,6 +15,7 @@ pub fn write_byte(text: &mut [u8], at: usize, b: u8) -> usize
     at + 1
 }
 
+// These bytes.
 pub fn write_bytes(text: &mut [u8], at: usize, bytes: &[u8]) -> usize
     requires { ⌜ at + length (now bytes) ≤ length (now text) ⌝ }
     ensures { λ r. ⌜ Wrote at (now (bytes .entry)) (now (text .entry)) (now (text .exit)) r ⌝ }
@@ -26,7 +28,7 @@ pub fn write_bytes(text: &mut [u8], at: usize, bytes: &[u8]) -> usize
     at + i
 }
 
-// A number below 100, "decimal without leading zeros".
+// A number below 100, without leading zeros (FORMAT 7.16).
 pub fn write_decimal(text: &mut [u8], at: usize, n: u8) -> usize
     requires { ⌜ (n < 100) × (at + 2 ≤ length (now text)) ⌝ }
     ensures { λ r. ⌜ Wrote at (decimal n) (now (text .entry)) (now (text .exit)) r ⌝ }
@@ -39,6 +41,7 @@ pub fn write_decimal(text: &mut [u8], at: usize, n: u8) -> usize
     write_byte(text, next, 48 + n % 10)
 }
 
+// A hexadecimal digit, with small letters.
 fn hex_digit(d: u8) -> u8
     requires { ⌜ d < 16 ⌝ }
     ensures { λ r. ⌜ r ≡ hexDigit d ⌝ }
@@ -49,7 +52,7 @@ fn hex_digit(d: u8) -> u8
     87 + d
 }
 
-// A subset: "two hexadecimal digits .. after one space".
+// A subset: a space and two hexadecimal digits (FORMAT 7.16).
 pub fn write_subset(text: &mut [u8], at: usize, s: u8) -> usize
     requires { ⌜ at + 3 ≤ length (now text) ⌝ }
     ensures { λ r. ⌜ Wrote at (subsetText s) (now (text .entry)) (now (text .exit)) r ⌝ }

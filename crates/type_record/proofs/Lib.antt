@@ -1,1 +1,1 @@
-mod Resume
+mod ListResumed

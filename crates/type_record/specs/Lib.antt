@@ -1,5 +1,6 @@
 pub mod Lists
 pub mod ListLaws
+pub mod ListBytes
 pub mod Record
 pub mod RecordBytes
 pub mod RecordReading

@@ -44,6 +44,7 @@ module _ (bytes : List ℕ) where
 
   -- ---- attributes that are read rise and lie within the bytes
 
+  -- so many attributes from number i on are there and rise
   record ReadFrom (left i previous n : ℕ) : Type 0 where
     end : n ≡ i + left
     fits : (i + left) * 2 + 1 ≤ length bytes
@@ -143,6 +144,7 @@ module _ (bytes : List ℕ) where
 
 -- ---- a list is refused by 14, 15 or 16
 
+-- a list, or a refusal of at most 16
 abbrev Early : ListReading → Type 0
 Early (Listed n) = Unit {0}
 Early (Refused r) = numberOf r ≤ 16

@@ -1,4 +1,4 @@
-// A list of ordinary attributes: "a count byte (1 to 255) and that many ordinary attributes follow, two bytes each, low first, rising".
+// A list of ordinary attributes (FORMAT 4.3, 8.4).
 ghost use mathlib.Core.Path.{_≡_};
 ghost use Prim.Native.Nat.{min};
 ghost use Rattle.type_record.specs.Lists.{readList};

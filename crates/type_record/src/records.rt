@@ -1,4 +1,4 @@
-// A type record: "a bit map of two bytes, low first: bit i for special attribute i; if bit 0 stands", a list of ordinary attributes.
+// A type record (FORMAT 4.1, 8.4).
 ghost use mathlib.Core.Path.{_≡_};
 ghost use Prim.Native.Nat.{_≤_};
 ghost use Rattle.type_record.specs.Record.{readRecord, recordSize};
@@ -12,7 +12,7 @@ pub enum RecordReading {
     Refused(Refusal),
 }
 
-// The record at the front of the bytes.
+// The record at the front of the bytes (FORMAT 8.4).
 pub fn read_record(bytes: &[u8]) -> RecordReading
     ensures { λ r. ⌜ r ≡ readRecord (now (bytes .entry)) ⌝ }
 {
@@ -29,7 +29,7 @@ pub fn read_record(bytes: &[u8]) -> RecordReading
     }
 }
 
-// The bytes of a record with so many ordinary attributes.
+// The bytes of a record with so many ordinary attributes (FORMAT 4.5).
 pub fn record_size(count: usize) -> usize
     requires { ⌜ count ≤ 255 ⌝ }
     ensures { λ r. ⌜ r ≡ recordSize count ⌝ }

@@ -1,9 +1,9 @@
-// Writing a type record.
+// Writing a type record (FORMAT 4.1).
 ghost use mathlib.Core.Path.{_≡_};
 ghost use Prim.Native.Nat.{_%_, _≤_};
 ghost use lib.ListN.{length};
 ghost use Rattle.bits.specs.Tab.{over};
-ghost use Rattle.type_record.specs.Record.{recordSize, recordBytes};
+ghost use Rattle.type_record.specs.Record.{recordSize, recordBytes, outputSize};
 ghost use Rattle.type_record.specs.WritingLaws.{Ordinaries};
 use crate::records::record_size;
 
@@ -11,7 +11,7 @@ use crate::records::record_size;
 pub fn write_record(out: &mut [u8], special: u16, listed: &[u32]) -> usize
     requires { ⌜ special % 2 ≡ 0 ⌝ }
     requires { ⌜ (length (now listed) ≤ 255) × Ordinaries (now listed) ⌝ }
-    requires { ⌜ 513 ≤ length (now out) ⌝ }
+    requires { ⌜ outputSize ≤ length (now out) ⌝ }
     ensures { λ r. ⌜ r ≡ recordSize (length (now (listed .entry))) ⌝ }
     ensures { λ _. ⌜ now (out .exit) ≡ over (recordBytes special (now (listed .entry))) (now (out .entry)) ⌝ }
 {

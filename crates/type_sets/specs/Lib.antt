@@ -1,5 +1,3 @@
 pub mod Sets
 pub mod SetLaws
 pub mod SetCells
-pub mod Columns
-pub mod Filling

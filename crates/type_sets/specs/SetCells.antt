@@ -26,8 +26,7 @@ use Rattle.node.specs.declared.nodes.SetOp.the-variants.{Selection, Projection}
 use Rattle.node.specs.declared.nodes.Node.{Node}
 use Rattle.node.specs.declared.nodes.Node.the-variants.{Relation, Binary, WithSet, Renaming, ProjectingOut}
 use Rattle.node.specs.Legal.{LegalNode}
-use Rattle.formula.specs.Expressions.{operatorOf, named, ofNode}
-use Rattle.formula.specs.StepCells.{named-is}
+use Rattle.node_expression.specs.NodeExpression.{operatorOf, named, ofNode, named-is}
 use Rattle.type_sets.specs.Sets.{placeColumn, okAt, outAt, placeBit, TypeIn, wordsAt, breaking, comingOut, lacking, without, renamingBreaks, renamed, entriesHeld, relationWord, Laid, Breaks, SetLaid, RenamingLaid, OutLaid, NodeSets}
 use Rattle.type_sets.specs.SetLaws.{one-table, or-clear, or-none}
 
@@ -148,7 +147,11 @@ module _ (special entries : List ℕ) (width : ℕ) (wide : 2 ≤ width) where
 
   -- one operand
   module _ {e g : Expression} {broken given : ℕ → Bool → Bool} (step : Step special entries e g broken given) (x y : ℕ → ℕ) (t : TypeIn e special entries width x) where
-    unary-type : (y 0 ≡ 0 → (x 0 ≡ 0) × Passes broken width x) → (x 0 ≡ 0 → Passes broken width x → y 0 ≡ 0) → ((j : ℕ) → j < (width - 1) * 64 → broken j (placeBit x j) ≡ false → placeBit y j ≡ given j (placeBit x j)) → TypeIn g special entries width y
+    unary-type :
+        (y 0 ≡ 0 → (x 0 ≡ 0) × Passes broken width x)
+        → (x 0 ≡ 0 → Passes broken width x → y 0 ≡ 0)
+        → ((j : ℕ) → j < (width - 1) * 64 → broken j (placeBit x j) ≡ false → placeBit y j ≡ given j (placeBit x j))
+        → TypeIn g special entries width y
     unary-type clear kept gives =
         record {
           typed = λ z j h. step .isOk j ∙ rw (t .typed (clear z .0) j h) (ap not (sym (ap (broken j) (t .output (clear z .0) j h)) ∙ clear z .1 j h));
@@ -158,7 +161,13 @@ module _ (special entries : List ℕ) (width : ℕ) (wide : 2 ≤ width) where
         }
 
     -- where only word 1 can break the rule
-    front-type : (b : ℕ) → y 0 ≡ bitOr (x 0) b → Front broken b (x 1) → Gives broken given (y 1) (x 1) → ((j : ℕ) → 64 ≤ j → j < (width - 1) * 64 → placeBit y j ≡ given j (placeBit x j)) → TypeIn g special entries width y
+    front-type :
+        (b : ℕ)
+        → y 0 ≡ bitOr (x 0) b
+        → Front broken b (x 1)
+        → Gives broken given (y 1) (x 1)
+        → ((j : ℕ) → 64 ≤ j → j < (width - 1) * 64 → placeBit y j ≡ given j (placeBit x j))
+        → TypeIn g special entries width y
     front-type b is front gives rest = unary-type clear kept (λ j h free. go j h free (decLt j 64))
       where
         passes : b ≡ 0 → (j : ℕ) → Dec (j < 64) → broken j (placeBit x j) ≡ false
@@ -176,14 +185,26 @@ module _ (special entries : List ℕ) (width : ℕ) (wide : 2 ≤ width) where
         go j h free (no more) = rest j (omega arith) h
 
   -- two operands
-  binary-type : (op : BinaryOp) (e f : Expression) (x y z : ℕ → ℕ) → ((v : ℕ) → x v < 2 ^ 64) → ((v : ℕ) → y v < 2 ^ 64) → TypeIn e special entries width x → TypeIn f special entries width y → Breaks op x y width (z 0) → ((v : ℕ) → 1 ≤ v → v < width → z v ≡ comingOut op (x v) (y v)) → TypeIn (binary (operatorOf op) e f) special entries width z
+  binary-type :
+      (op : BinaryOp) (e f : Expression) (x y z : ℕ → ℕ)
+      → ((v : ℕ) → x v < 2 ^ 64)
+      → ((v : ℕ) → y v < 2 ^ 64)
+      → TypeIn e special entries width x
+      → TypeIn f special entries width y
+      → Breaks op x y width (z 0)
+      → ((v : ℕ) → 1 ≤ v → v < width → z v ≡ comingOut op (x v) (y v))
+      → TypeIn (binary (operatorOf op) e f) special entries width z
   binary-type op e f x y z hx hy t u rule words =
       record {
         typed = λ n j h.
             let clear = rule .clear n in
             let left = t .output (clear .0) j h in
             let right = u .output (clear .1) j h in
-            rw (t .typed (clear .0) j h, u .typed (clear .1) j h, ← left, ← right) (ap not (sym (breaking-bit op (x (1 + j / 64)) (y (1 + j / 64)) (j % 64)) ∙ ap (λ (w : ℕ). bit w (j % 64)) (clear .2 (1 + j / 64) (omega arith) (omega arith)) ∙ bit-none (j % 64)));
+            rw (t .typed (clear .0) j h, u .typed (clear .1) j h, ← left, ← right)
+            (ap not
+            (sym (breaking-bit op (x (1 + j / 64)) (y (1 + j / 64)) (j % 64))
+            ∙ ap (λ (w : ℕ). bit w (j % 64)) (clear .2 (1 + j / 64) (omega arith) (omega arith))
+            ∙ bit-none (j % 64)));
         untyped = untyped;
         output = λ n j h.
             let clear = rule .clear n in
@@ -244,6 +265,7 @@ relation-below items count r v =
     omega arith
 
 module _ (special items : List ℕ) (count width : ℕ) (wide : 2 ≤ width) where
+  -- the entries of the table
   abbrev entries : List ℕ
   entries = take count items
 
@@ -264,11 +286,19 @@ module _ (special items : List ℕ) (count width : ℕ) (wide : 2 ≤ width) whe
           ∙ rw (place, le-ltb j 64 (omega arith))
 
   module _ (e : Expression) (from at : ℕ) (old sets : List ℕ) (words : Words old) (t : TypeIn e special entries width (wordsAt old from)) where
+    -- the operand's special attributes
     abbrev x : ℕ
     x = getD old (from + 1) 0
 
     -- one operand, whose words are laid down
-    laid-type : {g : Expression} {broken given : ℕ → Bool → Bool} {b y : ℕ} {entry : ℕ → ℕ} → Step special entries e g broken given → Front broken b x → Gives broken given y x → ((j : ℕ) → 64 ≤ j → bit (entry (1 + j / 64)) (j % 64) ≡ given j (placeBit (wordsAt old from) j)) → Laid (bitOr (getD old from 0) b) y entry at width old sets → TypeIn g special entries width (wordsAt sets at)
+    laid-type :
+        {g : Expression} {broken given : ℕ → Bool → Bool} {b y : ℕ} {entry : ℕ → ℕ}
+        → Step special entries e g broken given
+        → Front broken b x
+        → Gives broken given y x
+        → ((j : ℕ) → 64 ≤ j → bit (entry (1 + j / 64)) (j % 64) ≡ given j (placeBit (wordsAt old from) j))
+        → Laid (bitOr (getD old from 0) b) y entry at width old sets
+        → TypeIn g special entries width (wordsAt sets at)
     laid-type {b = b} step front gives rest laid =
         front-type special entries width wide step (wordsAt old from) (wordsAt sets at) t b
         (rw (add-zero at, add-zero from) (laid .first))
@@ -355,7 +385,14 @@ module _ (special items : List ℕ) (count width : ℕ) (wide : 2 ≤ width) whe
 
   -- ---- any node
 
-  pub node-type : (m k : ℕ) (node : Node) (e : ℕ → Expression) (old sets : List ℕ) → count ≤ length items → LegalNode m k node → Words old → ((l : ℕ) → l < k → TypeIn (e l) special entries width (wordsAt old (l * width))) → NodeSets special items count width k old sets node → TypeIn (ofNode node e) special entries width (wordsAt sets (k * width))
+  pub node-type :
+      (m k : ℕ) (node : Node) (e : ℕ → Expression) (old sets : List ℕ)
+      → count ≤ length items
+      → LegalNode m k node
+      → Words old
+      → ((l : ℕ) → l < k → TypeIn (e l) special entries width (wordsAt old (l * width)))
+      → NodeSets special items count width k old sets node
+      → TypeIn (ofNode node e) special entries width (wordsAt sets (k * width))
   node-type m k (Relation r) e old sets fits legal words earlier laid = relation-type r (k * width) old sets fits laid
   node-type m k (Binary op l r) e old sets fits legal words earlier made =
       binary-type special entries width wide op (e l) (e r) (wordsAt old (l * width)) (wordsAt old (r * width)) (wordsAt sets (k * width))

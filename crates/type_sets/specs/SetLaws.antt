@@ -68,7 +68,15 @@ last-or-before v n h = eq-or-lt-of-le (most v n h)
     most v n h = omega arith
 
 -- the words `from` to `to` of a function stand from place `at` on, and one more is written
-next-words : (f : ℕ → ℕ) (at from to x : ℕ) (sets : List ℕ) → at + to < length sets → x ≡ f to → ((v : ℕ) → from ≤ v → v < to → getD sets (at + v) 0 ≡ f v) → (v : ℕ) → from ≤ v → v < to + 1 → getD (set sets (at + to) x) (at + v) 0 ≡ f v
+next-words :
+    (f : ℕ → ℕ) (at from to x : ℕ) (sets : List ℕ)
+    → at + to < length sets
+    → x ≡ f to
+    → ((v : ℕ) → from ≤ v → v < to → getD sets (at + v) 0 ≡ f v)
+    → (v : ℕ)
+    → from ≤ v
+    → v < to + 1
+    → getD (set sets (at + to) x) (at + v) 0 ≡ f v
 next-words f at from to x sets inside e words v some h = go (last-or-before v to h)
   where
     go : (v ≡ to) ⊎ (v < to) → getD (set sets (at + to) x) (at + v) 0 ≡ f v
@@ -121,7 +129,16 @@ module _ {op : BinaryOp} {left right at : ℕ} {old : List ℕ} where
         };
       }
 
-  pub combining-next : (v : ℕ) (sets : List ℕ) (broken breaks given : ℕ) → 1 ≤ v → left + v < at → right + v < at → at + v < length sets → breaks ≡ breaking op (getD sets (left + v) 0) (getD sets (right + v) 0) → given ≡ comingOut op (getD sets (left + v) 0) (getD sets (right + v) 0) → Combining op left right at v old sets broken → Combining op left right at (v + 1) old (set sets (at + v) given) (bitOr broken breaks)
+  pub combining-next :
+      (v : ℕ) (sets : List ℕ) (broken breaks given : ℕ)
+      → 1 ≤ v
+      → left + v < at
+      → right + v < at
+      → at + v < length sets
+      → breaks ≡ breaking op (getD sets (left + v) 0) (getD sets (right + v) 0)
+      → given ≡ comingOut op (getD sets (left + v) 0) (getD sets (right + v) 0)
+      → Combining op left right at v old sets broken
+      → Combining op left right at (v + 1) old (set sets (at + v) given) (bitOr broken breaks)
   combining-next v sets broken breaks given some l r inside breaks-is given-is so =
       record {
         size = length-set sets (at + v) given ∙ so .size;

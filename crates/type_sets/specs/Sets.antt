@@ -1,4 +1,6 @@
--- Sets: the type of a node over a membership table, in words of 64 bits. Word 0 is what breaks a rule, 0 exactly where the node is typed; word 1 is the special attributes of the output, bit i for attribute i; word 2 + v is its entries 64 v to 64 v + 63. Node k's words stand from place k * width on.
+-- Sets: the type of a node over a membership table, in words of 64 bits. Word 0 is what breaks a rule, 0 exactly where
+-- the node is typed; word 1 is the special attributes of the output, bit i for attribute i; word 2 + v is its entries
+-- 64 v to 64 v + 63. Node k's words stand from place k * width on.
 use Prim.Native.Nat.{ℕ, _+_, _-_, _*_, _/_, _%_, _^_, _≤_, _<_, min}
 use mathlib.Core.Path.{_≡_}
 use mathlib.Core.Bool.{Bool, true, cond}
@@ -24,6 +26,7 @@ widthOf count = 2 + (count + 63) / 64
 
 -- ---- which attributes: place j of a type is special attribute j below 64, and entry j - 64 from there on
 
+-- the column of the attribute at place j
 abbrev pub placeColumn : ℕ → ℕ
 placeColumn j = cond (ltb j 16) j 0
 
@@ -57,13 +60,14 @@ wordsAt sets at v = getD sets (at + v) 0
 
 -- ---- each operator on words: what breaks its rule, and what comes out
 
--- two operands
+-- the attributes of a word that break the operator's rule (FORMAT 2.7 to 2.10)
 unfoldable pub breaking : BinaryOp → ℕ → ℕ → ℕ
 breaking Union x y = bitXor x y
 breaking Difference x y = bitXor x y
 breaking Join x y = 0
 breaking Product x y = bitAnd x y
 
+-- the attributes of a word that the result has
 unfoldable pub comingOut : BinaryOp → ℕ → ℕ → ℕ
 comingOut Union x y = x
 comingOut Difference x y = x
@@ -78,10 +82,12 @@ lacking x s = bitXor (bitOr x s) x
 unfoldable pub without : ℕ → ℕ → ℕ
 without x s = bitXor (bitOr x s) s
 
--- the special attributes under a renaming, where o is the old attribute's bit and n the new one's
+-- FORMAT 2.13: what breaks a renaming among the special attributes, where o is the old
+-- attribute's bit and n the new one's
 unfoldable pub renamingBreaks : ℕ → ℕ → ℕ → ℕ
 renamingBreaks x o n = bitOr (lacking x o) (bitAnd x n)
 
+-- and what comes out
 unfoldable pub renamed : ℕ → ℕ → ℕ → ℕ
 renamed x o n = bitOr (without x o) n
 

@@ -21,6 +21,7 @@ special-ordinary a h k = omega (arith, special-bounds a h, leb→le 16 a k)
 pub zero-other : T (special 0) → ⊥
 zero-other h = omega (arith, special-bounds 0 h)
 
+-- an attribute is special or ordinary, or the number is 0
 pub data Kind (a : ℕ) : Type 0 where
   isSpecial : T (special a) → Kind a
   isOrdinary : T (ordinary a) → Kind a

@@ -5,9 +5,9 @@ use std::rc::Rc;
 use crate::examples::{
     all_nodes_with_set, cases, e1, e10, longest_accepted, node_numbers, pairs_of_the_node_before,
 };
-use crate::generators::{join_input, join_of_64_nodes};
+use crate::extreme_inputs::{join_input, join_of_64_nodes};
 use crate::input::Input;
-use crate::random::Random;
+use crate::pseudorandom::Random;
 use crate::reference::{encode_node, File, LEGAL_MAPS};
 
 /// Files that are made once.

@@ -1,10 +1,11 @@
 //! Instantiations.
 
 use super::files::{damage, length};
-use crate::generators::{extreme_assignments, MOST_IN_DISTURBED};
+use crate::extreme_inputs::extreme_assignments;
 use crate::input::Input;
 use crate::instantiation_examples::with_faults;
-use crate::random::Random;
+use crate::pseudorandom::Random;
+use crate::random_instantiations::MOST_IN_DISTURBED;
 use crate::reference::{encode_instantiation, type_variables, Instantiation};
 
 /// An instantiation of the node's formula; of a refused file an empty one.

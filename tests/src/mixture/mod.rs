@@ -9,18 +9,18 @@ use std::rc::Rc;
 
 use self::files::Files;
 use crate::answer::{Answer, Operation, OPERATIONS};
-use crate::comparison::{Comparison, Difference};
-use crate::generators::{least_for_apply, least_for_recover};
 use crate::input::Input;
-use crate::random::Random;
+use crate::paired_calls::{Difference, PairedCalls};
+use crate::pseudorandom::Random;
 use crate::reference::{read_file, OUTPUT_LENGTH, SCHEMA_LENGTH};
+use crate::slice_lengths::{least_for_apply, least_for_recover};
 
 /// The seed of what fills lent slices.
 const NOISE_SEED: u64 = 110;
 
 /// Compares inputs of all operations.
 pub struct Mixture {
-    comparison: Comparison,
+    calls: PairedCalls,
     files: Files,
     /// How many accepted files of m 8 and n 64 had their formulas inferred or were typed.
     pub greatest: u64,
@@ -60,7 +60,7 @@ fn asked_node(random: &mut Random, input: &Input, likely: usize) -> usize {
 impl Mixture {
     pub fn new() -> Self {
         Mixture {
-            comparison: Comparison::new(NOISE_SEED),
+            calls: PairedCalls::new(NOISE_SEED),
             files: Files::new(),
             greatest: 0,
         }
@@ -70,7 +70,7 @@ impl Mixture {
     /// answer, or what differs.
     pub fn compare(&mut self, seed: u64, number: u64) -> Result<u8, Difference> {
         let mut random = Random::of_input(seed, number);
-        *self.comparison.random() = Random::new(random.word());
+        *self.calls.random() = Random::new(random.word());
         match operation_of(number) {
             Operation::Accept => self.accept(&mut random),
             Operation::Record => self.record(&mut random),
@@ -91,26 +91,26 @@ impl Mixture {
 
     fn accept(&mut self, random: &mut Random) -> Result<u8, Difference> {
         let file = self.files.bytes(random);
-        number(self.comparison.accept(&file))
+        number(self.calls.accept(&file))
     }
 
     fn record(&mut self, random: &mut Random) -> Result<u8, Difference> {
         let file = self.files.bytes(random);
         let expected = read_file(&file);
         let node = files::any_node(random, &file, expected.as_ref().ok());
-        self.comparison.record(&file, &expected, node)
+        self.calls.record(&file, &expected, node)
     }
 
     fn read_node(&mut self, random: &mut Random) -> Result<u8, Difference> {
         let (relations, number, bytes) = files::node(random);
-        self.comparison.read_node(relations, number, &bytes)
+        self.calls.read_node(relations, number, &bytes)
     }
 
     fn formula(&mut self, random: &mut Random) -> Result<u8, Difference> {
         let input = self.files.input(random);
         self.count_greatest(&input);
         let [length] = lengths(random, [input.work_length()]);
-        self.comparison.formula(&input, length)
+        self.calls.formula(&input, length)
     }
 
     fn verdict(&mut self, random: &mut Random) -> Result<u8, Difference> {
@@ -118,7 +118,7 @@ impl Mixture {
         self.count_greatest(&input);
         let node = files::any_node_of(random, &input);
         let lengths = lengths(random, [input.work_length(), SCHEMA_LENGTH]);
-        number(self.comparison.verdict(&input, node, lengths))
+        number(self.calls.verdict(&input, node, lengths))
     }
 
     /// A file with one of its nodes and a schema that is often near a typed one.
@@ -134,7 +134,7 @@ impl Mixture {
     fn typing(&mut self, random: &mut Random) -> Result<u8, Difference> {
         let (input, node, schema) = self.with_schema(random);
         let [length] = lengths(random, [OUTPUT_LENGTH]);
-        number(self.comparison.typing(&input.bytes, node, &schema, length))
+        number(self.calls.typing(&input.bytes, node, &schema, length))
     }
 
     /// A file with one of its nodes and an instantiation that is often near one of the
@@ -151,13 +151,13 @@ impl Mixture {
     fn apply(&mut self, random: &mut Random) -> Result<u8, Difference> {
         let (input, node, bytes) = self.with_instantiation(random);
         let lengths = lengths(random, least_for_apply(&input));
-        number(self.comparison.apply(&input, node, &bytes, lengths))
+        number(self.calls.apply(&input, node, &bytes, lengths))
     }
 
     fn recover(&mut self, random: &mut Random) -> Result<u8, Difference> {
         let (input, node, schema) = self.with_schema(random);
         let lengths = lengths(random, least_for_recover(&input));
-        number(self.comparison.recover(&input, node, &schema, lengths))
+        number(self.calls.recover(&input, node, &schema, lengths))
     }
 }
 

@@ -1,9 +1,10 @@
 //! Schemas.
 
 use super::files::{damage, length};
-use crate::generators::{extreme_assignments, MOST_IN_DISTURBED};
+use crate::extreme_inputs::extreme_assignments;
 use crate::input::Input;
-use crate::random::Random;
+use crate::pseudorandom::Random;
+use crate::random_instantiations::MOST_IN_DISTURBED;
 use crate::reference::{encode_schema, type_variables, Type};
 
 /// The image of an instantiation of the node's formula; of a refused file some sets.

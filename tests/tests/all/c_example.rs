@@ -9,7 +9,7 @@ use type_formula::{c, Refusal};
 use type_formula_tests::formula_examples::formula_examples;
 
 const HEADER: &str = include_str!("../../../include/type_formula.h");
-const C: [&str; 2] = ["gcc", "-std=c11"];
+const C: [&str; 2] = ["gcc", "-std=c99"];
 const CPP: [&str; 2] = ["g++", "-std=c++11"];
 const WARNINGS: [&str; 4] = ["-Wall", "-Wextra", "-Wpedantic", "-Werror"];
 
@@ -33,7 +33,7 @@ fn compile(compiler: [&str; 2], source: &Path, name: &str) -> PathBuf {
         .arg("-I")
         .arg(repository("include"))
         .arg(source)
-        .arg(Path::new(env!("TYPE_FORMULA_ARCHIVE_DIRECTORY")).join("libexports.a"))
+        .arg(Path::new(env!("TYPE_FORMULA_ARCHIVE_DIRECTORY")).join("libtype_formula.a"))
         .arg("-o")
         .arg(&program)
         .output()
@@ -87,9 +87,14 @@ fn the_example_prints_untypable_and_refusals() {
     let mut bytes = e5.expect("an example").bytes();
     assert_eq!(print(&bytes, 0), "node 2 untypable, attribute 1\n");
     bytes.push(0);
-    assert_eq!(print(&bytes, 1), "file refused 10\n");
-    assert_eq!(print(&[8; 1_000], 1), "file refused 5\n");
-    assert_eq!(print(&[], 1), "file refused 1\n");
+    for (file, refusal) in [
+        (&bytes[..], Refusal::NodesFollowed),
+        (&[8; 1_000], Refusal::NodeMap),
+        (&[], Refusal::HeaderTruncated),
+    ] {
+        let wanted = format!("file refused {}: {refusal}\n", refusal.number());
+        assert_eq!(print(file, 1), wanted);
+    }
     assert_eq!(text(run(&program, &[Path::new("no such file")]), 2), "");
 }
 
@@ -120,9 +125,31 @@ fn constants_of_crate() -> Vec<(String, usize)> {
         ("UNTYPABLE", usize::from(c::UNTYPABLE)),
     ];
     let sizes = sizes.map(|(name, value)| (format!("TYPE_FORMULA_{name}"), value));
-    let refusals = (0..=u8::MAX).filter_map(Refusal::from_number);
-    let refusals = refusals.map(|refusal| (name_in_c(refusal), usize::from(refusal.number())));
-    sizes.into_iter().chain(refusals).collect()
+    let refusals = refusals().map(|refusal| (name_in_c(refusal), usize::from(refusal.number())));
+    let constants = sizes.into_iter().chain(versions());
+    constants.chain(refusals).collect()
+}
+
+/// All refusals.
+fn refusals() -> impl Iterator<Item = Refusal> {
+    (0..=u8::MAX).filter_map(|number| Refusal::try_from(number).ok())
+}
+
+/// The version of the crate, by the names of the header.
+fn versions() -> [(String, usize); 4] {
+    let parts = type_formula::VERSION.split('.');
+    let parts: Vec<usize> = parts.map(|part| part.parse().expect("a number")).collect();
+    let [major, minor, patch] = parts[..] else {
+        panic!("version {}", type_formula::VERSION);
+    };
+    let whole = 10_000 * major + 100 * minor + patch;
+    let parts = [
+        ("", whole),
+        ("_MAJOR", major),
+        ("_MINOR", minor),
+        ("_PATCH", patch),
+    ];
+    parts.map(|(part, value)| (format!("TYPE_FORMULA_VERSION{part}"), value))
 }
 
 /// The names of the constants of the header: all names in capitals but that of its guard.
@@ -148,8 +175,32 @@ fn the_header_has_the_constants_of_the_crate() {
     let wanted: BTreeSet<String> = wanted
         .map(|(name, value)| format!("{name} {value}"))
         .collect();
-    assert_eq!(wanted.len(), 31);
+    assert_eq!(wanted.len(), 35);
     assert_eq!(given, wanted);
+}
+
+/// Prints the text of each number that an answer can have.
+const TEXTS: &str = "\
+#include <stdio.h>
+#include \"type_formula.h\"
+
+int main(void)
+{
+    int number;
+    for (number = 0; number < 256; number++)
+        printf(\"%d %s\\n\", number, type_formula_refusal_text(number));
+    return 0;
+}
+";
+
+#[test]
+fn the_header_has_the_texts_of_the_crate() {
+    let printed = text(run(&compile_text(C, TEXTS, "texts.c"), &[]), 0);
+    let wanted = (0..=u8::MAX).map(|number| match Refusal::try_from(number) {
+        Ok(refusal) => format!("{number} {refusal}\n"),
+        Err(_) => format!("{number} no refusal\n"),
+    });
+    assert_eq!(printed, wanted.collect::<String>());
 }
 
 /// The header twice, and a call, so that the name is looked up as one of C.
@@ -159,8 +210,10 @@ const IN_CPP: &str = "\
 
 int main()
 {
+    const uint8_t file[1] = { 0 };
     size_t start = 1;
-    return static_cast<int>(type_formula_record(reinterpret_cast<const uint8_t *>(\"\"), 0, 0, &start) + start);
+    size_t length = type_formula_record(file, 0, 0, &start);
+    return static_cast<int>(length + start + (*type_formula_refusal_text(0) != 'n'));
 }
 ";
 

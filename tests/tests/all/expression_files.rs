@@ -2,13 +2,13 @@
 //! reading one node.
 
 use type_formula_tests::answer::Operation;
-use type_formula_tests::comparisons::Comparisons;
 use type_formula_tests::engine;
 use type_formula_tests::examples::{
     all_nodes_with_set, cases, e1, e10, longest_accepted, to_hexadecimal, Example, LONGEST_ACCEPTED,
 };
-use type_formula_tests::random::Random;
+use type_formula_tests::pseudorandom::Random;
 use type_formula_tests::reference::LEGAL_MAPS;
+use type_formula_tests::test_run::TestRun;
 
 /// The least number of comparisons of each test.
 const IN_CASES: u64 = 70_000;
@@ -38,9 +38,9 @@ const _: () = assert!(
 );
 const _: () = assert!(IN_RANDOM_NODES + IN_LEGAL_MAPS + IN_EVERY_MAP + IN_EVERY_FIELD >= 1_000_000);
 
-/// Comparisons with random numbers before each call.
-fn comparisons() -> Comparisons {
-    Comparisons::new(9)
+/// A run with random numbers before each call.
+fn test_run() -> TestRun {
+    TestRun::new(9)
 }
 
 /// Asserts an example's facts of the engine, without the reference.
@@ -76,66 +76,66 @@ fn e10_is_accepted_with_4_relations_9_nodes_and_its_records() {
 
 #[test]
 fn examples_and_edges_have_their_answers() {
-    let mut comparisons = comparisons();
+    let mut run = test_run();
     for case in cases() {
         let answer = engine::accept(&case.bytes, &mut 0, &mut 0);
         let bytes = to_hexadecimal(&case.bytes);
         assert_eq!(answer, case.answer, "{}: {bytes}", case.name);
         for length in 0..=case.bytes.len().min(400) {
-            comparisons.accept_and_record(&case.bytes[..length]);
+            run.accept_and_record(&case.bytes[..length]);
         }
-        comparisons.accept_and_record(&case.bytes);
+        run.accept_and_record(&case.bytes);
     }
-    comparisons.assert_given(Operation::Accept, 0..=10, 5);
-    comparisons.finish("examples and edges", IN_CASES);
+    run.assert_given(Operation::Accept, 0..=10, 5);
+    run.finish("examples and edges", IN_CASES);
 }
 
 #[test]
 fn random_accepted_files_of_every_m_and_n() {
     let mut random = Random::new(10);
-    let mut comparisons = comparisons();
+    let mut run = test_run();
     for relations in 1..=8 {
         for count in (1..=64).flat_map(|count| [count; 10]) {
             let bytes = random.accepted_file(relations, count);
-            let file = comparisons.accept(&bytes).expect("accepted");
+            let file = run.accept(&bytes).expect("accepted");
             assert_eq!(file.nodes.len(), usize::from(count));
-            comparisons.accept_and_record(&bytes);
+            run.accept_and_record(&bytes);
             for (number, part) in file.parts.iter().enumerate() {
-                comparisons.read_node(relations, number as u8, &bytes[part.start..]);
+                run.read_node(relations, number as u8, &bytes[part.start..]);
             }
         }
     }
-    comparisons.finish("accepted files", IN_ACCEPTED_FILES);
+    run.finish("accepted files", IN_ACCEPTED_FILES);
 }
 
 #[test]
 fn random_bytes_of_lengths_0_to_400() {
     let mut random = Random::new(11);
-    let mut comparisons = comparisons();
+    let mut run = test_run();
     for length in (0..=400).flat_map(|length| [length; 15]) {
-        comparisons.accept_and_record(&random.bytes(length));
-        comparisons.accept_and_record(&random.likely_bytes(length));
+        run.accept_and_record(&random.bytes(length));
+        run.accept_and_record(&random.likely_bytes(length));
     }
-    comparisons.assert_given(Operation::Accept, [1, 2, 3, 5], 30);
-    comparisons.finish("random bytes", IN_RANDOM_BYTES);
+    run.assert_given(Operation::Accept, [1, 2, 3, 5], 30);
+    run.finish("random bytes", IN_RANDOM_BYTES);
 }
 
 /// Random bytes after m and n, and random bytes after eight accepted nodes.
 #[test]
 fn random_bytes_after_a_valid_header_or_after_valid_nodes() {
     let mut random = Random::new(12);
-    let mut comparisons = comparisons();
+    let mut run = test_run();
     for length in (0..=400).flat_map(|length| [length; 15]) {
         let header = vec![random.between(1, 8), random.between(1, 64)];
-        comparisons.accept_and_record(&[header.clone(), random.bytes(length)].concat());
-        comparisons.accept_and_record(&[header, random.likely_bytes(length)].concat());
+        run.accept_and_record(&[header.clone(), random.bytes(length)].concat());
+        run.accept_and_record(&[header, random.likely_bytes(length)].concat());
         let mut bytes = random.accepted_file(8, 8);
         bytes[1] = random.between(8, 64);
         bytes.extend(random.likely_bytes(length));
-        comparisons.accept_and_record(&bytes);
+        run.accept_and_record(&bytes);
     }
-    comparisons.assert_given(Operation::Accept, 4..=10, 10);
-    comparisons.finish("bytes after a valid header", IN_BYTES_AFTER_HEADER);
+    run.assert_given(Operation::Accept, 4..=10, 10);
+    run.finish("bytes after a valid header", IN_BYTES_AFTER_HEADER);
 }
 
 /// The bytes beyond the prefix are those of the accepted file, so an engine that
@@ -145,37 +145,37 @@ fn every_prefix_of_accepted_files() {
     let mut random = Random::new(13);
     let mut files = vec![e1().bytes, e10().bytes, longest_accepted()];
     files.extend((0..60).map(|_| random.any_accepted_file()));
-    let mut comparisons = comparisons();
+    let mut run = test_run();
     for bytes in files {
         for length in 0..bytes.len() {
-            let answer = comparisons.accept_and_record(&bytes[..length]);
+            let answer = run.accept_and_record(&bytes[..length]);
             assert_eq!(answer, if length < 2 { 1 } else { 4 });
         }
-        assert_eq!(comparisons.accept_and_record(&bytes), 0);
+        assert_eq!(run.accept_and_record(&bytes), 0);
     }
-    comparisons.finish("prefixes", IN_PREFIXES);
+    run.finish("prefixes", IN_PREFIXES);
 }
 
 #[test]
 fn every_change_of_one_byte_of_e1_and_e10() {
-    let mut comparisons = comparisons();
+    let mut run = test_run();
     for bytes in [e1().bytes, e10().bytes] {
         for place in 0..bytes.len() {
             for value in (0..=255).filter(|&value| value != bytes[place]) {
                 let mut changed = bytes.clone();
                 changed[place] = value;
-                comparisons.accept_and_record(&changed);
+                run.accept_and_record(&changed);
             }
         }
     }
-    comparisons.assert_given(Operation::Accept, [0, 2, 3, 4, 5, 6, 7, 8, 9, 10], 5);
-    comparisons.finish("changes of one byte", IN_CHANGES);
+    run.assert_given(Operation::Accept, [0, 2, 3, 4, 5, 6, 7, 8, 9, 10], 5);
+    run.finish("changes of one byte", IN_CHANGES);
 }
 
 #[test]
 fn disturbed_accepted_files() {
     let mut random = Random::new(14);
-    let mut comparisons = comparisons();
+    let mut run = test_run();
     for round in 0..40_000 {
         let (relations, count) = match round % 2 {
             0 => (random.between(1, 8), random.between(1, 64)),
@@ -185,61 +185,55 @@ fn disturbed_accepted_files() {
         for _ in 0..random.between(1, 3) {
             random.disturb(&mut bytes);
         }
-        comparisons.accept_and_record(&bytes);
+        run.accept_and_record(&bytes);
     }
-    comparisons.assert_given(Operation::Accept, 0..=10, 100);
-    comparisons.finish("disturbed files", IN_DISTURBED_FILES);
+    run.assert_given(Operation::Accept, 0..=10, 100);
+    run.finish("disturbed files", IN_DISTURBED_FILES);
 }
 
 /// Files at the greatest accepted length and of lengths up to 323, accepted or not.
 #[test]
 fn files_at_and_above_the_greatest_accepted_length() {
     let mut random = Random::new(15);
-    let mut comparisons = comparisons();
+    let mut run = test_run();
     let longest = longest_accepted();
     assert_eq!(longest.len(), LONGEST_ACCEPTED);
-    assert_eq!(comparisons.accept_and_record(&longest), 0);
+    assert_eq!(run.accept_and_record(&longest), 0);
     for length in LONGEST_ACCEPTED + 1..=323 {
         for _ in 0..500 {
             let after = random.likely_bytes(length - LONGEST_ACCEPTED);
-            assert_eq!(
-                comparisons.accept_and_record(&[&longest[..], &after].concat()),
-                10
-            );
+            assert_eq!(run.accept_and_record(&[&longest[..], &after].concat()), 10);
             let mut disturbed = longest.clone();
             random.disturb(&mut disturbed);
             disturbed.resize(length, 0);
-            comparisons.accept_and_record(&disturbed);
+            run.accept_and_record(&disturbed);
         }
     }
     let full = all_nodes_with_set();
-    assert_eq!((full.len(), comparisons.accept_and_record(&full)), (322, 8));
+    assert_eq!((full.len(), run.accept_and_record(&full)), (322, 8));
     let longer = [&full[..], &[0]].concat();
-    assert_eq!(
-        (longer.len(), comparisons.accept_and_record(&longer)),
-        (323, 8)
-    );
-    comparisons.finish("long files", IN_LONG_FILES);
+    assert_eq!((longer.len(), run.accept_and_record(&longer)), (323, 8));
+    run.finish("long files", IN_LONG_FILES);
 }
 
 #[test]
 fn one_node_of_random_bytes() {
     let mut random = Random::new(16);
-    let mut comparisons = comparisons();
+    let mut run = test_run();
     for _ in 0..300_000 {
         let (relations, number) = (random.byte(), random.byte());
         let length = random.below(12);
-        comparisons.read_node(relations, number, &random.bytes(length));
-        comparisons.read_node(relations, number, &random.likely_bytes(length));
+        run.read_node(relations, number, &random.bytes(length));
+        run.read_node(relations, number, &random.likely_bytes(length));
     }
-    comparisons.assert_given(Operation::ReadNode, [0, 4, 5, 6, 7, 8, 9], 100);
-    comparisons.finish("one node of random bytes", IN_RANDOM_NODES);
+    run.assert_given(Operation::ReadNode, [0, 4, 5, 6, 7, 8, 9], 100);
+    run.finish("one node of random bytes", IN_RANDOM_NODES);
 }
 
 #[test]
 fn one_node_of_each_legal_map_with_random_fields() {
     let mut random = Random::new(17);
-    let mut comparisons = comparisons();
+    let mut run = test_run();
     for round in 0..100_000 {
         let (relations, number) = match round % 2 {
             0 => (random.byte(), random.byte()),
@@ -252,50 +246,50 @@ fn one_node_of_each_legal_map_with_random_fields() {
                 _ => 4 + random.below(5),
             };
             let bytes = [vec![map], random.likely_bytes(length)].concat();
-            comparisons.read_node(relations, number, &bytes);
+            run.read_node(relations, number, &bytes);
         }
     }
-    comparisons.assert_given(Operation::ReadNode, [0, 4, 6, 7, 8, 9], 1_000);
-    comparisons.finish("one node of each legal map", IN_LEGAL_MAPS);
+    run.assert_given(Operation::ReadNode, [0, 4, 6, 7, 8, 9], 1_000);
+    run.finish("one node of each legal map", IN_LEGAL_MAPS);
 }
 
 #[test]
 fn one_node_of_every_map_and_length() {
     let mut random = Random::new(18);
-    let mut comparisons = comparisons();
-    comparisons.read_node(8, 63, &[]);
+    let mut run = test_run();
+    run.read_node(8, 63, &[]);
     for map in 0..=255 {
         for length in 0..=8 {
             for _ in 0..20 {
                 let bytes = [vec![map], random.likely_bytes(length)].concat();
-                comparisons.read_node(random.byte(), random.byte(), &bytes);
+                run.read_node(random.byte(), random.byte(), &bytes);
             }
         }
     }
-    comparisons.finish("one node of every map", IN_EVERY_MAP);
+    run.finish("one node of every map", IN_EVERY_MAP);
 }
 
 /// Every pair of values of two bytes that a condition compares or that make up one
 /// field, the other fields being legal.
 #[test]
 fn one_node_with_every_value_of_each_field() {
-    let mut comparisons = comparisons();
+    let mut run = test_run();
     for first in 0..=255 {
         for second in 0..=255 {
-            comparisons.read_node(second, 1, &[1, first]);
-            comparisons.read_node(1, second, &[14, first, 0, 1]);
-            comparisons.read_node(1, second, &[14, 0, first, 4]);
-            comparisons.read_node(1, second, &[26, first, 5, 2, 0]);
-            comparisons.read_node(1, second, &[98, first, 1, 2]);
-            comparisons.read_node(1, second, &[34, first, 1]);
-            comparisons.read_node(1, 1, &[26, 0, 5, first, second]);
-            comparisons.read_node(1, 1, &[26, 0, 6, first, second]);
-            comparisons.read_node(1, 1, &[26, 0, first, second, 0]);
-            comparisons.read_node(1, 2, &[14, 0, second, first]);
-            comparisons.read_node(1, 1, &[98, 0, first, second]);
-            comparisons.read_node(1, 2, &[34, second, first]);
+            run.read_node(second, 1, &[1, first]);
+            run.read_node(1, second, &[14, first, 0, 1]);
+            run.read_node(1, second, &[14, 0, first, 4]);
+            run.read_node(1, second, &[26, first, 5, 2, 0]);
+            run.read_node(1, second, &[98, first, 1, 2]);
+            run.read_node(1, second, &[34, first, 1]);
+            run.read_node(1, 1, &[26, 0, 5, first, second]);
+            run.read_node(1, 1, &[26, 0, 6, first, second]);
+            run.read_node(1, 1, &[26, 0, first, second, 0]);
+            run.read_node(1, 2, &[14, 0, second, first]);
+            run.read_node(1, 1, &[98, 0, first, second]);
+            run.read_node(1, 2, &[34, second, first]);
         }
     }
-    comparisons.assert_given(Operation::ReadNode, [0, 6, 7, 8, 9], 1_000);
-    comparisons.finish("every value of each field", IN_EVERY_FIELD);
+    run.assert_given(Operation::ReadNode, [0, 6, 7, 8, 9], 1_000);
+    run.finish("every value of each field", IN_EVERY_FIELD);
 }

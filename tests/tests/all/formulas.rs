@@ -1,17 +1,15 @@
 //! The engine against the reference: Formula and Verdict.
 
-use std::time::{Duration, Instant};
-
 use type_formula_tests::answer::{Operation, NO_TYPE, RESULT};
-use type_formula_tests::comparisons::{Comparisons, FAR_TOO_LONG};
 use type_formula_tests::engine;
 use type_formula_tests::examples::{
     cases, e1, from_hexadecimal, longest_accepted, pairs_of_the_node_before, smallest_files,
     to_hexadecimal,
 };
 use type_formula_tests::formula_examples::{assert_e1_columns, formula_examples, FormulaExample};
-use type_formula_tests::random::Random;
+use type_formula_tests::pseudorandom::Random;
 use type_formula_tests::reference::{infer, FORMULA_LENGTH, SCHEMA_LENGTH};
+use type_formula_tests::test_run::{TestRun, FAR_TOO_LONG};
 
 /// The least number of comparisons of each test.
 const IN_EVERY_M_AND_N: u64 = 90_000;
@@ -34,15 +32,15 @@ const _: () = assert!(
         >= 200_000
 );
 
-/// Comparisons with random slices and values before each call.
-fn comparisons() -> Comparisons {
-    Comparisons::new(19)
+/// A run with random slices and values before each call.
+fn test_run() -> TestRun {
+    TestRun::new(19)
 }
 
 /// Asserts that Verdict said typable and untypable at least so often.
-fn assert_verdicts(comparisons: &Comparisons, typable: u64, untypable: u64) {
-    comparisons.assert_given(Operation::Verdict, [RESULT], typable);
-    comparisons.assert_given(Operation::Verdict, [NO_TYPE], untypable);
+fn assert_verdicts(run: &TestRun, typable: u64, untypable: u64) {
+    run.assert_given(Operation::Verdict, [RESULT], typable);
+    run.assert_given(Operation::Verdict, [NO_TYPE], untypable);
 }
 
 /// Asserts an example's facts of the engine, without the reference.
@@ -138,66 +136,66 @@ fn empty_slices_are_refused() {
 #[test]
 fn random_accepted_files_of_every_m_and_n() {
     let mut random = Random::new(20);
-    let mut comparisons = comparisons();
+    let mut run = test_run();
     for relations in 1..=8 {
         for count in 1..=64 {
-            comparisons.formula_and_verdict(&random.accepted_file(relations, count));
-            comparisons.formula_and_verdict(&random.mild_file(relations, count));
+            run.formula_and_verdict(&random.accepted_file(relations, count));
+            run.formula_and_verdict(&random.mild_file(relations, count));
         }
     }
-    comparisons.assert_answers([0, 11, 12, 13], 5_000);
-    assert_verdicts(&comparisons, 10_000, 10_000);
-    comparisons.finish("every m and n", IN_EVERY_M_AND_N);
+    run.assert_answers([0, 11, 12, 13], 5_000);
+    assert_verdicts(&run, 10_000, 10_000);
+    run.finish("every m and n", IN_EVERY_M_AND_N);
 }
 
 #[test]
 fn random_accepted_files_of_few_nodes() {
     let mut random = Random::new(21);
-    let mut comparisons = comparisons();
+    let mut run = test_run();
     for round in 0..4_000 {
         let (relations, count) = (random.between(1, 8), random.between(1, 12));
-        comparisons.formula_and_verdict(&match round % 2 {
+        run.formula_and_verdict(&match round % 2 {
             0 => random.accepted_file(relations, count),
             _ => random.mild_file(relations, count),
         });
     }
-    assert_verdicts(&comparisons, 10_000, 2_000);
-    comparisons.finish("few nodes", IN_SMALL_FILES);
+    assert_verdicts(&run, 10_000, 2_000);
+    run.finish("few nodes", IN_SMALL_FILES);
 }
 
 #[test]
 fn every_node_of_random_accepted_files() {
     let mut random = Random::new(25);
-    let mut comparisons = comparisons();
+    let mut run = test_run();
     for round in 0..12_000 {
         let (relations, count) = (random.between(1, 8), random.between(1, 16));
-        comparisons.verdict_of_every_node(&match round % 2 {
+        run.verdict_of_every_node(&match round % 2 {
             0 => random.accepted_file(relations, count),
             _ => random.mild_file(relations, count),
         });
     }
-    assert_verdicts(&comparisons, 50_000, 15_000);
-    comparisons.finish("every node", IN_EVERY_NODE);
+    assert_verdicts(&run, 50_000, 15_000);
+    run.finish("every node", IN_EVERY_NODE);
 }
 
 #[test]
 fn all_files_of_three_nodes_two_relations_and_two_attributes() {
-    let mut comparisons = comparisons();
+    let mut run = test_run();
     for bytes in smallest_files() {
-        comparisons.verdict_of_every_node(&bytes);
+        run.verdict_of_every_node(&bytes);
     }
-    assert_verdicts(&comparisons, 5_000, 500);
-    comparisons.finish("all smallest files", IN_ALL_SMALLEST_FILES);
+    assert_verdicts(&run, 5_000, 500);
+    run.finish("all smallest files", IN_ALL_SMALLEST_FILES);
 }
 
 #[test]
 fn examples_and_edges_with_every_length() {
-    let mut comparisons = comparisons();
+    let mut run = test_run();
     for case in cases() {
-        comparisons.formula_and_verdict_with_every_length(&case.bytes);
+        run.formula_and_verdict_with_every_length(&case.bytes);
     }
-    comparisons.assert_answers(0..=13, 100);
-    comparisons.finish("examples and edges", IN_CASES);
+    run.assert_answers(0..=13, 100);
+    run.finish("examples and edges", IN_CASES);
 }
 
 /// The bytes beyond the prefix are those of the accepted file.
@@ -206,30 +204,30 @@ fn every_prefix_of_accepted_files() {
     let mut random = Random::new(22);
     let mut files = vec![e1().bytes, longest_accepted()];
     files.extend((0..10).map(|_| random.any_accepted_file()));
-    let mut comparisons = comparisons();
+    let mut run = test_run();
     for bytes in files {
         for length in 0..=bytes.len() {
-            comparisons.formula_and_verdict(&bytes[..length]);
+            run.formula_and_verdict(&bytes[..length]);
         }
     }
-    comparisons.assert_answers([1, 4], 100);
-    comparisons.finish("prefixes", IN_PREFIXES);
+    run.assert_answers([1, 4], 100);
+    run.finish("prefixes", IN_PREFIXES);
 }
 
 #[test]
 fn disturbed_accepted_files() {
     let mut random = Random::new(23);
-    let mut comparisons = comparisons();
+    let mut run = test_run();
     for _ in 0..4_000 {
         let (relations, count) = (random.between(1, 8), random.between(1, 10));
         let mut bytes = random.mild_file(relations, count);
         for _ in 0..random.between(1, 3) {
             random.disturb(&mut bytes);
         }
-        comparisons.formula_and_verdict(&bytes);
+        run.formula_and_verdict(&bytes);
     }
-    comparisons.assert_answers(0..=13, 100);
-    comparisons.finish("disturbed files", IN_DISTURBED_FILES);
+    run.assert_answers(0..=13, 100);
+    run.finish("disturbed files", IN_DISTURBED_FILES);
 }
 
 /// The work space is not cleared between the files, so it holds the formulas of
@@ -265,21 +263,14 @@ fn one_work_space_for_many_files() {
 /// Each node is visited once: visits of operands for each use would be 2 to the 63
 /// here and would not end.
 #[test]
-fn sixty_three_pairs_of_the_node_before_end_quickly() {
-    let mut comparisons = comparisons();
+fn sixty_three_pairs_of_the_node_before_end() {
+    let mut run = test_run();
     let (mut work, mut schema) = (vec![0; 64 * FORMULA_LENGTH], vec![0; SCHEMA_LENGTH]);
-    let mut elapsed = Duration::ZERO;
     for bytes in pairs_of_the_node_before() {
-        comparisons.formula_and_verdict(&bytes);
-        let start = Instant::now();
-        for _ in 0..50 {
-            let mut value = 0;
-            assert_eq!(engine::formula(&bytes, &mut work), 0);
-            let answer = engine::verdict(&bytes, 63, &mut work, &mut schema, &mut value);
-            assert_eq!((answer, value), (0, 16));
-        }
-        elapsed += start.elapsed();
+        run.formula_and_verdict(&bytes);
+        let mut value = 0;
+        assert_eq!(engine::formula(&bytes, &mut work), 0);
+        let answer = engine::verdict(&bytes, 63, &mut work, &mut schema, &mut value);
+        assert_eq!((answer, value), (0, 16));
     }
-    println!("400 operations on 64 nodes: {elapsed:?}");
-    assert!(elapsed < Duration::from_secs(1), "{elapsed:?}");
 }

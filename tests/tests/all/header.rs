@@ -83,9 +83,10 @@ fn name_and_type(text: &str) -> (String, String) {
     (text[start..].to_string(), text[..start].trim().to_string())
 }
 
-/// The functions that a text in C declares.
+/// The functions that a text in C declares, before the one that the header defines.
 fn declared_in_c(text: &str) -> Vec<Function> {
     let text = without_comments(text);
+    let (text, _) = text.split_once("static inline").expect("a definition");
     let declaration = |line: &str| {
         let (start, parameters) = line.trim().split_once('(')?;
         let (name, result) = name_and_type(start.lines().last()?);
@@ -102,7 +103,7 @@ fn declared_in_c(text: &str) -> Vec<Function> {
 
 /// The functions that the engine's source exports, with the parameters' names for callers.
 fn exported() -> Vec<Function> {
-    let directory = Path::new(env!("CARGO_MANIFEST_DIR")).join("../crates/exports/src");
+    let directory = Path::new(env!("CARGO_MANIFEST_DIR")).join("../crates/type_formula/src");
     let files = fs::read_dir(directory).expect("the source of the exports");
     let mut functions: Vec<Function> = files
         .map(|file| fs::read_to_string(file.expect("a file").path()).expect("text"))

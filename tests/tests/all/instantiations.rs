@@ -1,11 +1,8 @@
 //! The engine against the reference: Apply and Recover, calls of known answers and slices
 //! of every length of interest.
 
-use std::time::{Duration, Instant};
-
 use type_formula_tests::alone::{self, assert_written};
 use type_formula_tests::answer::{Operation, NO_TYPE};
-use type_formula_tests::comparisons::Comparisons;
 use type_formula_tests::engine::{self, Lengths, UNTYPED};
 use type_formula_tests::examples::{
     e1, from_hexadecimal, join_of_eight, pairs_of_the_node_before, to_hexadecimal,
@@ -16,11 +13,12 @@ use type_formula_tests::instantiation_examples::{
     apply_cases, instances, recover_cases, with_faults, ApplyCase, RecoverCase, E2_INSTANTIATION,
     E3_INSTANTIATION,
 };
-use type_formula_tests::random::Random;
+use type_formula_tests::pseudorandom::Random;
 use type_formula_tests::reference::{
     encode_file, encode_instantiation, encode_schema, FORMULA_LENGTH, INSTANTIATION_LENGTH,
     OUTPUT_LENGTH, SCHEMA_LENGTH,
 };
+use type_formula_tests::test_run::TestRun;
 use type_formula_tests::typing_examples::{
     in_each_of_eight, spread_over_eight, E3_SCHEMA, E4_SCHEMA,
 };
@@ -29,9 +27,9 @@ use type_formula_tests::typing_examples::{
 const IN_CASES: u64 = 8_000;
 const IN_LENGTHS: u64 = 8_000;
 
-/// Comparisons with random slices and numbers before each call.
-fn comparisons() -> Comparisons {
-    Comparisons::new(90)
+/// A run with random slices and numbers before each call.
+fn test_run() -> TestRun {
+    TestRun::new(90)
 }
 
 /// Asserts a case's answer of the engine, without the reference.
@@ -113,24 +111,24 @@ fn the_witness_of_e1_and_e3_are_recovered_and_applied() {
 /// Instantiations of over 65,000 attributes are compared for one node only.
 #[test]
 fn examples_and_edges_have_their_answers() {
-    let mut comparisons = comparisons();
+    let mut run = test_run();
     for case in apply_cases() {
         assert_apply(&case);
         let input = Input::new(case.file);
-        comparisons.apply(&input, case.node, &case.instantiation, case.lengths);
+        run.apply(&input, case.node, &case.instantiation, case.lengths);
         if case.instantiation.len() < 100_000 {
-            comparisons.apply_for_numbers(&input, &case.instantiation);
+            run.apply_for_numbers(&input, &case.instantiation);
         }
     }
     for case in recover_cases() {
         assert_recover(&case);
         let input = Input::new(case.file);
-        comparisons.recover(&input, case.node, &case.schema, case.lengths);
-        comparisons.recover_for_numbers(&input, &case.schema);
+        run.recover(&input, case.node, &case.schema, case.lengths);
+        run.recover_for_numbers(&input, &case.schema);
     }
-    comparisons.assert_given(Operation::Apply, [0].into_iter().chain(10..=21), 5);
-    comparisons.assert_given(Operation::Recover, [0].into_iter().chain(10..=18), 5);
-    comparisons.finish("examples and edges", IN_CASES);
+    run.assert_given(Operation::Apply, [0].into_iter().chain(10..=21), 5);
+    run.assert_given(Operation::Recover, [0].into_iter().chain(10..=18), 5);
+    run.finish("examples and edges", IN_CASES);
 }
 
 /// Slices of no bytes whose pointers lead nowhere.
@@ -169,7 +167,7 @@ fn empty_slices_are_refused() {
 #[test]
 fn every_length_of_interest_of_each_slice() {
     let mut random = Random::new(91);
-    let mut comparisons = comparisons();
+    let mut run = test_run();
     let files = [
         e1().bytes,
         encode_file(8, &join_of_eight()),
@@ -188,21 +186,21 @@ fn every_length_of_interest_of_each_slice() {
         let last = usize::from(input.bytes[1]) - 1;
         for node in [0, last, last + 1, usize::MAX] {
             for instantiation in &instantiations {
-                comparisons.apply_with_every_length(&input, node, instantiation);
+                run.apply_with_every_length(&input, node, instantiation);
             }
             for schema in &schemas {
-                comparisons.recover_with_every_length(&input, node, schema);
+                run.recover_with_every_length(&input, node, schema);
             }
         }
     }
-    comparisons.assert_given(
+    run.assert_given(
         Operation::Apply,
         [0, 10, 11, 12, 13, 14, 17, 18, 19, 20, 21],
         8,
     );
-    comparisons.assert_given(Operation::Recover, [0].into_iter().chain(10..=18), 8);
-    comparisons.assert_given(Operation::Recover, [NO_TYPE], 4);
-    comparisons.finish("lengths", IN_LENGTHS);
+    run.assert_given(Operation::Recover, [0].into_iter().chain(10..=18), 8);
+    run.assert_given(Operation::Recover, [NO_TYPE], 4);
+    run.finish("lengths", IN_LENGTHS);
 }
 
 /// No slice is cleared between the calls, so each holds what others wrote; what lies
@@ -241,32 +239,15 @@ fn the_same_slices_for_many_calls() {
 /// Each node is visited once: visits of operands for each use would be 2 to the 63
 /// here and would not end.
 #[test]
-fn sixty_three_pairs_of_the_node_before_end_quickly() {
+fn sixty_three_pairs_of_the_node_before_end() {
     let schema = encode_schema(&in_each_of_eight(1..271));
-    let longest = instances()
-        .into_iter()
-        .map(|instance| instance.instantiation);
+    let instances = instances().into_iter();
+    let longest = instances.map(|instance| instance.instantiation);
     let longest = longest.max_by_key(Vec::len).expect("an instance");
-    let (mut work, mut image) = (vec![0; 64 * FORMULA_LENGTH], vec![0; SCHEMA_LENGTH]);
-    let (mut out, mut instantiation) = (vec![0; OUTPUT_LENGTH], vec![0; INSTANTIATION_LENGTH]);
-    let mut lengths = Lengths::default();
-    let mut elapsed = Duration::ZERO;
+    let mut run = test_run();
     for bytes in pairs_of_the_node_before() {
-        let start = Instant::now();
-        for _ in 0..50 {
-            engine::apply(
-                &bytes,
-                63,
-                &longest,
-                &mut work,
-                &mut image,
-                &mut out,
-                &mut lengths,
-            );
-            engine::recover(&bytes, 63, &schema, &mut work, &mut instantiation, &mut 0);
-        }
-        elapsed += start.elapsed();
+        let input = Input::new(bytes);
+        run.apply_bytes(&input, 63, &longest);
+        run.recover_bytes(&input, 63, &schema);
     }
-    println!("400 operations on 64 nodes: {elapsed:?}");
-    assert!(elapsed < Duration::from_secs(1), "{elapsed:?}");
 }

@@ -1,15 +1,15 @@
 //! The listing program against the text of the reference. Needs the program.
 
-use type_formula_tests::engine;
 use type_formula_tests::examples::{cases, e1, join_of_eight, longest_accepted, to_hexadecimal};
 use type_formula_tests::formula_examples::{formula_examples, E1_LISTING};
-use type_formula_tests::random::Random;
+use type_formula_tests::programs;
+use type_formula_tests::pseudorandom::Random;
 use type_formula_tests::reference::{encode_file, listing, Node};
 
 /// Compares what the program prints with the reference's text, which it gives.
 fn compare(bytes: &[u8]) -> String {
     let wanted = listing(bytes);
-    let given = engine::list(bytes);
+    let given = programs::run("list_formula", bytes);
     assert!(
         given == wanted.as_bytes(),
         "program:\n{}\nreference:\n{wanted}\n{}",

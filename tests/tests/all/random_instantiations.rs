@@ -3,15 +3,16 @@
 
 use type_formula_tests::alone;
 use type_formula_tests::answer::Operation;
-use type_formula_tests::comparisons::Comparisons;
 use type_formula_tests::examples::{smallest_files, three_subsets};
-use type_formula_tests::generators::{join_input, MOST_IN_DISTURBED};
+use type_formula_tests::extreme_inputs::join_input;
 use type_formula_tests::input::Input;
-use type_formula_tests::random::Random;
+use type_formula_tests::pseudorandom::Random;
+use type_formula_tests::random_instantiations::MOST_IN_DISTURBED;
 use type_formula_tests::reference::{
     assignment_of, encode_instantiation, encode_schema, untypable_attribute, Apply, Instantiation,
     Recover,
 };
+use type_formula_tests::test_run::TestRun;
 
 /// The least number of comparisons of each test.
 const IN_INSTANTIATIONS: u64 = 40_000;
@@ -33,39 +34,39 @@ const _: () = assert!(
         >= 400_000
 );
 
-/// Comparisons with random slices and numbers before each call.
-fn comparisons() -> Comparisons {
-    Comparisons::new(90)
+/// A run with random slices and numbers before each call.
+fn test_run() -> TestRun {
+    TestRun::new(90)
 }
 
 /// Instantiations of one node's formula, applied to it and then to every node; the schema
-/// is recovered, by comparison and by the engine alone.
+/// is recovered, by both and by the engine alone.
 #[test]
 fn random_instantiations() {
     let mut random = Random::new(92);
-    let mut comparisons = comparisons();
+    let mut run = test_run();
     for round in 0..5_000 {
         let relations = random.between(1, 8);
         let count = random.between(1, if round % 16 == 0 { 64 } else { 12 });
         let (input, node, instantiation) = random.file_with_instantiation(relations, count, 255);
         let bytes = encode_instantiation(&instantiation);
-        let apply = comparisons.apply_bytes(&input, node, &bytes);
+        let apply = run.apply_bytes(&input, node, &bytes);
         let is_typable = untypable_attribute(&input.formulas()[node]).is_none();
         assert_eq!(is_typable, matches!(apply, Apply::Applied { .. }));
         for other in 0..usize::from(count) {
-            comparisons.apply_bytes(&input, other, &bytes);
+            run.apply_bytes(&input, other, &bytes);
         }
         let schema = encode_schema(&instantiation.image(relations));
-        comparisons.recover_bytes(&input, node, &schema);
+        run.recover_bytes(&input, node, &schema);
         if is_typable {
             let (image, _) = alone::applied(&input, node, &bytes);
             assert_eq!(image, schema);
             assert_eq!(alone::recovered(&input, node, &image), bytes);
         }
     }
-    comparisons.assert_given(Operation::Apply, [0, 20, 21], 1_000);
-    comparisons.assert_given(Operation::Recover, [0], 1_000);
-    comparisons.finish("instantiations", IN_INSTANTIATIONS);
+    run.assert_given(Operation::Apply, [0, 20, 21], 1_000);
+    run.assert_given(Operation::Recover, [0], 1_000);
+    run.finish("instantiations", IN_INSTANTIATIONS);
 }
 
 /// Instantiations of the join of eight relations, whose attributes are spread over up to
@@ -73,15 +74,15 @@ fn random_instantiations() {
 #[test]
 fn attributes_of_many_lists() {
     let mut random = Random::new(93);
-    let mut comparisons = comparisons();
+    let mut run = test_run();
     let input = join_input();
     for _ in 0..1_000 {
         let node = random.below(15);
         let instantiation = random.instantiation_near_255(&input.formulas()[14]);
         let bytes = encode_instantiation(&instantiation);
         let schema = encode_schema(&instantiation.image(8));
-        comparisons.apply_bytes(&input, node, &bytes);
-        comparisons.recover_bytes(&input, node, &schema);
+        run.apply_bytes(&input, node, &bytes);
+        run.recover_bytes(&input, node, &schema);
         let listed: usize = instantiation.lists.values().map(|list| list.len()).sum();
         if listed <= 255 {
             let (image, _) = alone::applied(&input, node, &bytes);
@@ -89,9 +90,9 @@ fn attributes_of_many_lists() {
             assert_eq!(alone::recovered(&input, node, &image), bytes);
         }
     }
-    comparisons.assert_given(Operation::Apply, [0, 18], 300);
-    comparisons.assert_given(Operation::Recover, [0, 18], 300);
-    comparisons.finish("many lists", IN_MANY_LISTS);
+    run.assert_given(Operation::Apply, [0, 18], 300);
+    run.assert_given(Operation::Recover, [0, 18], 300);
+    run.finish("many lists", IN_MANY_LISTS);
 }
 
 /// Instantiations disturbed in their subsets and lists and then in their bytes, one in
@@ -99,7 +100,7 @@ fn attributes_of_many_lists() {
 #[test]
 fn disturbed_instantiations() {
     let mut random = Random::new(94);
-    let mut comparisons = comparisons();
+    let mut run = test_run();
     for round in 0..12_000 {
         let (relations, count) = (random.between(1, 8), random.between(1, 6));
         let (input, node, instantiation) =
@@ -116,11 +117,11 @@ fn disturbed_instantiations() {
             for _ in 0..of_bytes {
                 random.disturb(&mut bytes);
             }
-            comparisons.apply_bytes(&input, node, &bytes);
+            run.apply_bytes(&input, node, &bytes);
         }
     }
-    comparisons.assert_given(Operation::Apply, [0].into_iter().chain(14..=21), 1_000);
-    comparisons.finish("disturbed instantiations", IN_DISTURBED_INSTANTIATIONS);
+    run.assert_given(Operation::Apply, [0].into_iter().chain(14..=21), 1_000);
+    run.finish("disturbed instantiations", IN_DISTURBED_INSTANTIATIONS);
 }
 
 /// Images of instantiations, and such with attributes added, dropped or moved. What is
@@ -128,7 +129,7 @@ fn disturbed_instantiations() {
 #[test]
 fn random_schemas_near_images() {
     let mut random = Random::new(95);
-    let mut comparisons = comparisons();
+    let mut run = test_run();
     for round in 0..6_000 {
         let relations = random.between(1, 8);
         let count = random.between(1, if round % 32 == 0 { 64 } else { 12 });
@@ -141,15 +142,15 @@ fn random_schemas_near_images() {
                 random.disturb_assignment(&mut sets);
             }
             let schema = encode_schema(&sets);
-            let recover = comparisons.recover_bytes(&input, node, &schema);
+            let recover = run.recover_bytes(&input, node, &schema);
             if matches!(recover, Recover::Recovered { .. }) {
                 let recovered = alone::recovered(&input, node, &schema);
                 assert_eq!(alone::applied(&input, node, &recovered).0, schema);
             }
         }
     }
-    comparisons.assert_both(Operation::Recover);
-    comparisons.finish("near schemas", IN_NEAR_SCHEMAS);
+    run.assert_both(Operation::Recover);
+    run.finish("near schemas", IN_NEAR_SCHEMAS);
 }
 
 /// One schema in sixteen has about 255 different ordinary attributes, half of those over
@@ -158,7 +159,7 @@ fn random_schemas_near_images() {
 fn disturbed_schemas() {
     let mut random = Random::new(96);
     let joined = join_input();
-    let mut comparisons = comparisons();
+    let mut run = test_run();
     for round in 0..14_000 {
         let (relations, count) = (random.between(1, 8), random.between(1, 6));
         let (other, node, instantiation) =
@@ -170,24 +171,24 @@ fn disturbed_schemas() {
             (&other, node, instantiation.image(relations))
         };
         let mut schema = encode_schema(&image);
-        comparisons.recover_bytes(input, node, &schema);
+        run.recover_bytes(input, node, &schema);
         random.disturb_often(&mut schema);
-        comparisons.recover_bytes(input, node, &schema);
+        run.recover_bytes(input, node, &schema);
         if !schema.is_empty() {
             let place = random.below(schema.len());
             schema[place] ^= 1 << random.below(8);
         }
-        comparisons.recover_bytes(input, node, &schema);
+        run.recover_bytes(input, node, &schema);
     }
-    comparisons.assert_given(Operation::Recover, [0, 14, 15, 16, 17, 18], 300);
-    comparisons.finish("disturbed schemas", IN_DISTURBED_SCHEMAS);
+    run.assert_given(Operation::Recover, [0, 14, 15, 16, 17, 18], 300);
+    run.finish("disturbed schemas", IN_DISTURBED_SCHEMAS);
 }
 
 /// Every subset for attributes 1 and 2, and every list of 16 or none, for the last node:
 /// as an instantiation and as a schema.
 #[test]
 fn all_smallest_files_with_all_small_instantiations_and_schemas() {
-    let mut comparisons = comparisons();
+    let mut run = test_run();
     for bytes in smallest_files() {
         let relations = bytes[0];
         let input = Input::new(bytes);
@@ -197,12 +198,12 @@ fn all_smallest_files_with_all_small_instantiations_and_schemas() {
             if third > 0 {
                 instantiation.insert(third, 16);
             }
-            comparisons.apply_bytes(&input, 2, &encode_instantiation(&instantiation));
+            run.apply_bytes(&input, 2, &encode_instantiation(&instantiation));
             let sets = assignment_of(relations, [(1, first), (2, second), (16, third)]);
-            comparisons.recover_bytes(&input, 2, &encode_schema(&sets));
+            run.recover_bytes(&input, 2, &encode_schema(&sets));
         }
     }
-    comparisons.assert_given(Operation::Apply, [0, 20, 21], 5_000);
-    comparisons.assert_both(Operation::Recover);
-    comparisons.finish("all smallest files", IN_ALL_SMALLEST_FILES);
+    run.assert_given(Operation::Apply, [0, 20, 21], 5_000);
+    run.assert_both(Operation::Recover);
+    run.finish("all smallest files", IN_ALL_SMALLEST_FILES);
 }

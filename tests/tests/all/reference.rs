@@ -4,7 +4,7 @@ use type_formula_tests::examples::{
     all_nodes_with_set, cases, e1, e10, e10_nodes, e1_nodes, from_hexadecimal, longest_accepted,
     to_hexadecimal, Example, LONGEST_ACCEPTED,
 };
-use type_formula_tests::random::Random;
+use type_formula_tests::pseudorandom::Random;
 use type_formula_tests::reference::{
     encode_file, encode_node, read_file, read_node, record, Node, LEGAL_MAPS,
 };

@@ -1,23 +1,20 @@
 //! The engine against the reference: Typing.
 
-use std::time::{Duration, Instant};
-
 use type_formula_tests::answer::{Operation, NO_TYPE, RESULT};
-use type_formula_tests::comparisons::Comparisons;
 use type_formula_tests::engine::{self, UNTYPED};
 use type_formula_tests::examples::{
     cases, e1, from_hexadecimal, join_of_eight, pairs_of_the_node_before, smallest_files,
     three_subsets, to_hexadecimal,
 };
+use type_formula_tests::extreme_inputs::{extreme_assignments, join_input, join_of_64_nodes};
 use type_formula_tests::formula_examples::E2_SCHEMA;
-use type_formula_tests::generators::{
-    extreme_assignments, join_input, join_of_64_nodes, MOST_IN_DISTURBED,
-};
-use type_formula_tests::random::Random;
+use type_formula_tests::pseudorandom::Random;
+use type_formula_tests::random_instantiations::MOST_IN_DISTURBED;
 use type_formula_tests::reference::{
     assignment_of, encode_file, encode_schema, infer, read_schema, untypable_attribute, witness,
-    Type, Typing, OUTPUT_LENGTH, SCHEMA_LENGTH,
+    Type, Typing, SCHEMA_LENGTH,
 };
+use type_formula_tests::test_run::TestRun;
 use type_formula_tests::typing_examples::{
     e2_to_e4, in_each_of_eight, spread_over_eight, typing_cases, TypingCase, E3_SCHEMA,
 };
@@ -51,9 +48,9 @@ const _: () = assert!(
         >= 900_000
 );
 
-/// Comparisons with random slices and values before each call.
-fn comparisons() -> Comparisons {
-    Comparisons::new(70)
+/// A run with random slices and values before each call.
+fn test_run() -> TestRun {
+    TestRun::new(70)
 }
 
 /// A file with an instantiation's image for one of its nodes, most often for the
@@ -97,13 +94,13 @@ fn e1_is_typed_as_e2_to_e4_say() {
 
 #[test]
 fn examples_and_edges_have_their_answers() {
-    let mut comparisons = comparisons();
+    let mut run = test_run();
     for case in typing_cases() {
         assert_case(&case);
-        comparisons.typing_with_every_length(&case.file, &case.schema);
+        run.typing_with_every_length(&case.file, &case.schema);
     }
-    comparisons.assert_answers([0, 10, 11, 13, 14, 15, 16, 17, 18], 5);
-    comparisons.finish("examples and edges", IN_CASES);
+    run.assert_answers([0, 10, 11, 13, 14, 15, 16, 17, 18], 5);
+    run.finish("examples and edges", IN_CASES);
 }
 
 /// Slices of no bytes whose pointers lead nowhere.
@@ -121,12 +118,12 @@ fn empty_slices_are_refused() {
 #[test]
 fn random_schemas_near_typed_ones() {
     let mut random = Random::new(71);
-    let mut comparisons = comparisons();
+    let mut run = test_run();
     for round in 0..15_000 {
         let relations = random.between(1, 8);
         let count = random.between(1, if round % 16 == 0 { 64 } else { 16 });
         let (bytes, node, image) = file_with_image(&mut random, relations, count);
-        if comparisons.typing_by_sets(&bytes, node, &image) == Typing::Untyped {
+        if run.typing_by_sets(&bytes, node, &image) == Typing::Untyped {
             continue;
         }
         for steps in [1, 1, 1, 2, 4] {
@@ -134,34 +131,34 @@ fn random_schemas_near_typed_ones() {
             for _ in 0..steps {
                 random.disturb_assignment(&mut sets);
             }
-            comparisons.typing_by_sets(&bytes, node, &sets);
+            run.typing_by_sets(&bytes, node, &sets);
         }
     }
-    comparisons.assert_both(Operation::Typing);
-    comparisons.finish("near schemas", IN_NEAR_SCHEMAS);
+    run.assert_both(Operation::Typing);
+    run.finish("near schemas", IN_NEAR_SCHEMAS);
 }
 
 /// Images of instantiations of one node's formula, for every node.
 #[test]
 fn every_node_under_one_schema() {
     let mut random = Random::new(78);
-    let mut comparisons = comparisons();
+    let mut run = test_run();
     for _ in 0..4_000 {
         let (relations, count) = (random.between(1, 8), random.between(1, 16));
         let (bytes, _, image) = file_with_image(&mut random, relations, count);
         for node in 0..usize::from(count) {
-            comparisons.typing_by_sets(&bytes, node, &image);
+            run.typing_by_sets(&bytes, node, &image);
         }
     }
-    comparisons.assert_both(Operation::Typing);
-    comparisons.finish("every node", IN_EVERY_NODE);
+    run.assert_both(Operation::Typing);
+    run.finish("every node", IN_EVERY_NODE);
 }
 
 /// Witnesses of last nodes, and such with attributes added, dropped or moved.
 #[test]
 fn random_schemas_near_witnesses() {
     let mut random = Random::new(72);
-    let mut comparisons = comparisons();
+    let mut run = test_run();
     for _ in 0..8_000 {
         let (relations, count) = (random.between(1, 8), random.between(4, 20));
         let bytes = random.mild_file(relations, count);
@@ -171,34 +168,34 @@ fn random_schemas_near_witnesses() {
             continue;
         }
         let witness = witness(&formulas[node], relations);
-        let typing = comparisons.typing_by_schema(&bytes, node, &witness);
+        let typing = run.typing_by_schema(&bytes, node, &witness);
         assert!(matches!(typing, Typing::Typed { .. }));
         let mut sets = read_schema(relations, &witness).expect("a schema");
         for _ in 0..4 {
             random.disturb_assignment(&mut sets);
-            comparisons.typing_by_sets(&bytes, node, &sets);
+            run.typing_by_sets(&bytes, node, &sets);
         }
     }
-    comparisons.assert_both(Operation::Typing);
-    comparisons.finish("near witnesses", IN_NEAR_WITNESSES);
+    run.assert_both(Operation::Typing);
+    run.finish("near witnesses", IN_NEAR_WITNESSES);
 }
 
 /// Every assignment of attributes 1, 2 and 16 to the relations, for every node.
 #[test]
 fn all_smallest_files_with_all_small_schemas() {
-    let mut comparisons = comparisons();
+    let mut run = test_run();
     for bytes in smallest_files() {
         let relations = bytes[0];
         for [first, second, third] in three_subsets(relations) {
             let sets = assignment_of(relations, [(1, first), (2, second), (16, third)]);
             let schema = encode_schema(&sets);
             for node in 0..usize::from(bytes[1]) {
-                comparisons.typing_by_schema(&bytes, node, &schema);
+                run.typing_by_schema(&bytes, node, &schema);
             }
         }
     }
-    comparisons.assert_both(Operation::Typing);
-    comparisons.finish("all smallest files", IN_ALL_SMALLEST_FILES);
+    run.assert_both(Operation::Typing);
+    run.finish("all smallest files", IN_ALL_SMALLEST_FILES);
 }
 
 /// The bytes beyond the prefix are those of the whole schema, so an engine that read
@@ -216,28 +213,28 @@ fn every_prefix_of_schemas_and_longer_ones() {
         let (relations, count) = (random.between(1, 8), random.between(1, 8));
         file_with_image(&mut random, relations, count)
     }));
-    let mut comparisons = comparisons();
+    let mut run = test_run();
     for (bytes, node, sets) in inputs {
         let schema = encode_schema(&sets);
         for length in 0..schema.len() {
-            let typing = comparisons.typing_by_schema(&bytes, node, &schema[..length]);
+            let typing = run.typing_by_schema(&bytes, node, &schema[..length]);
             assert_eq!(typing, Typing::Refused { number: 14 });
         }
         for length in [1, 2, 3, 4, 513, SCHEMA_LENGTH, 70_000] {
             let longer = [&schema[..], &random.likely_bytes(length)].concat();
-            let typing = comparisons.typing_by_schema(&bytes, node, &longer);
+            let typing = run.typing_by_schema(&bytes, node, &longer);
             assert_eq!(typing, Typing::Refused { number: 17 });
         }
-        comparisons.typing_by_schema(&bytes, node, &schema);
+        run.typing_by_schema(&bytes, node, &schema);
     }
-    comparisons.assert_answers([14, 17], 1_000);
-    comparisons.finish("prefixes of schemas", IN_PREFIXES);
+    run.assert_answers([14, 17], 1_000);
+    run.finish("prefixes of schemas", IN_PREFIXES);
 }
 
 /// Every value of every byte of a few schemas.
 #[test]
 fn every_change_of_one_byte_of_schemas() {
-    let mut comparisons = comparisons();
+    let mut run = test_run();
     for schema in [
         E2_SCHEMA,
         E3_SCHEMA,
@@ -248,13 +245,13 @@ fn every_change_of_one_byte_of_schemas() {
             for value in 0..=255 {
                 let mut changed = schema.clone();
                 changed[place] = value;
-                comparisons.typing_by_schema(&e1().bytes, 6, &changed);
+                run.typing_by_schema(&e1().bytes, 6, &changed);
             }
         }
     }
-    comparisons.assert_answers([0, 14, 16, 17], 100);
-    comparisons.assert_answers([15], 3);
-    comparisons.finish("changes of one byte", IN_CHANGES);
+    run.assert_answers([0, 14, 16, 17], 100);
+    run.assert_answers([15], 3);
+    run.finish("changes of one byte", IN_CHANGES);
 }
 
 /// One schema in sixteen has about 255 different ordinary attributes, half of those
@@ -263,7 +260,7 @@ fn every_change_of_one_byte_of_schemas() {
 fn disturbed_schemas() {
     let mut random = Random::new(74);
     let joined = join_input();
-    let mut comparisons = comparisons();
+    let mut run = test_run();
     for round in 0..30_000 {
         let (bytes, node, sets) = if round % 16 == 0 {
             let image = random
@@ -275,17 +272,17 @@ fn disturbed_schemas() {
             file_with_image(&mut random, relations, count)
         };
         let mut schema = encode_schema(&sets);
-        comparisons.typing_by_schema(&bytes, node, &schema);
+        run.typing_by_schema(&bytes, node, &schema);
         random.disturb_often(&mut schema);
-        comparisons.typing_by_schema(&bytes, node, &schema);
+        run.typing_by_schema(&bytes, node, &schema);
         if !schema.is_empty() {
             let place = random.below(schema.len());
             schema[place] ^= 1 << random.below(8);
         }
-        comparisons.typing_by_schema(&bytes, node, &schema);
+        run.typing_by_schema(&bytes, node, &schema);
     }
-    comparisons.assert_answers([0, 14, 15, 16, 17, 18], 100);
-    comparisons.finish("disturbed schemas", IN_DISTURBED_SCHEMAS);
+    run.assert_answers([0, 14, 15, 16, 17, 18], 100);
+    run.finish("disturbed schemas", IN_DISTURBED_SCHEMAS);
 }
 
 /// Files of 64 nodes and eight relations with schemas at the limits, and every length
@@ -293,25 +290,25 @@ fn disturbed_schemas() {
 #[test]
 fn extremes() {
     let mut random = Random::new(75);
-    let mut comparisons = comparisons();
+    let mut run = test_run();
     for sets in extreme_assignments() {
         let schema = encode_schema(&sets);
         let mut files = pairs_of_the_node_before();
         files.extend((0..4).map(|_| random.mild_file(8, 64)));
         files.push(join_of_64_nodes());
         for file in files {
-            comparisons.typing_with_every_length(&file, &schema);
+            run.typing_with_every_length(&file, &schema);
         }
     }
-    comparisons.assert_answers([0, 11, 13, 18], 1_000);
-    comparisons.finish("extremes", IN_EXTREMES);
+    run.assert_answers([0, 11, 13, 18], 1_000);
+    run.finish("extremes", IN_EXTREMES);
 }
 
 /// One file in four has another m, so that records are missing or left over.
 #[test]
 fn disturbed_files_with_good_schemas() {
     let mut random = Random::new(76);
-    let mut comparisons = comparisons();
+    let mut run = test_run();
     for round in 0..6_000 {
         let (relations, count) = (random.between(1, 8), random.between(1, 10));
         let (mut bytes, _, image) = file_with_image(&mut random, relations, count);
@@ -321,49 +318,44 @@ fn disturbed_files_with_good_schemas() {
         } else {
             random.disturb_often(&mut bytes);
         }
-        comparisons.typing_for_numbers(&bytes, &schema);
+        run.typing_for_numbers(&bytes, &schema);
     }
     for case in cases() {
-        comparisons.typing_for_numbers(&case.bytes, &[0; 16]);
-        comparisons.typing_for_numbers(&case.bytes, &[]);
+        run.typing_for_numbers(&case.bytes, &[0; 16]);
+        run.typing_for_numbers(&case.bytes, &[]);
     }
-    comparisons.assert_answers((0..=11).chain([13, 14, 17]), 100);
-    comparisons.finish("disturbed files", IN_DISTURBED_FILES);
+    run.assert_answers((0..=11).chain([13, 14, 17]), 100);
+    run.finish("disturbed files", IN_DISTURBED_FILES);
 }
 
 /// Random bytes; likely bytes; and bytes whose maps list nothing.
 #[test]
 fn random_bytes_as_schema() {
     let mut random = Random::new(77);
-    let mut comparisons = comparisons();
+    let mut run = test_run();
     for _ in 0..40_000 {
         let (relations, count) = (random.between(1, 8), random.between(1, 12));
         let bytes = random.mild_file(relations, count);
         let node = random.below(usize::from(count));
         let length = random.below(64);
-        comparisons.typing_by_schema(&bytes, node, &random.bytes(length));
-        comparisons.typing_by_schema(&bytes, node, &random.likely_bytes(length));
-        comparisons.typing_by_schema(&bytes, node, &random.records_of_maps(relations));
+        run.typing_by_schema(&bytes, node, &random.bytes(length));
+        run.typing_by_schema(&bytes, node, &random.likely_bytes(length));
+        run.typing_by_schema(&bytes, node, &random.records_of_maps(relations));
     }
-    comparisons.assert_answers([RESULT, NO_TYPE], 1_000);
-    comparisons.assert_answers(14..=17, 100);
-    comparisons.finish("random bytes", IN_RANDOM_BYTES);
+    run.assert_answers([RESULT, NO_TYPE], 1_000);
+    run.assert_answers(14..=17, 100);
+    run.finish("random bytes", IN_RANDOM_BYTES);
 }
 
 /// Each node is visited once: visits of operands for each use would be 2 to the 63
 /// here and would not end.
 #[test]
-fn sixty_three_pairs_of_the_node_before_end_quickly() {
+fn sixty_three_pairs_of_the_node_before_end() {
     let schema = encode_schema(&in_each_of_eight(1..271));
-    let mut out = vec![0; OUTPUT_LENGTH];
-    let mut elapsed = Duration::ZERO;
+    let mut run = test_run();
     for bytes in pairs_of_the_node_before() {
-        let start = Instant::now();
-        for _ in 0..50 {
-            engine::typing(&bytes, 63, &schema, &mut out, &mut 0);
-        }
-        elapsed += start.elapsed();
+        let typing = run.typing_by_schema(&bytes, 63, &schema);
+        let is_product = bytes[7] == 4;
+        assert_eq!(typing == Typing::Untyped, is_product);
     }
-    println!("200 operations on 64 nodes: {elapsed:?}");
-    assert!(elapsed < Duration::from_secs(1), "{elapsed:?}");
 }

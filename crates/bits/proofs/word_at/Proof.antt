@@ -3,29 +3,21 @@ use mathlib.Core.Path.{refl}
 use native.Mathlib.Omega.{arith}
 use borrow.Author.Needs.{needs}
 use Rattle.bits.specs.Word.{word}
-use Rattle.bits.proofs.word_at.Statement.{statement}
-use Rattle.bits.proofs.word_at.Tie as tie
-
-shared-slice-read-result : tie.Need-shared-slice-read-result
-shared-slice-read-result c = search needs
+use Rattle.bits.proofs.word_at as fn
+use fn.Statement.{statement}
+use fn.Tie as tie
 
 cast-result : tie.Need-cast-result
-cast-result c = omega (arith, c .shared-slice-known .given (c .before .args .at))
-
-add-result : tie.Need-add-result
-add-result c = search needs
-
-shared-slice-read-result-2 : tie.Need-shared-slice-read-result-2
-shared-slice-read-result-2 c = search needs
+cast-result c = omega (arith, c.shared-slice-known.given c.before.args.at)
 
 cast-result-2 : tie.Need-cast-result-2
-cast-result-2 c = omega (arith, c .shared-slice-known2 .given (c .before .before .args .at + 1))
+cast-result-2 c = omega (arith, c.shared-slice-known2.given (c.before.before.args.at + 1))
 
 mul-result : tie.Need-mul-result
-mul-result c = omega (arith, c .shared-slice-known2 .given (c .before .before .args .at + 1))
+mul-result c = omega (arith, c.shared-slice-known2.given (c.before.before.args.at + 1))
 
 add-result-2 : tie.Need-add-result-2
-add-result-2 c = omega (arith, c .shared-slice-known2 .given (c .before .before .args .at), c .shared-slice-known2 .given (c .before .before .args .at + 1))
+add-result-2 c = omega (arith, c.shared-slice-known2.given c.before.before.args.at, c.shared-slice-known2.given (c.before.before.args.at + 1))
 
 returns : tie.Need-returns
 unfolding word
@@ -33,13 +25,5 @@ returns c = refl
 
 pub word-at-spec : {M : Type 1} → statement M
 word-at-spec =
-    tie.close
-    (tie.spec
-    shared-slice-read-result
-    cast-result
-    add-result
-    shared-slice-read-result-2
-    cast-result-2
-    mul-result
-    add-result-2
-    returns)
+    tie.close (tie.spec (λ c. search needs) cast-result (λ c. search needs) (λ c. search needs) cast-result-2
+    mul-result add-result-2 returns)

@@ -5,51 +5,32 @@ use lib.ListN.{replicate, length-replicate}
 use Rattle.bits.specs.Written.{Written, written-none, written-more, written-whole}
 use Rattle.special_maps.specs.Special.{mapOf, mapsFrom}
 use borrow.Author.Needs.{needs}
-use Rattle.special_maps.proofs.maps_from.Statement.{statement}
-use Rattle.special_maps.proofs.maps_from.Tie as tie
+use Rattle.special_maps.proofs.maps_from as fn
+use fn.Statement.{statement}
+use fn.Tie as tie
 
-abbrev Inv-loop : tie.InvT-loop
-Inv-loop subsets maps₀ r₀ maps r = (r ≤ 8) × Written (mapOf subsets) r (replicate 8 0) maps
+abbrev Inv : tie.InvT-loop
+Inv subsets maps₀ r₀ maps r = (r ≤ 8) × Written (mapOf subsets) r (replicate 8 0) maps
 
-abbrev μ-loop : tie.MeasureT-loop
-μ-loop subsets maps₀ r₀ maps r = 8 - r
+abbrev μ : tie.MeasureT-loop
+μ subsets maps₀ r₀ maps r = 8 - r
 
-loop-holds : tie.Need-loop-holds Inv-loop μ-loop
+loop-holds : tie.Need-loop-holds Inv μ
 loop-holds c = (omega arith, written-none _ _)
 
-map-of-requires : tie.Need-map-of-requires Inv-loop μ-loop
-map-of-requires c κs = search needs
+loop-again : tie.Need-loop-again Inv μ
+loop-again c =
+    let loop = c.before.before.loop in (
+      omega arith,
+      written-more _ loop.r _ _ _ (let size = loop.inv.1.size in let zeros = length-replicate {A = ℕ} 8 0 in omega arith)
+          loop.inv.1 c.map-of.ensures,
+    )
 
-mul-maps : tie.Need-mul-maps Inv-loop μ-loop
-mul-maps c = search needs
-
-array-write-maps : tie.Need-array-write-maps Inv-loop μ-loop
-array-write-maps c = search needs
-
-add-r : tie.Need-add-r Inv-loop μ-loop
-add-r c = search needs
-
-loop-less : tie.Need-loop-less Inv-loop μ-loop
-loop-less c = search needs
-
-loop-again : tie.Need-loop-again Inv-loop μ-loop
-loop-again c = (omega arith, written-more _ (c .before .before .loop .r) _ _ _ (let size = c .before .before .loop .inv .1 .size in let zeros = length-replicate {A = ℕ} 8 0 in omega arith) (c .before .before .loop .inv .1) (c .map-of .ensures))
-
-returns : tie.Need-returns Inv-loop μ-loop
+returns : tie.Need-returns Inv μ
 unfolding mapsFrom
-returns c = let all : c .before .loop .r ≡ 8 = omega arith in written-whole _ 8 _ _ (length-replicate {A = ℕ} 8 0) (rw all at (c .before .loop .inv .1))
+returns c = let all : c.before.loop.r ≡ 8 = omega arith in written-whole _ 8 _ _ (length-replicate {A = ℕ} 8 0) (rw all at c.before.loop.inv.1)
 
 pub maps-from-spec : {M : Type 1} → statement M
 maps-from-spec =
-    tie.close
-    (tie.spec
-    Inv-loop
-    μ-loop
-    loop-holds
-    map-of-requires
-    mul-maps
-    array-write-maps
-    add-r
-    loop-less
-    loop-again
-    returns)
+    tie.close (tie.spec Inv μ loop-holds (λ c κs. search needs) (λ c. search needs)
+    (λ c. search needs) (λ c. search needs) (λ c. search needs) loop-again returns)

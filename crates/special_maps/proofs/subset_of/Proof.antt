@@ -4,67 +4,42 @@ use native.Mathlib.Omega.{arith}
 use Rattle.bits.specs.PackFrom.{from-none, from-all}
 use Rattle.special_maps.specs.Special.{subsetFrom, bitsFrom, bits-lower, bits-below}
 use borrow.Author.Needs.{needs}
-use Rattle.special_maps.proofs.subset_of.Statement.{statement}
-use Rattle.special_maps.proofs.subset_of.Tie as tie
+use Rattle.special_maps.proofs.subset_of as fn
+use fn.Statement.{statement}
+use fn.Tie as tie
 
-abbrev Inv-loop : tie.InvT-loop
-Inv-loop maps i x₀ r₀ x r = (r ≤ 8) × (x ≡ bitsFrom maps 8 i r)
+abbrev Inv : tie.InvT-loop
+Inv maps i x₀ r₀ x r = (r ≤ 8) × (x ≡ bitsFrom maps 8 i r)
 
-abbrev μ-loop : tie.MeasureT-loop
-μ-loop maps i x₀ r₀ x r = r
+abbrev μ : tie.MeasureT-loop
+μ maps i x₀ r₀ x r = r
 
-loop-holds : tie.Need-loop-holds Inv-loop μ-loop
+loop-holds : tie.Need-loop-holds Inv μ
 loop-holds c = (omega arith, sym (from-none 8 _))
 
-sub-r : tie.Need-sub-r Inv-loop μ-loop
-sub-r c = search needs
+mul-x : tie.Need-mul-x Inv μ
+mul-x c =
+    let below = bits-below c.before.before.args.maps.now 8 c.before.before.args.i c.before.loop.r c.loop-test.taken in
+    let is = c.before.loop.inv.1 in omega arith
 
-mul-x : tie.Need-mul-x Inv-loop μ-loop
-mul-x c = let below = bits-below (c .before .before .args .maps .now) 8 (c .before .before .args .i) (c .before .loop .r) (c .loop-test .taken) in let is = c .before .loop .inv .1 in omega arith
+add-x : tie.Need-add-x Inv μ
+add-x c =
+    let below = bits-below c.before.before.before.args.maps.now 8 c.before.before.before.args.i c.before.before.loop.r
+    c.before.loop-test.taken in
+    let is = c.before.before.loop.inv.1 in omega arith
 
-mul-x-2 : tie.Need-mul-x-2 Inv-loop μ-loop
-mul-x-2 c = search needs
+loop-again : tie.Need-loop-again Inv μ
+loop-again c =
+    let loop = c.before.before.loop in
+    let args = c.before.before.before.args in
+    (omega arith, rw loop.inv.1 (sym (bits-lower args.maps.now 8 args.i loop.r c.before.loop-test.taken loop.inv.0)))
 
-shared-slice-read-x : tie.Need-shared-slice-read-x Inv-loop μ-loop
-shared-slice-read-x c = search needs
-
-cast-x : tie.Need-cast-x Inv-loop μ-loop
-cast-x c = search needs
-
-shr-x : tie.Need-shr-x Inv-loop μ-loop
-shr-x c = search needs
-
-cast-x-2 : tie.Need-cast-x-2 Inv-loop μ-loop
-cast-x-2 c = search needs
-
-add-x : tie.Need-add-x Inv-loop μ-loop
-add-x c = let below = bits-below (c .before .before .before .args .maps .now) 8 (c .before .before .before .args .i) (c .before .before .loop .r) (c .before .loop-test .taken) in let is = c .before .before .loop .inv .1 in omega arith
-
-loop-less : tie.Need-loop-less Inv-loop μ-loop
-loop-less c = search needs
-
-loop-again : tie.Need-loop-again Inv-loop μ-loop
-loop-again c = (omega arith, rw (c .before .before .loop .inv .1) (sym (bits-lower (c .before .before .before .args .maps .now) 8 (c .before .before .before .args .i) (c .before .before .loop .r) (c .before .loop-test .taken) (c .before .before .loop .inv .0))))
-
-returns : tie.Need-returns Inv-loop μ-loop
+returns : tie.Need-returns Inv μ
 unfolding subsetFrom
-returns c = let all : c .before .loop .r ≡ 0 = omega arith in (rw all at (c .before .loop .inv .1)) ∙ from-all 8 _
+returns c = let all : c.before.loop.r ≡ 0 = omega arith in (rw all at c.before.loop.inv.1) ∙ from-all 8 _
 
 pub subset-of-spec : {M : Type 1} → statement M
 subset-of-spec =
-    tie.close
-    (tie.spec
-    Inv-loop
-    μ-loop
-    loop-holds
-    sub-r
-    mul-x
-    mul-x-2
-    shared-slice-read-x
-    cast-x
-    shr-x
-    cast-x-2
-    add-x
-    loop-less
-    loop-again
+    tie.close (tie.spec Inv μ loop-holds (λ c. search needs) mul-x (λ c. search needs)
+    (λ c. search needs) (λ c. search needs) (λ c. search needs) (λ c. search needs) add-x (λ c. search needs) loop-again
     returns)

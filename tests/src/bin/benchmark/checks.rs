@@ -4,11 +4,11 @@
 use std::fmt::Debug;
 
 use type_formula_tests::answer::{Answer, Counts, Operation, GREATEST_REFUSAL, NO_TYPE, RESULT};
-use type_formula_tests::generators::{least_for_apply, least_for_recover};
 use type_formula_tests::lent::Lent;
 use type_formula_tests::mixture::{lengths, Mixture};
-use type_formula_tests::random::Random;
+use type_formula_tests::pseudorandom::Random;
 use type_formula_tests::reference::{self, OUTPUT_LENGTH, SCHEMA_LENGTH};
+use type_formula_tests::slice_lengths::{least_for_apply, least_for_recover};
 
 use crate::words;
 

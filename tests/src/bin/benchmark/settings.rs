@@ -4,7 +4,7 @@ use std::collections::HashSet;
 use std::mem::discriminant;
 
 use type_formula_tests::examples::{e1, e10_nodes, join_of_eight};
-use type_formula_tests::random::Random;
+use type_formula_tests::pseudorandom::Random;
 use type_formula_tests::reference::{
     assignment_of, encode_file, encode_schema, infer, recover, typing, untypable_attribute,
     witness, Node, Recover, Typing, FORMULA_LENGTH, INSTANTIATION_LENGTH, OUTPUT_LENGTH,

@@ -4,11 +4,9 @@ use native.Mathlib.Nat.{lt-of-lt-of-le}
 use lib.Pow.{pow-mono}
 use Rattle.bits.specs.Bit.{bit-test, bit-above}
 use Rattle.attribute_set.specs.AttrSet.{hasAttribute}
-use Rattle.attribute_set.proofs.AttrSet.has.Statement.{statement}
-use Rattle.attribute_set.proofs.AttrSet.has.Tie as tie
-
-shr-result : tie.Need-shr-result
-shr-result c = search needs
+use Rattle.attribute_set.proofs.AttrSet.has as fn
+use fn.Statement.{statement}
+use fn.Tie as tie
 
 returns : tie.Need-returns
 unfolding hasAttribute
@@ -16,7 +14,7 @@ returns c = bit-test _ _
 
 returns-2 : tie.Need-returns-2
 unfolding hasAttribute
-returns-2 c = sym (bit-above _ _ (lt-of-lt-of-le (search needs) (pow-mono (c .if1 .left))))
+returns-2 c = sym (bit-above _ _ (lt-of-lt-of-le (search needs) (pow-mono c.if1.left)))
 
 pub has-spec : {M : Type 1} → statement M
-has-spec = tie.close (tie.spec shr-result returns returns-2)
+has-spec = tie.close (tie.spec (λ c. search needs) returns returns-2)

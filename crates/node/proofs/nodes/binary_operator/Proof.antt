@@ -1,19 +1,20 @@
 use Rattle.refusal.specs.Chain.{chain}
 use Rattle.node.specs.Operators.{binaryOf}
-use Rattle.node.proofs.nodes.binary_operator.Statement.{statement}
-use Rattle.node.proofs.nodes.binary_operator.Tie as tie
+use Rattle.node.proofs.nodes.binary_operator as fn
+use fn.Statement.{statement}
+use fn.Tie as tie
 
 returns : tie.Need-returns
 unfolding binaryOf
-returns c = simp (c .match .keys1)
+returns c = simp c.match.keys1
 
 returns-2 : tie.Need-returns-2
 unfolding binaryOf
-returns-2 c = simp (c .match .keys2)
+returns-2 c = simp c.match.keys2
 
 returns-3 : tie.Need-returns-3
 unfolding binaryOf
-returns-3 c = simp (c .match .keys3)
+returns-3 c = simp c.match.keys3
 
 returns-4 : tie.Need-returns-4
 unfolding binaryOf

@@ -1,11 +1,12 @@
 use Rattle.refusal.specs.Chain.{chain}
 use Rattle.node.specs.Operators.{setOpOf}
-use Rattle.node.proofs.nodes.set_operator.Statement.{statement}
-use Rattle.node.proofs.nodes.set_operator.Tie as tie
+use Rattle.node.proofs.nodes.set_operator as fn
+use fn.Statement.{statement}
+use fn.Tie as tie
 
 returns : tie.Need-returns
 unfolding setOpOf
-returns c = simp (c .match .keys1)
+returns c = simp c.match.keys1
 
 returns-2 : tie.Need-returns-2
 unfolding setOpOf

@@ -1,14 +1,9 @@
 use Rattle.refusal.specs.Chain.{chain}
 use Rattle.type_record.specs.Record.{recordSize}
 use borrow.Author.Needs.{needs}
-use Rattle.type_record.proofs.records.record_size.Statement.{statement}
-use Rattle.type_record.proofs.records.record_size.Tie as tie
-
-mul-result : tie.Need-mul-result
-mul-result c = search needs
-
-add-result : tie.Need-add-result
-add-result c = search needs
+use Rattle.type_record.proofs.records.record_size as fn
+use fn.Statement.{statement}
+use fn.Tie as tie
 
 returns : tie.Need-returns
 unfolding recordSize
@@ -19,4 +14,4 @@ unfolding recordSize
 returns-2 c = search chain
 
 pub record-size-spec : {M : Type 1} → statement M
-record-size-spec = tie.close (tie.spec mul-result add-result returns returns-2)
+record-size-spec = tie.close (tie.spec (λ c. search needs) (λ c. search needs) returns returns-2)

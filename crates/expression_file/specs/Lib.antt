@@ -1,0 +1,5 @@
+pub mod ReadFile
+pub mod Accepted
+pub mod Walk
+pub mod Enough
+pub mod Numbers

@@ -1,0 +1,22 @@
+use borrow.Author.Needs.{needs}
+use Rattle.filling.proofs.fill_binary as fn
+use fn.Statement.{statement}
+use fn.Tie as tie
+
+returns : tie.Need-returns
+returns c = rw c.before.before.before.before.enum-told.given.1 c.before.before.fill-union.ensures
+
+returns-2 : tie.Need-returns-2
+returns-2 c = rw c.before.before.before.before.enum-told2.given.1 c.before.before.fill-union2.ensures
+
+returns-3 : tie.Need-returns-3
+returns-3 c = rw c.before.before.before.before.enum-told3.given.1 c.before.before.fill-join.ensures
+
+returns-4 : tie.Need-returns-4
+returns-4 c = rw c.before.before.before.before.enum-told4.given.1 c.before.before.fill-product.ensures
+
+pub fill-binary-spec : {M : Type 1} → statement M
+fill-binary-spec =
+    tie.close (tie.spec (λ c. search needs) (λ c κs. search needs) (λ c. search needs) (λ c κs. search needs)
+    (λ c. search needs) (λ c κs. search needs) (λ c. search needs) (λ c κs. search needs) (λ c. search needs)
+    returns (λ c. search needs) returns-2 (λ c. search needs) returns-3 (λ c. search needs) returns-4)

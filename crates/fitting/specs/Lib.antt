@@ -1,0 +1,2 @@
+pub mod StoredFit
+pub mod Fit

@@ -1,9 +1,0 @@
-pub mod Storage
-pub mod StorageLaws
-pub mod Columns
-pub mod Expressions
-pub mod Stored
-pub mod StepCells
-pub mod NodeColumn
-pub mod Filling
-pub mod StoredLaws

@@ -1,4 +1,0 @@
-pub mod Formula
-pub mod Instantiation
-pub mod Plain
-pub mod Blocked

@@ -1,0 +1,7 @@
+mod AppendedEntries
+mod EntriesResumed
+mod ListsResumed
+mod MarkedList
+mod OneMoreList
+mod RepeatedAttributes
+mod TestsAfterLists

@@ -1,0 +1,4 @@
+mod ListsBefore
+mod MapBits
+mod OneList
+mod ThreeParts

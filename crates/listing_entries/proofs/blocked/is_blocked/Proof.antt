@@ -1,0 +1,13 @@
+use mathlib.Core.Path.{ap}
+use Rattle.verdict_answer.specs.LowestLaws.{subsets-blocked}
+use Rattle.listing_entries.specs.Text.{someBlocked}
+use borrow.Author.Needs.{needs}
+use Rattle.listing_entries.proofs.blocked.is_blocked as fn
+use fn.Statement.{statement}
+use fn.Tie as tie
+
+returns : tie.Need-returns
+returns c = ap someBlocked (subsets-blocked _ _ _ c.before.lowest-subsets.ensures)
+
+pub is-blocked-spec : {M : Type 1} → statement M
+is-blocked-spec = tie.close (tie.spec (λ c κs. search needs) returns)

@@ -1,0 +1,4 @@
+pub mod Text
+pub mod Entries
+pub mod Naming
+pub mod Example

@@ -1,0 +1,1 @@
+// The expression that a node of a file stands for: theory only.

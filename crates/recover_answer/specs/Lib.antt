@@ -1,0 +1,3 @@
+pub mod Recover
+pub mod RecoverLaws
+pub mod Numbers

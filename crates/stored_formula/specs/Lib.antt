@@ -1,0 +1,12 @@
+pub mod ColumnPlace
+pub mod ColumnPlaceLaws
+pub mod WrittenColumns
+pub mod FormulaBytes
+pub mod StepCells
+pub mod NodeColumn
+pub mod FilledNodes
+pub mod FormulaBytesLaws
+pub mod Formula
+pub mod FormulaLaws
+pub mod StoredFormula
+pub mod Theorems

@@ -1,0 +1,1 @@
+// The types of a node over a membership table: theory only.

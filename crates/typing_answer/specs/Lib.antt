@@ -1,0 +1,4 @@
+pub mod TypeWords
+pub mod Typing
+pub mod TypingLaws
+pub mod Numbers

@@ -1,0 +1,5 @@
+pub mod TableTyped
+pub mod Theorems
+pub mod Agreement
+pub mod Answered
+pub mod Witness

@@ -1,0 +1,5 @@
+pub mod Lowest
+pub mod LowestLaws
+pub mod Verdict
+pub mod VerdictLaws
+pub mod Numbers

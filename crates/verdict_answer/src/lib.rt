@@ -1,0 +1,16 @@
+// What Verdict answers and leaves in its slices, and the laws of it: no code.
+use refusal::Refusal;
+
+// The lowest special attribute whose column allows nothing, or 16, and the lowest allowed subset of each
+// special attribute below it; 0 for any other number.
+pub struct Subsets {
+    pub blocked: u8,
+    pub chosen: [u8; 16],
+}
+
+// The length of the witness schema, or the lowest special attribute whose column allows nothing, or the first refusal.
+pub enum Outcome {
+    Typable(usize),
+    Untypable(u8),
+    Refused(Refusal),
+}

@@ -1,0 +1,2 @@
+pub mod WitnessLaws
+pub mod Theorems

@@ -1,0 +1,1 @@
+// Demand 3 for Verdict's answers: theory only.

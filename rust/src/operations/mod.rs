@@ -1,0 +1,11 @@
+//! The operations on slices (FORMAT, section 7).
+
+mod files;
+mod formulas;
+mod instantiations;
+mod schemas;
+
+pub use files::{accept, read_node, record};
+pub use formulas::{formula, verdict, Verdict};
+pub use instantiations::{apply, recover, Application, Recovery};
+pub use schemas::{typing, Typing};
