@@ -13,7 +13,7 @@ use Rattle.bits.specs.Word.{word}
 use Rattle.bits.specs.Tab.{tab, getD-tab}
 use Rattle.membership.specs.Entries.{attributeOf, enter, TableIn}
 use Rattle.membership.specs.EnterLaws.{enter-none, enter-higher, enter-equal, enter-few, joined-attribute, joined-again}
-use Rattle.entering.specs.Runs.{Passed, Copying, hasEntry, has-entry}
+use Rattle.entry_runs.specs.Runs.{Passed, Copying, hasEntry, has-entry}
 use Rattle.entering.specs.Merging.{Enters, Merged, listed-size, earlier-size}
 use Rattle.membership.specs.TableLaws.{table-written}
 

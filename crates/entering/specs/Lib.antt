@@ -1,3 +1,2 @@
-pub mod Runs
 pub mod Merging
 pub mod Entering

@@ -16,7 +16,7 @@ use Rattle.bits.specs.Tab.{tab, length-tab, getD-tab, map-tab}
 use Rattle.bits.specs.Written.{Written, written-none, written-more}
 use Rattle.membership.specs.Entries.{entry, attributeOf, enter, ListFits}
 use Rattle.membership.specs.EnterLaws.{enter-none, enter-first, enter-lower, enter-higher, enter-equal}
-use Rattle.entering.specs.Runs.{Passed, Copying, Entered, copying-part, hasEntry, has-entry, no-entry}
+use Rattle.entry_runs.specs.Runs.{Passed, Copying, Entered, copying-part, hasEntry, has-entry, no-entry}
 
 -- a list of bytes, and so many earlier entries that are merged with it
 pub record Enters (list : List ℕ) (count : ℕ) (earlier : List ℕ) (old : ℕ) : Type 0 where

@@ -9,8 +9,8 @@ ghost use Rattle.membership.specs.Entries.{enter as entries, TableIn};
 ghost use Rattle.entering.specs.Merging.{Enters};
 ghost use Rattle.entering.specs.Entering.{CopyFits};
 use crate::merging::merge_into;
-use crate::runs::copy_run;
-use crate::runs::mark_one;
+use entry_runs::copy_run;
+use entry_runs::mark_one;
 
 // Adds the subset to the entries of the listed attributes, up to the first attribute that has none: whether there is
 // no such attribute. What entering the list gives is the same before and after.

@@ -5,10 +5,10 @@ ghost use lib.ListN.{length, take};
 ghost use Rattle.bits.specs.Tab.{tab};
 ghost use Rattle.bits.specs.Word.{word};
 ghost use Rattle.membership.specs.Entries.{entry, ListFits, enter as entries};
-ghost use Rattle.entering.specs.Runs.{Copying};
+ghost use Rattle.entry_runs.specs.Runs.{Copying};
 ghost use Rattle.entering.specs.Merging.{Enters, Merge, Merged};
-use crate::runs::copy_run;
-use crate::runs::enter_one;
+use entry_runs::copy_run;
+use entry_runs::enter_one;
 
 // How far a merge has come: listed attributes and earlier entries that are used up, and entries that are written.
 pub struct Merging {

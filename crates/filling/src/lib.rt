@@ -25,11 +25,11 @@ use node_columns::fill_join;
 use node_columns::fill_product;
 use node_columns::fill_projecting_out;
 use node_columns::fill_projection;
-use node_columns::fill_relation;
 use node_columns::fill_renaming;
 use node_columns::fill_selection;
 use node_columns::fill_union;
 use node_reader::decode;
+use stored_columns::fill_relation;
 
 // The formula of node k, an operator of two operands.
 fn fill_binary(op: BinaryOp, l: u8, r: u8, k: u8, work: &mut [u8])

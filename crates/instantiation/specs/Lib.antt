@@ -15,3 +15,5 @@ pub mod TableLaws
 pub mod SortedLists
 pub mod ListZero
 pub mod StandingBits
+pub mod ListsResumed
+pub mod OneMoreList

@@ -19,8 +19,8 @@ use Rattle.instantiation.specs.declared.ListsReading.the-variants.{Listed as Li
 use Rattle.instantiation.specs.Instantiation.{Lists, standing, readLists}
 use Rattle.instantiation.specs.Gathering.{listedFrom, gathered, GatheredIn, Appends}
 use Rattle.instantiation_reader.proofs.AppendedEntries.{append-table, append-few}
-use Rattle.instantiation_reader.proofs.OneMoreList.{entries-more}
-use Rattle.instantiation_reader.proofs.ListsResumed.{Walk, walk-start, rest-clear, walk-clear, Reads, walk-refused, list-inside, list-fits, attributes-are, walk-next, walk-followed, walk-end}
+use Rattle.instantiation.specs.OneMoreList.{entries-more}
+use Rattle.instantiation.specs.ListsResumed.{Walk, walk-start, rest-clear, walk-clear, Reads, walk-refused, list-inside, list-fits, attributes-are, walk-next, walk-followed, walk-end}
 
 pub record Resumed (bytes before items : List ℕ) (k at s : ℕ) : Type 0 where
   pub walk : Walk bytes at s

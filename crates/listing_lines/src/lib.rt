@@ -11,7 +11,7 @@ use attribute_set::AttrSet;
 use listing_entries::Kind;
 use listing_entries::is_blocked;
 use listing_entries::write_list;
-use node_columns::read_column;
+use stored_columns::read_column;
 use text::write_byte;
 use text::write_bytes;
 use text::write_decimal;

@@ -7,7 +7,7 @@ ghost use Rattle.column.specs.Column.{allowedIn};
 ghost use Rattle.verdict_answer.specs.Lowest.{subsetsAt};
 ghost use Rattle.admission.specs.Admission.{formulaSize};
 use column::allowed_in;
-use node_columns::read_column;
+use stored_columns::read_column;
 use verdict_answer::Subsets;
 
 // The lowest subset that a column allows, or 256.

@@ -10,7 +10,7 @@ ghost use Rattle.typing_answer.specs.Typing.{tableAnswer, tableOut};
 ghost use Rattle.type_sets.specs.Sets.{widthOf};
 ghost use Rattle.type_record.specs.Record.{outputSize};
 use crate::output::list_output;
-use node_sets::fill_sets;
+use set_filling::fill_sets;
 use type_record::write_record;
 use typing_answer::Answer;
 

@@ -24,7 +24,7 @@ use Rattle.schema.specs.TableLaws.{schema-read, read-schema, read-entries, hand
 use Rattle.schema.specs.declared.reading.Judgement.the-variants.{Read, Refused as SchemaRefused}
 use Rattle.schema.specs.declared.reading.SchemaReading.{SchemaReading}
 use Rattle.type_sets.specs.Sets.{widthOf, TypeIn, wordsAt}
-use Rattle.node_sets.specs.FilledSets.{Filled}
+use Rattle.set_filling.specs.FilledSets.{Filled}
 use Rattle.table_types.specs.Output.{typedIn, outputMap, outputList}
 use Rattle.table_types.specs.OutputLaws.{map-even}
 use Rattle.typing_answer.specs.TypeWords.{OutputBits, typed-words, map-is, entry-output}

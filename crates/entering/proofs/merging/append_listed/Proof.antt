@@ -1,5 +1,5 @@
 use Rattle.membership.specs.Entries.{entry}
-use Rattle.entering.specs.Runs.{Copying, copying-first, copying-value, copying-end}
+use Rattle.entry_runs.specs.Runs.{Copying, copying-first, copying-value, copying-end}
 use Rattle.bits.specs.Word.{word}
 use Rattle.bits.specs.Tab.{tab, getD-tab}
 use mathlib.Core.Path.{sym, ap, _∙_}

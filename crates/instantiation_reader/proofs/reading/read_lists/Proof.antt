@@ -1,5 +1,5 @@
 use Rattle.instantiation_reader.proofs.EntriesResumed.{Resumed, resumed-start, resumed-byte, resumed-clear, resumed-refused, resumed-appends, resumed-next, resumed-followed, resumed-end}
-use Rattle.instantiation_reader.proofs.ListsResumed.{list-inside}
+use Rattle.instantiation.specs.ListsResumed.{list-inside}
 use Rattle.bits.specs.Bit.{bit-test}
 use borrow.Author.Tests.{eq-eqb, ne-eqb}
 use native.Mathlib.Omega.{arith}

@@ -1,0 +1,16 @@
+use native.Mathlib.Omega.{arith}
+use Rattle.bits.specs.Bit.{shifted-one}
+use Rattle.type_sets.specs.Sets.{lacking, without}
+use borrow.Author.Needs.{needs}
+use Rattle.node_sets.proofs.lay_projecting_out as fn
+use fn.Statement.{statement}
+use fn.Tie as tie
+
+returns : tie.Need-returns
+unfolding lacking without
+returns c = rw (shifted-one 64 c.before.before.before.before.before.before.args.old (omega arith)) at c.before.before.keep-entries.ensures
+
+pub lay-projecting-out-spec : {M : Type 1} → statement M
+lay-projecting-out-spec =
+    tie.close (tie.spec (λ c. search needs) (λ c. search needs) (λ c. search needs) (λ c. search needs)
+    (λ c κs. search needs) (λ c. search needs) returns)

@@ -1,0 +1,2 @@
+mod MarkedList
+mod MarkedLists
