@@ -5,8 +5,7 @@ use mathlib.Core.Bool.{Bool, true, false, not}
 use mathlib.Core.List.{List}
 use native.Mathlib.Omega.{arith}
 use lib.ListN.{length, getD, take}
-use lib.Seq.{length-take-le, getD-take}
-use Rattle.bits.specs.AllBelow.{allBelow, all-same}
+use Rattle.bits.specs.AllBelow.{allBelow}
 use Rattle.bits.specs.Tab.{over}
 use Rattle.bits.specs.Word.{Bytes}
 use Rattle.refusal.specs.Chain.{refuse, refuse-stops, refuse-passes}
@@ -30,7 +29,7 @@ use Rattle.membership.specs.TableLaws.{items-stand}
 use Rattle.schema.specs.Schema.{schemaBytes, recordsOf, EntriesStand, WritesFrom, schemaSize}
 use Rattle.schema.specs.declared.reading.Judgement.{Judgement}
 use Rattle.schema.specs.declared.reading.Judgement.the-variants.{Read, Refused as ReadRefused}
-use Rattle.instantiation.specs.Instantiation.{Instantiation, entriesIn, instantiationReading, readingOf}
+use Rattle.instantiation.specs.Instantiation.{Instantiation, instantiationReading, readingOf}
 use Rattle.instantiation.specs.ReadLaws.{lists-read}
 use Rattle.instantiation.specs.EntriesLaws.{entries-below}
 use Rattle.instantiation.specs.TableLaws.{ReadInstantiation, instantiation-read, handed-on, subsets-size, subsets-none, subsets-small}
@@ -40,8 +39,8 @@ use Rattle.typing_answer.specs.Typing.{afterSchema}
 use Rattle.table_types.specs.OutputLaws.{map-even}
 use Rattle.special_maps.specs.Special.{mapsFrom}
 use Rattle.special_maps.specs.SpecialLaws.{maps-length, maps-even}
-use Rattle.fitting.specs.StoredFit.{entriesAllowed, specialsAllowed, storedMap, storedList}
-use Rattle.fitting.specs.Fit.{entriesFit, specialsFit, entries-stored, specials-stored, map-stored, list-stored}
+use Rattle.fitting.specs.StoredFit.{specialsAllowed, storedMap, storedList}
+use Rattle.fitting.specs.Fit.{entriesFit, specialsFit, entries-counted, entries-stored, specials-stored, map-stored, list-stored}
 use Rattle.apply_answer.specs.Apply.{afterFit, imageBytes, outputBytes, tableApplied, tableImage, tableOutput, readApplied, readImage, readOutput, readSpace, applyAnswer, applySpace, applySchema, applyOut}
 use Rattle.apply_answer.specs.declared.Application.{Application}
 use Rattle.apply_answer.specs.declared.Application.the-variants.{Applied, Refused}
@@ -68,14 +67,19 @@ pub entries-tested :
     → (t : Bool)
     → t ≡ allBelow count (λ i. typeVariable (allowedIn (columnAt work k 0)) (subsetOf (getD items i 0)))
     → t ≡ entriesFit m (expressionAt file k) (take count items)
-unfolding entriesAllowed
 entries-tested file m k work items count filled enough t is =
-    is
-    ∙ all-same count (λ i. typeVariable (allowedIn (columnAt work k 0)) (subsetOf (getD items i 0)))
-    (λ i. typeVariable (allowedIn (columnAt work k 0)) (subsetOf (getD (take count items) i 0)))
-    (λ i h. ap (λ (x : ℕ). typeVariable (allowedIn (columnAt work k 0)) (subsetOf x)) (sym (getD-take count items i 0 h)))
-    ∙ ap (λ (n : ℕ). allBelow n (λ i. typeVariable (allowedIn (columnAt work k 0)) (subsetOf (getD (take count items) i 0)))) (sym (length-take-le count items enough))
-    ∙ entries-stored work k m (expressionAt file k) (filled .columns) (take count items)
+    is ∙ entries-counted work k items count enough ∙ entries-stored work k m (expressionAt file k) (filled .columns) (take count items)
+
+-- ---- the work space, by what reading gave
+
+module _ (file : List ℕ) (m n : ℕ) (judgement : Judgement) (work : List ℕ) where
+  pub space-stops : (r : Refusal) → judgement ≡ ReadRefused r → work ≡ readSpace file m n judgement work
+  unfolding readSpace
+  space-stops r is = rw is refl
+
+  pub space-goes : judgement ≡ Read → over (formulasOf file m n) work ≡ readSpace file m n judgement work
+  unfolding readSpace
+  space-goes is = rw is refl
 
 -- ---- what a table gives: the answer, the image and the output record
 

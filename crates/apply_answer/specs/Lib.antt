@@ -1,3 +1,4 @@
 pub mod Apply
 pub mod ApplyLaws
 pub mod Numbers
+pub mod WorkSpace

@@ -10,7 +10,7 @@ use Rattle.bits.specs.Booleans.{is-false}
 use Rattle.bits.specs.Range.{in-range, range-in}
 use Rattle.attribute_set.specs.declared.AttrSet.{AttrSet}
 use Rattle.attribute_set.specs.declared.Built.the-variants.{Set, NoSet}
-use Rattle.attribute_set.specs.AttrSet.{special, hasAttribute, emptySet, setOf, fromBits, withAttribute}
+use Rattle.attribute_set.specs.AttrSet.{special, hasAttribute, emptySet, bitsOf, setOf, fromBits, withAttribute}
 
 pub special-range : (a : ℕ) → special a ≡ true → (1 ≤ a) × (a ≤ 15)
 unfolding special
@@ -29,6 +29,11 @@ special-zero = is-false (special 0) (λ e. let range = special-range 0 e in omeg
 pub special-in : (a : ℕ) → 1 ≤ a → a ≤ 15 → special a ≡ true
 unfolding special
 special-in a l h = range-in 1 15 a l h
+
+-- a set has the attributes whose bits stand
+pub has-bit : (s : AttrSet) (a : ℕ) → hasAttribute s a ≡ bit (bitsOf s) a
+unfolding hasAttribute
+has-bit s a = refl
 
 pub has-empty : (a : ℕ) → hasAttribute emptySet a ≡ false
 unfolding hasAttribute

@@ -1,11 +1,11 @@
 -- The bits of a number.
-use Prim.Native.Nat.{ℕ, zero, suc, _*_, _/_, _%_, _^_, _-_, _<_}
+use Prim.Native.Nat.{ℕ, zero, suc, _+_, _*_, _/_, _%_, _^_, _-_, _<_}
 use mathlib.Core.Path.{_≡_, refl, sym, ap, _∙_}
 use mathlib.Core.Bool.{Bool, true, false, not, _||_, _&&_, and-true, true≢false}
 use native.Mathlib.Nat.{div-one, div-div-eq-div-mul, div-eq-of-lt, mul-comm, one-mul, pow-suc, mod-lt, mod-eq-of-lt, le-of-suc-le-suc, mul-div-cancel, mul-mod-left, zero-div}
 use native.Mathlib.Omega.{arith}
 use borrow.Author.Tests.{eq-eqb}
-use lib.Pow.{pow-pos, pow-lt}
+use lib.Pow.{pow-pos, pow-lt, shr-shr}
 use lib.Dec.{eqb, eqb·zero-suc, eqb·suc-zero, eqb·suc-suc, lit<}
 use lib.Bits.{xor-add-and, and-mask, bitOr, or-shr, or-mod, bitAnd, and-shr, and-mod, bitXor, xor-shr, xor-mod}
 
@@ -22,6 +22,11 @@ differs false b = b
 pub bit-test : (x j : ℕ) → eqb (x / 2 ^ j % 2) 1 ≡ bit x j
 unfolding bit
 bit-test x j = refl
+
+-- a number shifted to the right
+pub bit-right : (x s j : ℕ) → bit (x / 2 ^ s) j ≡ bit x (s + j)
+unfolding bit
+bit-right x s j = ap (λ (d : ℕ). eqb (d % 2) 1) (shr-shr x s j)
 
 pub bit-first : (x : ℕ) → bit x 0 ≡ eqb (x % 2) 1
 unfolding bit

@@ -103,10 +103,15 @@ module _ {A : Type 0} where
   unfolding over
   over-length a old h = length-append a (drop (length a) old) ∙ (let l = length-drop (length a) old in omega arith)
 
+  -- as much written over what was written
+  pub over-covered : (a b old : List A) → length b ≡ length a → over a (over b old) ≡ over a old
+  unfolding over
+  over-covered a b old same =
+      ap (λ (l : List A). a ++ l) (drop-at b (drop (length b) old) (length a) same ∙ ap (λ (n : ℕ). drop n old) same)
+
   -- the same written twice
   pub over-twice : (a old : List A) → over a (over a old) ≡ over a old
-  unfolding over
-  over-twice a old = ap (λ (l : List A). a ++ l) (drop-at a (drop (length a) old) (length a) refl)
+  over-twice a old = over-covered a a old refl
 
   pub over-front : (a old : List A) (i : ℕ) (d : A) → i < length a → getD (over a old) i d ≡ getD a i d
   unfolding over

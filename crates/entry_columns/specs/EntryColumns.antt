@@ -12,21 +12,17 @@ use borrow.Author.Tests.{ltb-true, ltb-false, eqb-true, lt-ltb, le-ltb}
 use lib.Bits.{bitOr, bitAnd, bitXor}
 use lib.Dec.{ltb, eqb, lit<}
 use lib.ListN.{length, getD, set, take, length-set, List·getD-eq-default}
-use lib.Pow.{pow-mono, shl-shr, shr-shr}
+use lib.Pow.{pow-mono, shl-shr}
 use lib.Seq.{getD-take, getD-set-same, getD-set-other, length-take-le}
 use Rattle.bits.specs.AllBelow.{allBelow, all-in}
-use Rattle.bits.specs.Bit.{bit, differs, bit-above, bit-none, bit-or, bit-and, bit-xor, bit-low}
+use Rattle.bits.specs.Bit.{bit, differs, bit-above, bit-none, bit-or, bit-and, bit-xor, bit-low, bit-right}
 use Rattle.bits.specs.Booleans.{and-left, and-right}
 use Rattle.bits.specs.Pack.{bits-once}
 use Rattle.type_sets.specs.Sets.{relationWord}
 use Rattle.type_sets.specs.SetLaws.{one-table}
 use Rattle.type_sets.specs.SetCells.{relation-bit, relation-below}
 
--- ---- the bits of a word under shifts
-
-bit-right : (x s k : ℕ) → bit (x / 2 ^ s) k ≡ bit x (s + k)
-unfolding bit
-bit-right x s k = ap (λ (d : ℕ). eqb (d % 2) 1) (shr-shr x s k)
+-- ---- the bits of a word shifted to the left
 
 bit-left : (x s k : ℕ) → k < 64 → bit (x * 2 ^ s % 2 ^ 64) k ≡ cond (ltb k s) false (bit x (k - s))
 bit-left x s k h = bit-low 64 (x * 2 ^ s) k h ∙ go (decLt k s)

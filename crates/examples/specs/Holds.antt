@@ -201,7 +201,7 @@ verdict-holds :
     → x .nodes * formulaSize ≤ length work
     → schemaSize ≤ length schema
     → VerdictHolds x work schema
-unfolding outcomeBy schemaBy blockedOf witnessOf
+unfolding outcomeBy schemaBy
 verdict-holds x accepted blocked t some work schema space slice =
     let admits = admitted-passes (x .file) (x .nodes - 1) (length work) (record { accepted = accepted; node = omega arith; workSpace = space }) in
     let goes = sliced-passes (admitted (x .file) (x .nodes - 1) (length work)) (length schema) schemaSize admits slice in
@@ -294,8 +294,8 @@ each-holds (x ∷ xs) t (suc i) h = each-holds xs (right (passes x) (every xs) t
 -- the theorem: every case of the table holds; antt computes the test
 pub examples-hold : (i : ℕ) → i < length table → Holds (getD table i none)
 unfolding every passes same accepts columnsPass witnessPasses outputPasses recordsPass typingsPass readRecords readRecord readList readFrom
-    recordSize recordAt listed word entriesOf mapsOf enter typedIn outputMap recordBytes passing lowestOf blockedBy blockedOf
-    chosenBy witnessBytes witnessOf schemaBytes recordsOf mapsFrom mapOf pack tab bit lowestFrom allowedBit outputBit expressionAt earlier
+    recordSize recordAt listed word entriesOf mapsOf enter typedIn outputMap recordBytes passing lowestOf blockedBy
+    chosenBy witnessBytes schemaBytes recordsOf mapsFrom mapOf pack tab bit lowestFrom allowedBit outputBit expressionAt earlier
     acceptance parse header readNodes readNode checkNode checkFields sizeOf nodeOf refuse inRange special hasAttribute setOf binaryOf
     setOpOf placedAt nodeEntries table
 examples-hold = each-holds table tt

@@ -8,7 +8,8 @@ use native.Mathlib.Nat.{lt-of-lt-of-le, mod-lt}
 use native.Mathlib.Omega.{arith}
 use borrow.Author.Tests.{lt-ltb, ltb-true}
 use lib.Dec.{ltb, lit<}
-use lib.ListN.{length, getD}
+use lib.ListN.{length, getD, take}
+use lib.Seq.{length-take-le, getD-take}
 use lib.Pow.{pow-pos}
 use Rattle.bits.specs.Booleans.{and-left, and-right}
 use Rattle.bits.specs.AllBelow.{allBelow, in-all, all-in, all-same}
@@ -64,6 +65,17 @@ module _ (m : ℕ) (e : Expression) where
   fit-specials subsets each = in-all 15 (λ i. allowedBit m e (i + 1) (getD subsets (i + 1) 0)) (λ i h. each (i + 1) (omega arith) (omega arith))
 
 -- ---- as the work space says
+
+-- the entries in memory, so many of them
+pub entries-counted :
+    (work : List ℕ) (k : ℕ) (items : List ℕ) (count : ℕ)
+    → count ≤ length items
+    → allBelow count (λ i. typeVariable (allowedIn (columnAt work k 0)) (subsetOf (getD items i 0))) ≡ entriesAllowed work k (take count items)
+unfolding entriesAllowed
+entries-counted work k items count enough =
+    all-same count _ (λ i. typeVariable (allowedIn (columnAt work k 0)) (subsetOf (getD (take count items) i 0)))
+    (λ i h. ap (λ (x : ℕ). typeVariable (allowedIn (columnAt work k 0)) (subsetOf x)) (sym (getD-take count items i 0 h)))
+    ∙ ap (λ (n : ℕ). allBelow n (λ i. typeVariable (allowedIn (columnAt work k 0)) (subsetOf (getD (take count items) i 0)))) (sym (length-take-le count items enough))
 
 -- a work space that holds the columns of e at node k
 module _ (work : List ℕ) (k m : ℕ) (e : Expression) (columns : (c : ℕ) → c < 16 → columnAt work k c ≡ cellColumn m e c) where

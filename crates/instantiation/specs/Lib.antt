@@ -17,3 +17,4 @@ pub mod ListZero
 pub mod StandingBits
 pub mod ListsResumed
 pub mod OneMoreList
+pub mod TestsAfterLists

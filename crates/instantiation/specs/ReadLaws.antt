@@ -2,7 +2,7 @@
 use Prim.Native.Nat.{ℕ, zero, suc, _+_, _-_, _*_, _/_, _%_, _≤_, _<_}
 use mathlib.Core.Path.{_≡_, sym, ap, ap₂, _∙_}
 use mathlib.Core.Bool.{cond}
-use mathlib.Core.List.{List, [], _++_}
+use mathlib.Core.List.{List, [], _++_, append-assoc}
 use native.Mathlib.Omega.{arith}
 use borrow.Author.Tests.{ne-eqb}
 use lib.Dec.{eqb}
@@ -81,13 +81,20 @@ module _ (subsets : List ℕ) (ls : List (List ℕ)) where
   abbrev front : List ℕ
   front = tab 15 (λ i. getD subsets (i + 1) 0)
 
-  -- the subsets and the map, at least
-  pub written-long : 47 ≤ length (instantiationBytes subsets ls)
+  -- the subsets, the map and the lists
+  pub bytes-parts : (tab 15 (λ i. getD subsets (i + 1) 0) ++ tab 32 (mapByte ls)) ++ listsBytes ls ≡ instantiationBytes subsets ls
   unfolding instantiationBytes
-  written-long =
+  bytes-parts = append-assoc front (tab 32 (mapByte ls)) (listsBytes ls)
+
+  pub bytes-length : length (instantiationBytes subsets ls) ≡ 47 + length (listsBytes ls)
+  unfolding instantiationBytes
+  bytes-length =
       let size = length-tab 15 (λ i. getD subsets (i + 1) 0) in
       let all = length-tab 32 (mapByte ls) in
       rw (length-append, length-append) (omega arith)
+
+  pub written-long : 47 ≤ length (instantiationBytes subsets ls)
+  written-long = let size = bytes-length in omega arith
 
   written-after : drop 47 (instantiationBytes subsets ls) ≡ listsBytes ls
   unfolding instantiationBytes

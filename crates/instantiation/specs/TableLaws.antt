@@ -8,7 +8,7 @@ use native.Mathlib.Omega.{arith}
 use borrow.Author.Tests.{le-ltb, ltb-false}
 use lib.Dec.{eqb, ltb, lit<, lit≤}
 use lib.ListN.{length, getD, drop, List·getD-eq-default}
-use Rattle.bits.specs.Tab.{tab, length-tab, getD-tab}
+use Rattle.bits.specs.Tab.{tab, length-tab, getD-tab, tab-is}
 use Rattle.bits.specs.Word.{Bytes}
 use Rattle.refusal.specs.Number.{numberOf}
 use Rattle.refusal.specs.declared.Refusal.{Refusal}
@@ -188,6 +188,11 @@ module _ (bytes : List ℕ) where
   pub subsets-size : length (subsetsOf bytes) ≡ 16
   unfolding subsetsOf
   subsets-size = length-tab 16 (λ i. cond (eqb i 0) 0 (getD bytes (i - 1) 0))
+
+  -- those of a list with the bytes of each special attribute
+  pub subsets-are : (subsets : List ℕ) → length subsets ≡ 16 → ((i : ℕ) → i < 16 → getD subsets i 0 ≡ cond (eqb i 0) 0 (getD bytes (i - 1) 0)) → subsets ≡ subsetsOf bytes
+  unfolding subsetsOf
+  subsets-are subsets size each = tab-is 16 (λ i. cond (eqb i 0) 0 (getD bytes (i - 1) 0)) 0 subsets size each
 
   pub subsets-none : getD (subsetsOf bytes) 0 0 ≡ 0
   unfolding subsetsOf

@@ -1,3 +1,2 @@
 mod AppendedEntries
 mod EntriesResumed
-mod TestsAfterLists

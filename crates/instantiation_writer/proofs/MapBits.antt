@@ -1,14 +1,14 @@
 -- How the map is written: the bits of the subsets of the entries before i stand.
 use Prim.Native.Nat.{ℕ, suc, _+_, _*_, _/_, _%_, _^_, _≤_, _<_}
 use mathlib.Core.Path.{_≡_, refl, sym, ap, _∙_}
-use mathlib.Core.List.{List, _++_}
+use mathlib.Core.List.{List}
 use native.Mathlib.Decide.{ℕ-discrete}
 use native.Mathlib.Numerals.{add-one}
 use native.Mathlib.Omega.{arith}
 use lib.Bits.{bitOr}
-use lib.ListN.{length, getD, set, take, drop, length-set}
-use lib.Seq.{drop-at, getD-take, getD-set-same, getD-set-other, length-take-le, take-all}
-use Rattle.bits.specs.Tab.{tab, length-tab, getD-tab, over, over-front}
+use lib.ListN.{length, getD, set, take, length-set}
+use lib.Seq.{getD-take, getD-set-same, getD-set-other, length-take-le, take-all}
+use Rattle.bits.specs.Tab.{tab, length-tab, getD-tab, over, over-front, over-covered}
 use Rattle.bits.specs.Written.{Written, written-all}
 use Rattle.instantiation.specs.Instantiation.{listsOf, mapByte}
 use Rattle.instantiation.specs.SubsetBits.{bitsOf, bits-none, bits-here, bits-other, bits-all}
@@ -77,12 +77,6 @@ cleared old out is j h =
 
 -- what is written over it
 pub over-cleared : (f : ℕ → ℕ) (old out map : List ℕ) → out ≡ over (tab 32 (λ j. 0)) old → map ≡ over (tab 32 f) out → map ≡ over (tab 32 f) old
-unfolding over
 over-cleared f old out map out-is map-is =
-    let zeros = length-tab {A = ℕ} 32 (λ j. 0) in
-    let size = length-tab 32 f in
-    map-is
-    ∙ ap (λ (l : List ℕ). tab 32 f ++ l)
-    (ap (λ (l : List ℕ). drop (length (tab 32 f)) l) out-is
-    ∙ drop-at (tab 32 (λ j. 0)) (drop (length (tab 32 (λ j. 0))) old) (length (tab 32 f)) (zeros ∙ sym size)
-    ∙ ap (λ (n : ℕ). drop n old) (zeros ∙ sym size))
+    map-is ∙ ap (over (tab 32 f)) out-is
+    ∙ over-covered (tab 32 f) (tab 32 (λ j. 0)) old (length-tab {A = ℕ} 32 (λ j. 0) ∙ sym (length-tab 32 f))

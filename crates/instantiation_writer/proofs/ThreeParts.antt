@@ -1,7 +1,7 @@
 -- The three parts of an instantiation, each written after the one before it, and the whole.
 use Prim.Native.Nat.{ℕ, _+_, _-_, _≤_}
 use mathlib.Core.Path.{_≡_, sym, ap, subst, _∙_}
-use mathlib.Core.List.{List, _++_, append-assoc}
+use mathlib.Core.List.{List, _++_}
 use native.Mathlib.Omega.{arith}
 use borrow.Rule.Slice.PartMut.{putMid, midOf}
 use lib.ListN.{length, getD, take, length-append}
@@ -13,6 +13,7 @@ use Rattle.entry_sorting.specs.SortedLaws.{RisingSubsets, subset-rising}
 use Rattle.entry_sorting.specs.Sorting.{byDigit}
 use Rattle.instantiation.specs.Instantiation.{listsOf, mapByte, listsBytes, instantiationBytes, WritesFrom}
 use Rattle.instantiation.specs.EntriesLaws.{lists-most}
+use Rattle.instantiation.specs.ReadLaws.{bytes-parts, bytes-length}
 use Rattle.instantiation.specs.Runs.{BySubset, sorted-lists-of}
 
 -- what a part gives in the whole, where so many bytes stand before it
@@ -59,21 +60,16 @@ module _ (old subsets : List ℕ) (ls : List (List ℕ)) {out : List ℕ} (out-i
         ≡ over (listsBytes written) (midOf 47 (length (putMid 15 (length out - 15) out map) - 47) (putMid 15 (length out - 15) out map))
         → putMid 47 (length (putMid 15 (length out - 15) out map) - 47) (putMid 15 (length out - 15) out map) lists
         ≡ over (instantiationBytes subsets ls) old
-    unfolding instantiationBytes
     whole-written {lists} same lists-written =
         part-over 47 (special subsets ++ tab 32 (mapByte ls)) (listsBytes ls) old (putMid 15 (length out - 15) out map) lists head-length
         head-is (rw same at lists-written)
-        ∙ ap (λ (l : List ℕ). over l old) (append-assoc (special subsets) (tab 32 (mapByte ls)) (listsBytes ls))
+        ∙ ap (λ (l : List ℕ). over l old) (bytes-parts subsets ls)
 
 pub whole-length : {n : ℕ} (subsets : List ℕ) (ls : List (List ℕ)) {written : List (List ℕ)} → written ≡ ls →
     n ≡ length (listsBytes written) → 47 + n ≡ length (instantiationBytes subsets ls)
-unfolding instantiationBytes
 whole-length {n} subsets ls same n-is =
     let size = n-is ∙ ap (λ (l : List (List ℕ)). length (listsBytes l)) same in
-    let a = length-tab 15 (λ i. getD subsets (i + 1) 0) in
-    let b = length-tab 32 (mapByte ls) in
-    let rest = length-append (tab 32 (mapByte ls)) (listsBytes ls) in
-    let both = length-append (special subsets) (tab 32 (mapByte ls) ++ listsBytes ls) in
+    let whole = bytes-length subsets ls in
     omega arith
 
 pub lists-short : {subsets : List ℕ} (items : List ℕ) (count : ℕ) {written : List (List ℕ)} → WritesFrom subsets items count →

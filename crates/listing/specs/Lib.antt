@@ -1,4 +1,3 @@
 pub mod Listing
 pub mod ListingLaws
-pub mod Enough
 pub mod Theorems

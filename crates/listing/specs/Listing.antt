@@ -10,7 +10,7 @@ use Rattle.refusal.specs.Chain.{refuse}
 use Rattle.stored_formula.specs.Formula.{formulaSpace}
 use Rattle.listing.specs.declared.Listed.{Listed}
 use Rattle.listing.specs.declared.Listed.the-variants.{Text, Refused}
-use Rattle.listing_entries.specs.Text.{textOf}
+use Rattle.listing_lines.specs.Text.{textOf}
 
 -- FORMAT 7.13: 12 below 65,536 bytes of work space, then 13 below 32,768 bytes for the text, which
 -- are enough for every file

@@ -5,15 +5,13 @@ use mathlib.Core.Bool.{false}
 use mathlib.Core.List.{List, [], _∷_, _++_}
 use native.Mathlib.Omega.{arith}
 use borrow.Author.Tests.{lt-ltb, le-ltb}
-use lib.Dec.{ltb, lit≤}
+use lib.Dec.{ltb}
 use lib.ListN.{length, take, drop, length-append}
 use Rattle.bits.specs.Tab.{over, over-with, take-over}
 use Rattle.refusal.specs.Chain.{refuse, refuse-stops, refuse-passes, refuse-past}
 use Rattle.refusal.specs.Number.{numberOf}
 use Rattle.refusal.specs.declared.Refusal.{Refusal}
-use Rattle.refusal.specs.declared.Refusal.the-variants.{HeaderTruncated, RelationCount, NodeCount, NodeTruncated, NodeMap, OperatorCode, RelationNumber, Operand, Attribute, NodesFollowed, NodeNumber}
-use Rattle.refusal.specs.declared.Refusal.the-variants.{WorkSpace, ResultSlice, InputTruncated, CountZero, ListedAttribute, InputFollowed, TooManyAttributes, RepeatedAttribute, TypeVariable}
-use Rattle.refusal.specs.declared.Refusal.the-variants.{SpecialSubset}
+use Rattle.refusal.specs.declared.Refusal.the-variants.{WorkSpace, ResultSlice}
 use Rattle.attribute_set.specs.declared.AttrSet.{AttrSet}
 use Rattle.expression_file.specs.declared.files.Acceptance.{Acceptance}
 use Rattle.expression_file.specs.declared.files.Acceptance.the-variants.{Accepted, Refused as FileRefused}
@@ -27,7 +25,8 @@ use Rattle.stored_formula.specs.FormulaBytesLaws.{stored-column}
 use Rattle.listing.specs.declared.Listed.{Listed}
 use Rattle.listing.specs.declared.Listed.the-variants.{Text, Refused}
 use Rattle.text.specs.Characters.{decimal, newline}
-use Rattle.listing_entries.specs.Text.{listing, textAfter, textOf}
+use Rattle.listing_lines.specs.Text.{textOf}
+use Rattle.listing_lines.specs.TextLaws.{text-accepted, text-refused}
 use Rattle.listing.specs.Listing.{checked, listedAnswer, listedText, listedSpace}
 use Rattle.text.specs.Put.{Wrote, wrote-as, wrote-front}
 use Rattle.listing_lines.specs.Lines.{linesText}
@@ -46,39 +45,6 @@ refused-file file size r enough e = go (acceptance file) refl
         let few = accepted-file file m n is .counts .nodes .1 in
         let filled = answer-filled file size m n is (omega arith) in
         absurd (let z : _≡_ {A = ℕ} 0 1 = cc in omega arith)
-
--- ---- the text
-
-pub text-accepted : (file : List ℕ) (m n : ℕ) → acceptance file ≡ Accepted m n → textOf file ≡ listing file m n
-unfolding textOf
-text-accepted file m n e = ap (λ (a : Acceptance). textAfter a file) e
-
-pub text-refused : (file : List ℕ) (r : Refusal) → acceptance file ≡ FileRefused r → textOf file ≡ (114 ∷ 101 ∷ 102 ∷ 117 ∷ 115 ∷ 101 ∷ 100 ∷ 32 ∷ []) ++ decimal (numberOf r) ++ newline
-unfolding textOf
-text-refused file r e = ap (λ (a : Acceptance). textAfter a file) e
-
-pub number-most : (r : Refusal) → numberOf r ≤ 21
-number-most HeaderTruncated = lit≤ tt
-number-most RelationCount = lit≤ tt
-number-most NodeCount = lit≤ tt
-number-most NodeTruncated = lit≤ tt
-number-most NodeMap = lit≤ tt
-number-most OperatorCode = lit≤ tt
-number-most RelationNumber = lit≤ tt
-number-most Operand = lit≤ tt
-number-most Attribute = lit≤ tt
-number-most NodesFollowed = lit≤ tt
-number-most NodeNumber = lit≤ tt
-number-most WorkSpace = lit≤ tt
-number-most ResultSlice = lit≤ tt
-number-most InputTruncated = lit≤ tt
-number-most CountZero = lit≤ tt
-number-most ListedAttribute = lit≤ tt
-number-most InputFollowed = lit≤ tt
-number-most TooManyAttributes = lit≤ tt
-number-most RepeatedAttribute = lit≤ tt
-number-most TypeVariable = lit≤ tt
-number-most SpecialSubset = lit≤ tt
 
 -- ---- what was written is the text
 

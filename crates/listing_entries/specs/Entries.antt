@@ -1,6 +1,7 @@
 -- The entries of a list, read off a column's bits.
 use Prim.Native.Nat.{ℕ, _<_}
-use mathlib.Core.Bool.{Bool, cond, _&&_}
+use mathlib.Core.Bool.{Bool, true, false, cond, _&&_}
+use mathlib.Core.Path.{_≡_, refl}
 use mathlib.Core.List.{List, [], _∷_, _++_}
 use lib.Dec.{ltb}
 use Rattle.bits.specs.Bit.{bit}
@@ -10,7 +11,11 @@ use Rattle.listing_entries.specs.declared.entries.Kind.{Kind}
 use Rattle.listing_entries.specs.declared.entries.Kind.the-variants.{Variables, Output, Signed}
 use Rattle.text.specs.Characters.{subsetText}
 use Rattle.text.specs.Each.{each}
-use Rattle.listing_entries.specs.Text.{whenSo}
+
+-- what is printed where a test holds
+abbrev pub whenSo : Bool → List ℕ → List ℕ
+whenSo true text = text
+whenSo false text = []
 
 -- a relation's number is below 8
 abbrev pub KindFits : Kind → Type 0
@@ -33,6 +38,10 @@ signText Signed column s = cond (outputIn column s) 43 45 ∷ []
 -- what the line has for subset s: nothing where it is not in the list
 unfoldable pub entryText : Kind → List ℕ → ℕ → List ℕ
 entryText kind column s = whenSo (listed kind column s) (subsetText s ++ signText kind column s)
+
+pub entry-text : (kind : Kind) (column : List ℕ) (s : ℕ) → entryText kind column s ≡ whenSo (listed kind column s) (subsetText s ++ signText kind column s)
+unfolding entryText
+entry-text kind column s = refl
 
 -- the whole list
 abbrev pub listText : Kind → List ℕ → List ℕ

@@ -1,4 +1,2 @@
-pub mod Text
 pub mod Entries
 pub mod Naming
-pub mod Example

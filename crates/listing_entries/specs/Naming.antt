@@ -1,5 +1,5 @@
--- The set of the attributes that nodes name.
-use Prim.Native.Nat.{ℕ, _+_, _≤_, _<_}
+-- The attributes that nodes name, and the set of them (FORMAT 7.15).
+use Prim.Native.Nat.{ℕ, zero, suc, _+_, _≤_, _<_}
 use mathlib.Core.Path.{_≡_, refl, sym, ap, ap₂, _∙_}
 use mathlib.Core.Bool.{Bool, true, false, _&&_, _||_, or-false, or-comm}
 use mathlib.Core.Logic.{⊎-elim}
@@ -13,7 +13,24 @@ use Rattle.attribute_set.specs.declared.AttrSet.{AttrSet}
 use Rattle.attribute_set.specs.AttrSet.{special, hasAttribute, emptySet, withAttribute}
 use Rattle.attribute_set.specs.Laws.{special-in, has-empty, has-with}
 use Rattle.node.specs.declared.nodes.Node.{Node}
-use Rattle.listing_entries.specs.Text.{names, namedBelow}
+use Rattle.node.specs.declared.nodes.Node.the-variants.{Relation, Binary, WithSet, Renaming, ProjectingOut}
+
+-- ---- the attributes that nodes of the file name
+
+-- FORMAT 7.15: the node names attribute i, in its set, as old or as new
+abbrev pub names : Node → ℕ → Bool
+names (Relation r) i = false
+names (Binary op l r) i = false
+names (WithSet op k s) i = hasAttribute s i
+names (Renaming k old new) i = eqb old i || eqb new i
+names (ProjectingOut k old) i = eqb old i
+
+-- FORMAT 7.15: one of the nodes below n names it
+unfoldable pub namedBelow : (ℕ → Node) → ℕ → ℕ → Bool
+namedBelow node zero i = false
+namedBelow node (suc n) i = namedBelow node n i || names (node n) i
+
+-- ---- sets of attributes
 
 -- the set and what passes the test
 unfoldable pub Joined : AttrSet → (ℕ → Bool) → AttrSet → Type 0

@@ -1,9 +1,7 @@
 // The attributes and subsets that a line of the listing names, as text.
-mod blocked;
 mod entries;
 mod naming;
 
-pub use blocked::is_blocked;
 pub use entries::Kind;
 pub use entries::write_list;
 pub use naming::named_attributes;

@@ -1,2 +1,5 @@
+pub mod Text
 pub mod Lines
 pub mod LineLaws
+pub mod TextLaws
+pub mod Example

@@ -21,17 +21,16 @@ use Rattle.verdict_answer.specs.LowestLaws.{blocked-cells}
 use Rattle.listing_entries.specs.declared.entries.Kind.the-variants.{Variables, Output, Signed}
 use Rattle.text.specs.Characters.{decimal, subsetText, newline}
 use Rattle.text.specs.Each.{each, each-same}
-use Rattle.listing_entries.specs.Text.{whenSo, someBlocked, isBlocked, verdictText, nodeLine, relationLine, outLine, attributeLine, namedBelow, listing}
-use Rattle.listing_entries.specs.Entries.{entryText, listText}
+use Rattle.listing_entries.specs.Entries.{whenSo, listText, entry-text}
+use Rattle.listing_lines.specs.Text.{someBlocked, isBlocked, verdictText, nodeLine, relationLine, outLine, attributeLine, listing}
 use Rattle.listing_lines.specs.Lines.{nodeText, label, lineText, relationText, outText, attributeText, attributesText, linesText}
-use Rattle.listing_entries.specs.Naming.{Named, named-is}
+use Rattle.listing_entries.specs.Naming.{namedBelow, Named, named-is}
 
 -- ---- lists off an expression's columns
 
 module _ (m : ℕ) (e : Expression) where
   variables-list : (r : ℕ) → listText (Variables r) (cellColumn m e 0) ≡ each 256 (λ s. whenSo (typeVariable (allowedBit m e 0) s && bit s r) (subsetText s))
-  unfolding entryText
-  variables-list r = each-same 256 _ _ (λ s h. rw (cell-allowed m e 0 s h, append-nil))
+  variables-list r = each-same 256 _ _ (λ s h. entry-text (Variables r) (cellColumn m e 0) s ∙ rw (cell-allowed m e 0 s h, append-nil))
 
   -- a subset in the output of column 0 is allowed in it
   output-variable : (s : ℕ) → ltb 0 s && outputBit m e 0 s ≡ typeVariable (allowedBit m e 0) s && outputBit m e 0 s
@@ -44,12 +43,10 @@ module _ (m : ℕ) (e : Expression) where
       go true false false within = refl
 
   output-list : listText Output (cellColumn m e 0) ≡ each 256 (λ s. whenSo (typeVariable (allowedBit m e 0) s && outputBit m e 0 s) (subsetText s))
-  unfolding entryText
-  output-list = each-same 256 _ _ (λ s h. rw (cell-output m e 0 s h, append-nil, output-variable s))
+  output-list = each-same 256 _ _ (λ s h. entry-text Output (cellColumn m e 0) s ∙ rw (cell-output m e 0 s h, append-nil, output-variable s))
 
   signed-list : (i : ℕ) → listText Signed (cellColumn m e i) ≡ each 256 (λ s. whenSo (allowedBit m e i s) (subsetText s ++ (cond (outputBit m e i s) 43 45 ∷ [])))
-  unfolding entryText
-  signed-list i = each-same 256 _ _ (λ s h. rw (cell-allowed m e i s h, cell-output m e i s h))
+  signed-list i = each-same 256 _ _ (λ s h. entry-text Signed (cellColumn m e i) s ∙ rw (cell-allowed m e i s h, cell-output m e i s h))
 
   relation-line : (r : ℕ) → relationText (cellColumn m e 0) r ≡ relationLine m e r
   unfolding relationText lineText label relationLine

@@ -10,8 +10,8 @@ use Rattle.listing_entries.specs.declared.entries.Kind.{Kind}
 use Rattle.listing_entries.specs.declared.entries.Kind.the-variants.{Variables, Output, Signed}
 use Rattle.text.specs.Characters.{decimal, newline}
 use Rattle.text.specs.Each.{each}
-use Rattle.listing_entries.specs.Text.{whenSo, someBlocked, verdictText}
-use Rattle.listing_entries.specs.Entries.{listText}
+use Rattle.listing_entries.specs.Entries.{whenSo, listText}
+use Rattle.listing_lines.specs.Text.{someBlocked, verdictText}
 
 -- the node's line, by whether a column allows nothing
 unfoldable pub nodeText : Bool → ℕ → List ℕ

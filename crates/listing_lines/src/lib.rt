@@ -1,15 +1,17 @@
 // The lines of the listing.
+mod blocked;
+
 ghost use Prim.Native.Nat.{_+_, _≤_, _<_, _*_};
 ghost use lib.ListN.{length};
 ghost use Rattle.text.specs.Put.{Wrote};
 ghost use Rattle.text.specs.Each.{each};
-ghost use Rattle.listing_entries.specs.Text.{verdictText};
+ghost use Rattle.listing_lines.specs.Text.{verdictText};
 ghost use Rattle.listing_entries.specs.Entries.{KindFits};
 ghost use Rattle.listing_lines.specs.Lines.{nodeText, label, lineText, relationText, outText, attributeText, attributesText, linesText};
 ghost use Rattle.admission.specs.Admission.{formulaSize};
+use crate::blocked::is_blocked;
 use attribute_set::AttrSet;
 use listing_entries::Kind;
-use listing_entries::is_blocked;
 use listing_entries::write_list;
 use stored_columns::read_column;
 use text::write_byte;

@@ -26,6 +26,28 @@ checked-some bytes c =
     let least = p .least in
     omega arith
 
+-- the bytes of a node of each map (FORMAT 1.4)
+
+pub relation-size : sizeOf 1 ≡ 2
+unfolding sizeOf
+relation-size = refl
+
+pub binary-size : sizeOf 14 ≡ 4
+unfolding sizeOf
+binary-size = refl
+
+pub set-size : sizeOf 26 ≡ 5
+unfolding sizeOf
+set-size = refl
+
+pub renaming-size : sizeOf 98 ≡ 4
+unfolding sizeOf
+renaming-size = refl
+
+pub out-size : sizeOf 34 ≡ 3
+unfolding sizeOf
+out-size = refl
+
 module _ (bytes : List ℕ) (map : ℕ) (is : getD bytes 0 0 ≡ map) where
   -- they are as many as a node with their map has
   pub checked-long : Checked bytes → sizeOf map ≤ length bytes

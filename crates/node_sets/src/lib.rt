@@ -10,6 +10,8 @@ use node::BinaryOp;
 use node::SetOp;
 use type_sets::breaking;
 use type_sets::coming_out;
+use type_sets::lacking;
+use type_sets::without;
 
 // The words of a node of two operands, from their places to the node's.
 pub fn combine(sets: &mut [u64], op: BinaryOp, left: usize, right: usize, at: usize, width: usize)
@@ -107,12 +109,13 @@ pub fn lay_with_set(sets: &mut [u64], op: SetOp, from: usize, s: u64, at: usize,
     ensures { λ _. ⌜ SetLaid op from s at width (now (sets .entry)) (now (sets .exit)) ⌝ }
 {
     let x = sets[from + 1];
+    let broken = lacking(x, s);
     match op {
         SetOp::Selection => {
-            keep_entries(sets, from, at, width, (x | s) ^ x, x);
+            keep_entries(sets, from, at, width, broken, x);
         }
         SetOp::Projection => {
-            drop_entries(sets, from, at, width, (x | s) ^ x, s);
+            drop_entries(sets, from, at, width, broken, s);
         }
     }
 }
@@ -132,8 +135,8 @@ pub fn lay_renaming(sets: &mut [u64], from: usize, old: u8, new: u8, at: usize, 
         from,
         at,
         width,
-        ((x | o) ^ x) | (x & n),
-        ((x | o) ^ o) | n,
+        lacking(x, o) | (x & n),
+        without(x, o) | n,
     );
 }
 
@@ -146,5 +149,5 @@ pub fn lay_projecting_out(sets: &mut [u64], from: usize, old: u8, at: usize, wid
 {
     let x = sets[from + 1];
     let o = 1u64 << old;
-    keep_entries(sets, from, at, width, (x | o) ^ x, (x | o) ^ o);
+    keep_entries(sets, from, at, width, lacking(x, o), without(x, o));
 }

@@ -1,3 +1,4 @@
 pub mod Recover
 pub mod RecoverLaws
 pub mod Numbers
+pub mod WorkSpace

@@ -24,7 +24,7 @@ use Rattle.special_maps.specs.SpecialLaws.{subsets-small, subsets-size}
 use Rattle.fitting.specs.StoredFit.{specialsAllowed}
 use Rattle.fitting.specs.Fit.{entriesFit, specialsFit, specials-stored}
 use Rattle.apply_answer.specs.Apply.{readSpace}
-use Rattle.apply_answer.specs.ApplyLaws.{Filled, entries-tested}
+use Rattle.apply_answer.specs.ApplyLaws.{Filled, entries-tested, space-stops, space-goes}
 use Rattle.recover_answer.specs.Recover.{fits, recoveredBytes, tableRecovered, tableInstantiation, readRecovered, readInstantiation, recoverAnswer, recoverSpace, recoverOut}
 use Rattle.recover_answer.specs.declared.Recovery.{Recovery}
 use Rattle.recover_answer.specs.declared.Recovery.the-variants.{Recovered, Untyped, Refused}
@@ -93,8 +93,8 @@ recovered-from special items count t = record { special = subsets-size special; 
 
 module _ (file : List ℕ) (m n : ℕ) (e : Expression) (s : Schema) (work out : List ℕ) where
   pub read-stops : (r : Refusal) → s .judgement ≡ ReadRefused r → (Refused r ≡ readRecovered m e s) × ((work ≡ readSpace file m n (s .judgement) work) × (out ≡ readInstantiation m e s out))
-  unfolding readRecovered readSpace readInstantiation
-  read-stops r is = rw is (refl, (refl, refl))
+  unfolding readRecovered readInstantiation
+  read-stops r is = (rw is refl, (space-stops file m n (s .judgement) work r is, rw is refl))
 
   pub read-goes :
       s .judgement ≡ Read
@@ -103,8 +103,8 @@ module _ (file : List ℕ) (m n : ℕ) (e : Expression) (s : Schema) (work out :
       → a ≡ tableRecovered m e (s .special) (s .entries)
       → written ≡ tableInstantiation m e (s .special) (s .entries) out
       → (a ≡ readRecovered m e s) × ((filled ≡ readSpace file m n (s .judgement) work) × (written ≡ readInstantiation m e s out))
-  unfolding readRecovered readSpace readInstantiation
-  read-goes is a filled written space answered wrote = rw is (answered, (space, wrote))
+  unfolding readRecovered readInstantiation
+  read-goes is a filled written space answered wrote = (rw is answered, (space ∙ space-goes file m n (s .judgement) work is, rw is wrote))
 
 -- ---- the answer, the work space and the instantiation slice
 

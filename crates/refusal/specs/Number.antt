@@ -72,26 +72,33 @@ number-row SpecialSubset = refl
 pub number-once : (a b : Refusal) → numberOf a ≡ numberOf b → a ≡ b
 number-once a b e = sym (number-row a) ∙ ap row e ∙ number-row b
 
+-- they are 1 to 21
+number-range : (r : Refusal) → (1 ≤ numberOf r) × (numberOf r ≤ 21)
+number-range HeaderTruncated = (lit≤ tt, lit≤ tt)
+number-range RelationCount = (lit≤ tt, lit≤ tt)
+number-range NodeCount = (lit≤ tt, lit≤ tt)
+number-range NodeTruncated = (lit≤ tt, lit≤ tt)
+number-range NodeMap = (lit≤ tt, lit≤ tt)
+number-range OperatorCode = (lit≤ tt, lit≤ tt)
+number-range RelationNumber = (lit≤ tt, lit≤ tt)
+number-range Operand = (lit≤ tt, lit≤ tt)
+number-range Attribute = (lit≤ tt, lit≤ tt)
+number-range NodesFollowed = (lit≤ tt, lit≤ tt)
+number-range NodeNumber = (lit≤ tt, lit≤ tt)
+number-range WorkSpace = (lit≤ tt, lit≤ tt)
+number-range ResultSlice = (lit≤ tt, lit≤ tt)
+number-range InputTruncated = (lit≤ tt, lit≤ tt)
+number-range CountZero = (lit≤ tt, lit≤ tt)
+number-range ListedAttribute = (lit≤ tt, lit≤ tt)
+number-range InputFollowed = (lit≤ tt, lit≤ tt)
+number-range TooManyAttributes = (lit≤ tt, lit≤ tt)
+number-range RepeatedAttribute = (lit≤ tt, lit≤ tt)
+number-range TypeVariable = (lit≤ tt, lit≤ tt)
+number-range SpecialSubset = (lit≤ tt, lit≤ tt)
+
 -- 0 is no refusal's number
 pub number-positive : (r : Refusal) → 1 ≤ numberOf r
-number-positive HeaderTruncated = lit≤ tt
-number-positive RelationCount = lit≤ tt
-number-positive NodeCount = lit≤ tt
-number-positive NodeTruncated = lit≤ tt
-number-positive NodeMap = lit≤ tt
-number-positive OperatorCode = lit≤ tt
-number-positive RelationNumber = lit≤ tt
-number-positive Operand = lit≤ tt
-number-positive Attribute = lit≤ tt
-number-positive NodesFollowed = lit≤ tt
-number-positive NodeNumber = lit≤ tt
-number-positive WorkSpace = lit≤ tt
-number-positive ResultSlice = lit≤ tt
-number-positive InputTruncated = lit≤ tt
-number-positive CountZero = lit≤ tt
-number-positive ListedAttribute = lit≤ tt
-number-positive InputFollowed = lit≤ tt
-number-positive TooManyAttributes = lit≤ tt
-number-positive RepeatedAttribute = lit≤ tt
-number-positive TypeVariable = lit≤ tt
-number-positive SpecialSubset = lit≤ tt
+number-positive r = number-range r .0
+
+pub number-most : (r : Refusal) → numberOf r ≤ 21
+number-most r = number-range r .1

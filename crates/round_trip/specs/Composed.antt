@@ -16,7 +16,8 @@ use Rattle.stored_formula.specs.Formula.{formulaSpace}
 use Rattle.stored_formula.specs.FormulaLaws.{space-again}
 use Rattle.apply_answer.specs.Apply.{applyAnswer, applySpace, applySchema, applyOut}
 use Rattle.recover_answer.specs.Recover.{recoverAnswer, recoverSpace, recoverOut}
-use Rattle.round_trip.specs.WorkSpace.{refusalFills, applyFills, recoverFills, apply-space, recover-space}
+use Rattle.apply_answer.specs.WorkSpace.{refusalFills, applyFills, apply-space}
+use Rattle.recover_answer.specs.WorkSpace.{recoverFills, recover-space}
 use Rattle.round_trip.specs.Undoing.{applies-admits, apply-fits}
 use Rattle.round_trip.specs.Unrefused.{applied-applies}
 use Rattle.round_trip.specs.Theorems.{apply-filled, apply-recover}

@@ -1,4 +1,3 @@
-pub mod WorkSpace
 pub mod StandingFit
 pub mod Tables
 pub mod RoundTrip

@@ -2,13 +2,13 @@
 -- the other, byte by byte; Recover recovers exactly where the rules derive a type; Apply's output record is Typing's
 -- for the schema that Apply writes; and the bytes that Apply accepts are an instantiation of the stored formula in the
 -- sense of demand 3 (FORMAT 6.7). A reader needs, besides this page:
---   applyAnswer, applySpace, applySchema, applyOut   what Apply leaves, by its contract   (crate application, Apply)
---   recoverAnswer, recoverOut             what Recover leaves, by its contract   (crate application, Recover)
---   typingAnswer, typingOut               what Typing leaves, by its contract    (crate typing, Typing)
+--   applyAnswer, applySpace, applySchema, applyOut   what Apply leaves, by its contract   (crate apply_answer, Apply)
+--   recoverAnswer, recoverOut             what Recover leaves, by its contract   (crate recover_answer, Recover)
+--   typingAnswer, typingOut               what Typing leaves, by its contract    (crate typing_answer, Typing)
 --   Typed                                 the typing rules                       (crate algebra, Rules)
 --   Recovers                              that Recover refuses nothing, and the records of the schema   (Undoing)
 --   readRecords, assignmentOf             a schema's records, and the assignment they mean   (crate schema, Schema)
---   RecordOf                              the record of a type                   (crate typing, Theorems)
+--   RecordOf                              the record of a type                   (crate typing_theorems, Theorems)
 --   Instantiation, HasImage, HasOutput    instantiations, image and output       (crate principal, Instantiation)
 --   AreBytes                              an instantiation that has the subsets and lists of bytes   (Link)
 --   InstantiationOf                       bytes that are an instantiation, and the schema and record of its image and
@@ -47,7 +47,7 @@ use Rattle.typing_theorems.specs.Theorems.{RecordOf, typing-untyped}
 use Rattle.typing_answer.specs.declared.Answer.the-variants.{Typed as TypedAnswer, Untyped as TypingUntyped}
 use Rattle.apply_answer.specs.Apply.{imageBytes, outputBytes, applyAnswer, applySpace, applySchema, applyOut}
 use Rattle.recover_answer.specs.Recover.{recoveredBytes, recoverAnswer, recoverOut}
-use Rattle.round_trip.specs.WorkSpace.{applyFills, apply-space}
+use Rattle.apply_answer.specs.WorkSpace.{applyFills, apply-space}
 use Rattle.apply_answer.specs.declared.Application.{Application}
 use Rattle.apply_answer.specs.declared.Application.the-variants.{Applied}
 use Rattle.recover_answer.specs.declared.Recovery.the-variants.{Recovered, Untyped}

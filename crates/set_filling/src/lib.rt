@@ -8,7 +8,7 @@ ghost use Rattle.expression_file.specs.Walk.{Here};
 ghost use Rattle.node.specs.Legal.{LegalNode};
 ghost use Rattle.entry_columns.specs.EntryColumns.{Groups};
 ghost use Rattle.type_sets.specs.Sets.{widthOf, NodeSets};
-ghost use Rattle.set_filling.specs.FilledSets.{Filled};
+ghost use Rattle.type_sets.specs.FilledSets.{Filled};
 use entry_columns::gather_subsets;
 use node::Node;
 use node_reader::decode;

@@ -1,6 +1,6 @@
 -- Laws of Formula: the answer and the work space in each case.
 use Prim.Native.Nat.{ℕ, _*_, _≤_}
-use mathlib.Core.Path.{_≡_, refl, sym, _∙_}
+use mathlib.Core.Path.{_≡_, refl, sym, ap, _∙_}
 use mathlib.Core.List.{List}
 use native.Mathlib.Omega.{arith}
 use lib.ListN.{length}
@@ -11,8 +11,13 @@ use Rattle.expression_file.specs.declared.files.Acceptance.the-variants.{Accept
 use Rattle.expression_file.specs.ReadFile.{acceptance}
 use Rattle.admission.specs.AdmissionLaws.{spaced-refused, spaced-passes, spaced-passed, admitted-passed}
 use Rattle.stored_formula.specs.FormulaBytes.{storedByte, formulasOf}
-use Rattle.admission.specs.Admission.{admitted, formulaSize}
+use Rattle.admission.specs.Admission.{spaced, admitted, formulaSize}
 use Rattle.stored_formula.specs.Formula.{formulaAnswer, formulaSpace}
+
+-- by the two tests in turn
+pub answer-tested : (file : List ℕ) (space : ℕ) {a b : Acceptance} → a ≡ acceptance file → b ≡ spaced a space → b ≡ formulaAnswer file space
+unfolding formulaAnswer
+answer-tested file space accepted tested = tested ∙ ap (λ (a : Acceptance). spaced a space) accepted
 
 pub answer-filled : (file : List ℕ) (space m n : ℕ) → acceptance file ≡ Accepted m n → n * formulaSize ≤ space → formulaAnswer file space ≡ Accepted m n
 unfolding formulaAnswer

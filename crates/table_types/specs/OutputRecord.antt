@@ -6,22 +6,24 @@ use mathlib.Core.List.{List, [], _∷_}
 use native.Mathlib.Nat.{lt-of-lt-of-le}
 use native.Mathlib.Omega.{arith}
 use borrow.Author.Tests.{eqb-true, eq-eqb, ne-eqb}
-use lib.Dec.{eqb, lit<}
+use lib.Dec.{eqb}
 use lib.ListN.{length, getD}
 use Rattle.bits.specs.Bit.{bit}
-use Rattle.bits.specs.Pack.{pack-below}
-use Rattle.bits.specs.Rising.{member, Rising, rising-lower, rising-above}
+use Rattle.bits.specs.Rising.{member, rising-above}
 use Rattle.algebra.specs.Expression.{Expression, Legal}
 use Rattle.algebra.specs.Cell.{plain, out, ok}
 use Rattle.algebra.specs.CellLaws.{cell-depends}
-use Rattle.type_record.specs.Record.{TypeRecord}
+use Rattle.attribute_set.specs.AttrSet.{special as isSpecial}
+use Rattle.attribute_set.specs.Laws.{special-range}
+use Rattle.type_record.specs.Record.{TypeRecord, typeOf}
 use Rattle.type_record.specs.RecordBytes.{IsRecord}
+use Rattle.type_record.specs.RecordTypes.{type-of-special, type-of-other}
 use Rattle.membership.specs.HolderLaws.{kept-rising, kept-few, kept-below}
 use Rattle.membership.specs.Entries.{attributeOf, subsetOf, holdersIn}
 use Rattle.membership.specs.EnterLaws.{RisingEntries, subset-bit}
 use Rattle.membership.specs.TableLaws.{Below}
-use Rattle.table_types.specs.Output.{outputMap, outputList}
-use Rattle.table_types.specs.OutputLaws.{map-even, none-held}
+use Rattle.table_types.specs.Output.{specialHolders, outputMap, outputList}
+use Rattle.table_types.specs.OutputLaws.{map-even, none-held, output-below, output-bit}
 
 -- the output record over a table
 unfoldable pub outputRecord : Expression → List ℕ → List ℕ → TypeRecord
@@ -31,16 +33,27 @@ pub output-parts : (e : Expression) (special entries : List ℕ) → outputRecor
 unfolding outputRecord
 output-parts e special entries = refl
 
+-- ---- its type
+
+module _ (e : Expression) (special entries : List ℕ) where
+  pub output-special : (a : ℕ) → isSpecial a ≡ true → typeOf (outputRecord e special entries) a ≡ out plain e a (specialHolders special a)
+  unfolding outputRecord
+  output-special a h = let range = special-range a h in type-of-special (outputRecord e special entries) a h ∙ output-bit e special a (omega arith)
+
+  pub output-other : (a : ℕ) → isSpecial a ≡ false → typeOf (outputRecord e special entries) a ≡ member a (outputList e entries)
+  unfolding outputRecord
+  output-other a h = type-of-other (outputRecord e special entries) a h
+
 -- ---- the record
 
 module _ (m : ℕ) (few : m ≤ 8) (e : Expression) (legal : Legal m e) where
   pub output-is : (special es : List ℕ) → ((r : ℕ) → getD special r 0 % 2 ≡ 0) → length es ≤ 255 → RisingEntries 15 es → Below 16777216 es → IsRecord (outputRecord e special es)
-  unfolding outputRecord outputMap
+  unfolding outputRecord
   output-is special es even fits rising below =
       let most = kept-few (λ x. out plain e 0 (bit x)) es in
       record {
         even = map-even m e legal special even;
-        small = pack-below 16 _;
+        small = output-below e special;
         few = omega arith;
         rising = kept-rising (λ x. out plain e 0 (bit x)) 15 es rising;
         below = kept-below (λ x. out plain e 0 (bit x)) es below;

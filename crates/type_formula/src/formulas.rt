@@ -5,8 +5,8 @@ ghost use Rattle.stored_formula.specs.Formula.{formulaAnswer, formulaSpace};
 ghost use Rattle.verdict_answer.specs.Verdict.{verdictAnswer, verdictSpace, verdictSchema};
 ghost use Rattle.expression_file.specs.Numbers.{acceptanceNumber};
 ghost use Rattle.verdict_answer.specs.Numbers.{outcomeNumber, outcomeValue};
-use expression_file::Acceptance;
-use verdict_answer::Outcome;
+use answer_numbers::acceptance_number;
+use answer_numbers::write_outcome;
 
 // Formula (FORMAT 7.6): 0, or the number of the first refusal of 1 to 10 and 12.
 #[no_mangle]
@@ -14,10 +14,7 @@ pub extern "C" fn type_formula_formula(file: &[u8], work: &mut [u8]) -> u8
     ensures { λ r. ⌜ r ≡ acceptanceNumber (formulaAnswer (now (file .entry)) (length (now (work .entry)))) ⌝ }
     ensures { λ _. ⌜ now (work .exit) ≡ formulaSpace (now (file .entry)) (now (work .entry)) ⌝ }
 {
-    match formula::formula(file, work) {
-        Acceptance::Accepted(_, _) => 0,
-        Acceptance::Refused(r) => r.number(),
-    }
+    acceptance_number(formula::formula(file, work))
 }
 
 // Verdict (FORMAT 7.7): 0 with the number of bytes written to the schema slice, or 255 with the attribute whose column
@@ -35,15 +32,5 @@ pub extern "C" fn type_formula_verdict(
     ensures { λ _. ⌜ now (schema .exit) ≡ verdictSchema (now (file .entry)) node (length (now (work .entry))) (now (schema .entry)) ⌝ }
     ensures { λ _. ⌜ now (value .exit) ≡ outcomeValue (verdictAnswer (now (file .entry)) node (length (now (work .entry))) (length (now (schema .entry)))) (now (value .entry)) ⌝ }
 {
-    match verdict::verdict(file, node, work, schema) {
-        Outcome::Typable(size) => {
-            *value = size;
-            0
-        }
-        Outcome::Untypable(a) => {
-            *value = a as usize;
-            255
-        }
-        Outcome::Refused(r) => r.number(),
-    }
+    write_outcome(verdict::verdict(file, node, work, schema), value)
 }

@@ -5,8 +5,8 @@ ghost use Rattle.apply_answer.specs.Apply.{applyAnswer, applySpace, applySchema
 ghost use Rattle.recover_answer.specs.Recover.{recoverAnswer, recoverSpace, recoverOut};
 ghost use Rattle.apply_answer.specs.Numbers.{applicationNumber, applicationSchema, applicationOutput};
 ghost use Rattle.recover_answer.specs.Numbers.{recoveryNumber, recoveryValue};
-use apply_answer::Application;
-use recover_answer::Recovery;
+use answer_numbers::write_application;
+use answer_numbers::write_recovery;
 
 // Apply (FORMAT 7.10): 0 with the numbers of bytes written to the schema and the output slice, or the number of the
 // first refusal with both numbers as they were.
@@ -28,14 +28,11 @@ pub extern "C" fn type_formula_apply(
     ensures { λ _. ⌜ now (size .exit) ≡ applicationSchema (applyAnswer (now (file .entry)) node (now (instantiation .entry)) (length (now (work .entry))) (length (now (schema .entry))) (length (now (out .entry)))) (now (size .entry)) ⌝ }
     ensures { λ _. ⌜ now (width .exit) ≡ applicationOutput (applyAnswer (now (file .entry)) node (now (instantiation .entry)) (length (now (work .entry))) (length (now (schema .entry))) (length (now (out .entry)))) (now (width .entry)) ⌝ }
 {
-    match apply::apply(file, node, instantiation, work, schema, out) {
-        Application::Applied(s, o) => {
-            *size = s;
-            *width = o;
-            0
-        }
-        Application::Refused(r) => r.number(),
-    }
+    write_application(
+        apply::apply(file, node, instantiation, work, schema, out),
+        size,
+        width,
+    )
 }
 
 // Recover (FORMAT 7.11): 0 with the number of bytes written to the instantiation slice, or 255 for untyped, or the
@@ -54,12 +51,8 @@ pub extern "C" fn type_formula_recover(
     ensures { λ _. ⌜ now (instantiation .exit) ≡ recoverOut (now (file .entry)) node (now (schema .entry)) (length (now (work .entry))) (now (instantiation .entry)) ⌝ }
     ensures { λ _. ⌜ now (value .exit) ≡ recoveryValue (recoverAnswer (now (file .entry)) node (now (schema .entry)) (length (now (work .entry))) (length (now (instantiation .entry)))) (now (value .entry)) ⌝ }
 {
-    match recover::recover(file, node, schema, work, instantiation) {
-        Recovery::Recovered(size) => {
-            *value = size;
-            0
-        }
-        Recovery::Untyped => 255,
-        Recovery::Refused(r) => r.number(),
-    }
+    write_recovery(
+        recover::recover(file, node, schema, work, instantiation),
+        value,
+    )
 }

@@ -11,7 +11,7 @@ ghost use Rattle.expression_file.specs.ReadFile.{acceptance};
 ghost use Rattle.record.specs.Record.{placeOf, recordOf};
 ghost use Rattle.expression_file.specs.Numbers.{acceptanceNumber, relationsOr, nodesOr};
 ghost use Rattle.node_word.specs.NodeWord.{readingNumber};
-use expression_file::Acceptance;
+use answer_numbers::write_acceptance;
 use node::Reading;
 
 // Accept (FORMAT 7.3): 0 with the counts m and n written, or the number of the first refusal of 1 to
@@ -22,14 +22,7 @@ pub extern "C" fn type_formula_accept(file: &[u8], relations: &mut u8, nodes: &m
     ensures { λ _. ⌜ now (relations .exit) ≡ relationsOr (acceptance (now (file .entry))) (now (relations .entry)) ⌝ }
     ensures { λ _. ⌜ now (nodes .exit) ≡ nodesOr (acceptance (now (file .entry))) (now (nodes .entry)) ⌝ }
 {
-    match expression_file::accept(file) {
-        Acceptance::Accepted(m, n) => {
-            *relations = m;
-            *nodes = n;
-            0
-        }
-        Acceptance::Refused(r) => r.number(),
-    }
+    write_acceptance(expression_file::accept(file), relations, nodes)
 }
 
 // Record (FORMAT 7.5, 7.19): the length of the part of the file that holds the node, and where it starts; both 0

@@ -3,7 +3,7 @@ ghost use mathlib.Core.Path.{_≡_};
 ghost use lib.ListN.{length};
 ghost use Rattle.typing_answer.specs.Typing.{typingAnswer, typingOut};
 ghost use Rattle.typing_answer.specs.Numbers.{answerNumber, answerValue};
-use typing_answer::Answer;
+use answer_numbers::write_answer;
 
 // Typing (FORMAT 7.9): 0 with the number of bytes written to the result slice, or 255 for untyped, or the number of the
 // first refusal of 1 to 11, 13 and 14 to 18; after untyped and after a refusal `value` is as it was.
@@ -19,12 +19,5 @@ pub extern "C" fn type_formula_typing(
     ensures { λ _. ⌜ now (out .exit) ≡ typingOut (now (file .entry)) node (now (schema .entry)) (now (out .entry)) ⌝ }
     ensures { λ _. ⌜ now (value .exit) ≡ answerValue (typingAnswer (now (file .entry)) node (now (schema .entry)) (length (now (out .entry)))) (now (value .entry)) ⌝ }
 {
-    match typing::typing(file, node, schema, out) {
-        Answer::Typed(size) => {
-            *value = size;
-            0
-        }
-        Answer::Untyped => 255,
-        Answer::Refused(r) => r.number(),
-    }
+    write_answer(typing::typing(file, node, schema, out), value)
 }

@@ -1,3 +1,4 @@
 pub mod Sets
 pub mod SetLaws
 pub mod SetCells
+pub mod FilledSets

@@ -15,8 +15,8 @@ use lib.Seq.{getD-take, length-take-le}
 use Rattle.bits.specs.Bit.{bit, differs, bit-above, bit-none, bit-or, bit-and, bit-xor, bit-power}
 use Rattle.bits.specs.Booleans.{and-left, and-right}
 use Rattle.bits.specs.Pack.{pack, pack-below, bit-pack, bits-once}
-use Rattle.attribute_set.specs.AttrSet.{special as isSpecial, hasAttribute, bitsOf}
-use Rattle.attribute_set.specs.Laws.{Clear, special-range, special-zero}
+use Rattle.attribute_set.specs.AttrSet.{special as isSpecial, bitsOf}
+use Rattle.attribute_set.specs.Laws.{Clear, special-range, special-zero, has-bit}
 use Rattle.attribute_set.specs.declared.AttrSet.{AttrSet}
 use Rattle.algebra.specs.Expression.{Expression, relation, binary, withSet, renaming, projectingOut, selection, projection}
 use Rattle.algebra.specs.Cell.{plain, breaks, yields, breaksRenaming, yieldsRenaming, breaksOut, yieldsOut}
@@ -77,11 +77,10 @@ lacking-below x s hx hs = xor-lt 64 (bitOr x s) x (or-lt 64 x s hx hs) hx
 
 -- a set names the attribute of a place by the place's bit
 named-place : (s : AttrSet) → Clear s → bitsOf s < 65536 → (j : ℕ) → j < 64 → named s (placeColumn j) ≡ bit (bitsOf s) j
-unfolding hasAttribute
 named-place s clear small j h = go (decLt j 16)
   where
     go : Dec (j < 16) → named s (placeColumn j) ≡ bit (bitsOf s) j
-    go (yes less) = rw (lt-ltb j 16 less) (named-is s j clear less)
+    go (yes less) = rw (lt-ltb j 16 less) (named-is s j clear less ∙ has-bit s j)
     go (no more) = let power = pow-mono {i = 16} {j = j} (omega arith) in rw (le-ltb j 16 (omega arith), special-zero) (sym (bit-above (bitsOf s) j (omega arith)))
 
 -- past the special attributes it names none
@@ -354,18 +353,15 @@ module _ (special items : List ℕ) (count width : ℕ) (wide : 2 ≤ width) whe
 
       module _ (n : ℕ) (isNew : isSpecial n ≡ true) where
         breaks-bit : (i : ℕ) → bit (renamingBreaks x (2 ^ o) (2 ^ n)) i ≡ breaksRenaming plain (bit (2 ^ o) i) (bit (2 ^ n) i) (bit x i)
-        unfolding renamingBreaks
         breaks-bit i = bit-or (lacking x (2 ^ o)) (bitAnd x (2 ^ n)) i ∙ ap₂ _||_ (lacking-bit x (2 ^ o) i) (bit-and x (2 ^ n) i ∙ and-comm (bit x i) (bit (2 ^ n) i))
 
         renamed-bit : (i : ℕ) → bit (renamed x (2 ^ o) (2 ^ n)) i ≡ yieldsRenaming plain (bit (2 ^ o) i) (bit (2 ^ n) i) (bit x i)
-        unfolding renamed
         renamed-bit i =
             bit-or (without x (2 ^ o)) (2 ^ n) i
             ∙ ap (λ (b : Bool). b || bit (2 ^ n) i) (without-bit x (2 ^ o) i)
             ∙ one-table _||_ (λ v new. cond new true v) refl refl refl refl (cond (bit (2 ^ o) i) false (bit x i)) (bit (2 ^ n) i)
 
         breaks-below : renamingBreaks x (2 ^ o) (2 ^ n) < 2 ^ 64
-        unfolding renamingBreaks
         breaks-below =
             or-lt 64 (lacking x (2 ^ o)) (bitAnd x (2 ^ n))
             (lacking-below x (2 ^ o) (words (from + 1)) (power-small o isOld))

@@ -84,11 +84,11 @@ without x s = bitXor (bitOr x s) s
 
 -- FORMAT 2.13: what breaks a renaming among the special attributes, where o is the old
 -- attribute's bit and n the new one's
-unfoldable pub renamingBreaks : ℕ → ℕ → ℕ → ℕ
+abbrev pub renamingBreaks : ℕ → ℕ → ℕ → ℕ
 renamingBreaks x o n = bitOr (lacking x o) (bitAnd x n)
 
 -- and what comes out
-unfoldable pub renamed : ℕ → ℕ → ℕ → ℕ
+abbrev pub renamed : ℕ → ℕ → ℕ → ℕ
 renamed x o n = bitOr (without x o) n
 
 -- ---- the words of a node as they are computed

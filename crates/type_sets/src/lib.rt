@@ -1,6 +1,6 @@
 // What an operator makes of its operands' types, as sets in words of 64 bits.
 ghost use mathlib.Core.Path.{_≡_};
-ghost use Rattle.type_sets.specs.Sets.{breaking, comingOut};
+ghost use Rattle.type_sets.specs.Sets.{breaking, comingOut, lacking, without};
 use node::BinaryOp;
 
 // The attributes of a word that break the rule of an operator of two operands.
@@ -25,4 +25,18 @@ pub fn coming_out(op: BinaryOp, x: u64, y: u64) -> u64
         BinaryOp::Join => x | y,
         BinaryOp::Product => x | y,
     }
+}
+
+// What x lacks of s.
+pub fn lacking(x: u64, s: u64) -> u64
+    ensures { λ r. ⌜ r ≡ lacking x s ⌝ }
+{
+    (x | s) ^ x
+}
+
+// x without s.
+pub fn without(x: u64, s: u64) -> u64
+    ensures { λ r. ⌜ r ≡ without x s ⌝ }
+{
+    (x | s) ^ s
 }

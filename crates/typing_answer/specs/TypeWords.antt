@@ -1,6 +1,6 @@
 -- What the words of a node's type say: whether it is typed over the table, and its output.
-use Prim.Native.Nat.{ℕ, _+_, _-_, _*_, _/_, _%_, _^_, _≤_, _<_}
-use mathlib.Core.Path.{_≡_, refl, sym, ap, ap₂, fun-ext, _∙_}
+use Prim.Native.Nat.{ℕ, _+_, _-_, _/_, _%_, _^_, _≤_, _<_}
+use mathlib.Core.Path.{_≡_, refl, sym, ap, fun-ext, _∙_}
 use mathlib.Core.Bool.{Bool, true, false, cond}
 use mathlib.Core.List.{List}
 use native.Mathlib.Nat.{lt-of-lt-of-le}
@@ -13,12 +13,12 @@ use lib.Pow.{pow-mono}
 use lib.Seq.{length-take-le, getD-take}
 use Rattle.bits.specs.Bit.{bit, bit-above, bit-none}
 use Rattle.bits.specs.Booleans.{same-test}
-use Rattle.bits.specs.Pack.{pack, bit-pack, pack-below, bits-once}
+use Rattle.bits.specs.Pack.{bits-once}
 use Rattle.algebra.specs.Expression.{Expression, Legal}
 use Rattle.algebra.specs.Cell.{plain, out, ok}
 use Rattle.algebra.specs.CellLaws.{cell-none}
 use Rattle.table_types.specs.Output.{specialHolders, typedIn, outputMap}
-use Rattle.table_types.specs.OutputLaws.{typed-special, typed-entry, all-typed}
+use Rattle.table_types.specs.OutputLaws.{typed-special, typed-entry, all-typed, output-below, output-bit}
 use Rattle.type_sets.specs.Sets.{widthOf, placeColumn, heldAt, okAt, outAt, TypeIn}
 
 -- the bits of the entries in the words from a place on are those of e's output
@@ -91,11 +91,8 @@ module _ (m : ℕ) (e : Expression) (legal : Legal m e) (special items : List �
 
   module _ (typed : word 0 ≡ 0) where
     pub map-is : word 1 ≡ outputMap e special
-    unfolding outputMap
     map-is =
-        bits-once 64 (word 1) (pack 16 (λ i. out plain e i (specialHolders special i))) (below 1)
-        (lt-of-lt-of-le (pack-below 16 (λ i. out plain e i (specialHolders special i))) (pow-mono {i = 16} {j = 64} (lit≤ tt)))
-        (λ j h. here j h ∙ each j h (decLt j 16))
+        bits-once 64 (word 1) (outputMap e special) (below 1) (lt-of-lt-of-le (output-below e special) (lit≤ tt)) (λ j h. here j h ∙ each j h (decLt j 16))
       where
         here : (j : ℕ) → j < 64 → bit (word 1) j ≡ outAt e special entries j
         here j h =
@@ -103,11 +100,11 @@ module _ (m : ℕ) (e : Expression) (legal : Legal m e) (special items : List �
             let own : j % 64 ≡ j = omega arith in
             rw (first, own) at (t .output typed j (omega arith))
 
-        each : (j : ℕ) → j < 64 → Dec (j < 16) → outAt e special entries j ≡ bit (pack 16 (λ i. out plain e i (specialHolders special i))) j
-        each j h (yes less) = let place = special-place j less in rw (place .0, place .1) (sym (bit-pack 16 (λ i. out plain e i (specialHolders special i)) j less))
+        each : (j : ℕ) → j < 64 → Dec (j < 16) → outAt e special entries j ≡ bit (outputMap e special) j
+        each j h (yes less) = let place = special-place j less in rw (place .0, place .1) (sym (output-bit e special j less))
         each j h (no more) =
             nobody j (omega arith) h .1
-            ∙ sym (bit-above (pack 16 (λ i. out plain e i (specialHolders special i))) j (lt-of-lt-of-le (pack-below 16 (λ i. out plain e i (specialHolders special i))) (pow-mono {i = 16} {j = j} (omega arith))))
+            ∙ sym (bit-above (outputMap e special) j (lt-of-lt-of-le (output-below e special) (pow-mono {i = 16} {j = j} (omega arith))))
 
     pub entry-output : (i : ℕ) → i < count → bit (word (2 + i / 64)) (i % 64) ≡ out plain e 0 (bit (getD items i 0))
     entry-output i h =

@@ -17,16 +17,15 @@ use Rattle.expression_file.specs.declared.files.Acceptance.the-variants.{Accept
 use Rattle.admission.specs.Admission.{asked, sliced}
 use Rattle.algebra.specs.Expression.{Expression, Legal}
 use Rattle.node_expression.specs.NodeExpression.{expressionAt}
-use Rattle.bits.specs.Pack.{pack-below}
 use Rattle.type_record.specs.Record.{TypeRecord, recordSize, recordBytes, outputSize}
 use Rattle.schema.specs.Schema.{Schema, readRecords, entriesOf, mapsOf, schemaReading, readingOf, EntriesStand, WritesFrom}
 use Rattle.schema.specs.TableLaws.{schema-read, read-schema, read-entries, handed-on, read-table}
 use Rattle.schema.specs.declared.reading.Judgement.the-variants.{Read, Refused as SchemaRefused}
 use Rattle.schema.specs.declared.reading.SchemaReading.{SchemaReading}
 use Rattle.type_sets.specs.Sets.{widthOf, TypeIn, wordsAt}
-use Rattle.set_filling.specs.FilledSets.{Filled}
+use Rattle.type_sets.specs.FilledSets.{Filled}
 use Rattle.table_types.specs.Output.{typedIn, outputMap, outputList}
-use Rattle.table_types.specs.OutputLaws.{map-even}
+use Rattle.table_types.specs.OutputLaws.{map-even, output-below}
 use Rattle.typing_answer.specs.TypeWords.{OutputBits, typed-words, map-is, entry-output}
 use Rattle.typing_answer.specs.Typing.{tableAnswer, tableOut, schemaAnswer, schemaOut, typingAnswer, typingOut}
 use Rattle.typing_answer.specs.declared.Answer.{Answer}
@@ -92,8 +91,7 @@ module _ (file : List ℕ) (m k : ℕ) (legal : Legal m (expressionAt file k)) (
 
     -- its map is of two bytes, and bit 0 is clear
     pub map-fits : (getD sets (start + 1) 0 < 65536) × (getD sets (start + 1) 0 % 2 ≡ 0)
-    unfolding outputMap
-    map-fits = (rw map-found (pack-below 16 _), ap (λ (x : ℕ). x % 2) map-found ∙ map-even m e legal special (table .even))
+    map-fits = (rw map-found (output-below e special), ap (λ (x : ℕ). x % 2) map-found ∙ map-even m e legal special (table .even))
 
     pub table-typed :
         (out written listed : List ℕ) (size : ℕ)

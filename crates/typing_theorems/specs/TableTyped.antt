@@ -7,7 +7,6 @@ use native.Mathlib.Nat.{lt-of-lt-of-le}
 use native.Mathlib.Omega.{arith}
 use lib.ListN.{length, getD}
 use Rattle.bits.specs.Bit.{bit, bit-first}
-use Rattle.bits.specs.Pack.{bit-pack}
 use Rattle.attribute_set.specs.AttrSet.{special}
 use Rattle.attribute_set.specs.Laws.{special-range, special-in, special-above}
 use Rattle.types.specs.Types.{Attrs, column}
@@ -25,9 +24,9 @@ use Rattle.schema.specs.Schema.{noRecord, assignmentOf, entriesOf, mapsOf}
 use Rattle.schema.specs.RecordsLaws.{AllRecords}
 use Rattle.schema.specs.EntriesLaws.{entries-rising, entries-holders, entries-below}
 use Rattle.schema.specs.TableLaws.{maps-at, maps-is}
-use Rattle.table_types.specs.Output.{specialHolders, typedIn, outputMap}
+use Rattle.table_types.specs.Output.{specialHolders, typedIn}
 use Rattle.table_types.specs.OutputLaws.{typed-special, typed-entry, all-typed}
-use Rattle.table_types.specs.OutputRecord.{outputRecord, output-is, output-member, holders-allowed, entries-allowed}
+use Rattle.table_types.specs.OutputRecord.{outputRecord, output-special, output-other, output-is, output-member, holders-allowed, entries-allowed}
 
 -- a legal expression over m relations, and the records of a schema of m relations with at most 255
 -- different ordinary attributes
@@ -64,14 +63,10 @@ module _ (m : ℕ) (few : m ≤ 8) (e : Expression) (legal : Legal m e) (ts : Li
   output = typeOf (outputRecord e (mapsOf ts) (entriesOf ts))
 
   special-output : (a : ℕ) → special a ≡ true → output a ≡ out plain e a (specialHolders (mapsOf ts) a)
-  unfolding outputRecord outputMap
-  special-output a h =
-      let range = special-range a h in
-      type-of-special (outputRecord e (mapsOf ts) (entriesOf ts)) a h ∙ bit-pack 16 (λ i. out plain e i (specialHolders (mapsOf ts) i)) a (omega arith)
+  special-output = output-special e (mapsOf ts) (entriesOf ts)
 
   ordinary-output : (a : ℕ) → special a ≡ false → output a ≡ out plain e 0 (bit (holdersIn (entriesOf ts) a))
-  unfolding outputRecord
-  ordinary-output a h = type-of-other (outputRecord e (mapsOf ts) (entriesOf ts)) a h ∙ output-member m few e legal 15 (entriesOf ts) (entries-rising ts eight all) a
+  ordinary-output a h = output-other e (mapsOf ts) (entriesOf ts) a h ∙ output-member m few e legal 15 (entriesOf ts) (entries-rising ts eight all) a
 
   pub table-rules : typedIn e (mapsOf ts) (entriesOf ts) ≡ true → Typed (assignmentOf ts) e output
   table-rules typed = cells-typed m e legal (assignmentOf ts) output (λ a. cell a (special a) refl)

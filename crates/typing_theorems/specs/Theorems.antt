@@ -2,10 +2,10 @@
 -- accepted file, every node and every schema that is not refused; and that it agrees with the node's formula. A reader
 -- needs, besides this page:
 --   Typed                 the typing rules                                  (crate algebra, Rules)
---   expressionAt          the expression of a node                          (crate formula, Expressions)
+--   expressionAt          the expression of a node                          (crate node_expression, NodeExpression)
 --   readRecords, assignmentOf   a schema's records, and the assignment that they mean   (crate schema, Schema)
 --   typeOf, recordBytes   the type of a record, and its bytes               (crate type_record, Record)
---   typingAnswer, typingOut     what Typing leaves, by its contract         (Typing)
+--   typingAnswer, typingOut     what Typing leaves, by its contract         (crate typing_answer, Typing)
 use Prim.Native.Nat.{ℕ, _≤_, _<_}
 use mathlib.Core.Path.{_≡_, refl, sym, ap, ap₂, subst, fun-ext, _∙_}
 use mathlib.Core.Logic.{_↔_}
@@ -31,7 +31,7 @@ use Rattle.type_record.specs.RecordTypes.{type-once}
 use Rattle.schema.specs.Schema.{readRecords, assignmentOf, entriesOf, mapsOf}
 use Rattle.schema.specs.RecordsLaws.{AllRecords, records-read}
 use Rattle.table_types.specs.Output.{typedIn, outputMap, outputList}
-use Rattle.table_types.specs.OutputRecord.{outputRecord}
+use Rattle.table_types.specs.OutputRecord.{outputRecord, output-parts}
 use Rattle.typing_theorems.specs.TableTyped.{table-rules, rules-table, rules-output, output-record}
 use Rattle.typing_answer.specs.Typing.{tableAnswer, tableOut, typingAnswer, typingOut}
 use Rattle.typing_answer.specs.TypingLaws.{answer-typed, answer-untyped, out-typed, typing-records}
@@ -99,11 +99,11 @@ module _ (file : List ℕ) (k : ℕ) (schema out : List ℕ) (m n : ℕ) (ts : L
 
   -- the record that is written, where the rules derive t
   written : (t : Attrs) → Typed (assignmentOf ts) (expressionAt file k) t → (size : ℕ) × ((typingAnswer file k schema (length out) ≡ TypedAnswer size) × RecordOf t (take size (typingOut file k schema out)))
-  unfolding outputRecord
   written t typed =
       let yields = typed-results (rules-table m few (expressionAt file k) legal ts (read .1) (read .0) t typed) in
       let same = rules-output m few (expressionAt file k) legal ts (read .1) (read .0) t typed in
       let bytes = recordBytes (outputMap (expressionAt file k) (mapsOf ts)) (outputList (expressionAt file k) (entriesOf ts)) in
+      let parts = output-parts (expressionAt file k) (mapsOf ts) (entriesOf ts) in
       let size = record-length (outputMap (expressionAt file k) (mapsOf ts)) (outputList (expressionAt file k) (entriesOf ts)) in (
         recordSize (length (outputList (expressionAt file k) (entriesOf ts))),
         (
@@ -111,7 +111,7 @@ module _ (file : List ℕ) (k : ℕ) (schema out : List ℕ) (m n : ℕ) (ts : L
           record {
             record-is = outputOf;
             is = output-record m few (expressionAt file k) legal ts (read .1) (read .0) (un .few);
-            bytes-are = ap₂ take (sym size) (yields .1) ∙ take-over bytes out;
+            bytes-are = ap₂ take (sym size) (yields .1) ∙ take-over bytes out ∙ sym (ap (λ (x : TypeRecord). recordBytes (x .map) (x .ordinary)) parts);
             means = λ a. ap (λ (x : Attrs). x a) (sym same);
           },
         ),

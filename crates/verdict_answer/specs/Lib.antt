@@ -3,3 +3,4 @@ pub mod LowestLaws
 pub mod Verdict
 pub mod VerdictLaws
 pub mod Numbers
+pub mod WorkSpace

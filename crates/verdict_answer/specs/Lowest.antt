@@ -28,7 +28,7 @@ unfoldable pub blockedBy : (ℕ → ℕ) → ℕ
 blockedBy lowest = lowestFrom 15 1 (λ i. eqb (lowest i) 256)
 
 -- the same of an expression, for m relations
-unfoldable pub blockedOf : ℕ → Expression → ℕ
+abbrev pub blockedOf : ℕ → Expression → ℕ
 blockedOf m e = blockedBy (lowestOf m e)
 
 -- FORMAT 7.8: the subset of each special attribute below that one; 0 for any other number

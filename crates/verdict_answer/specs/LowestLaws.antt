@@ -1,8 +1,8 @@
--- Laws of the lowest allowed subsets: the test on a column, the subsets chosen, and that a
--- work space says the same as the expression whose columns it holds.
-use Prim.Native.Nat.{ℕ, zero, suc, _+_, _-_, _/_, _%_, _^_, _≤_, _<_}
+-- Laws of the lowest allowed subsets: the lowest of a column, the subsets chosen, and that a work
+-- space says the same as the expression whose columns it holds.
+use Prim.Native.Nat.{ℕ, zero, suc, _+_, _-_, _≤_, _<_}
 use mathlib.Core.Path.{_≡_, refl, sym, ap, ap₂, _∙_}
-use mathlib.Core.Bool.{Bool, true, false, cond, _&&_}
+use mathlib.Core.Bool.{Bool, cond, _&&_}
 use mathlib.Core.List.{List}
 use native.Mathlib.Decide.{decLt}
 use native.Mathlib.Omega.{arith}
@@ -10,28 +10,22 @@ use lib.Arith.{lt-of-le-ne}
 use borrow.Author.Tests.{eq-eqb, ne-eqb, lt-ltb, le-ltb, le-leb}
 use lib.Dec.{eqb, ltb, leb, lit<}
 use lib.ListN.{length, getD, set, replicate, getD-replicate}
-use Rattle.bits.specs.Bit.{bit-test}
 use Rattle.bits.specs.Lowest.{lowestFrom, Lowest, search-found, search-next, search-ended, lowest-is, lowest-same}
 use Rattle.bits.specs.Tab.{tab, length-tab, getD-tab, tab-is}
 use Rattle.bits.specs.Written.{Written, written-more}
 use Rattle.algebra.specs.Expression.{Expression}
 use Rattle.column.specs.Column.{allowedIn}
-use Rattle.column.specs.ColumnLaws.{allowed-bit}
 use Rattle.stored_formula.specs.ColumnPlace.{columnAt}
 use Rattle.stored_formula.specs.FormulaBytes.{allowedBit, cellColumn}
 use Rattle.stored_formula.specs.NodeColumn.{cell-allowed}
 use Rattle.verdict_answer.specs.Lowest.{lowestOf, lowestAt, blockedBy, blockedOf, chosenBy, subsetsAt}
 use Rattle.verdict_answer.specs.declared.Subsets.{Subsets}
 
--- ---- the test in code
-
-pub allowed-test : (column : List ℕ) (s : ℕ) → getD column (s / 8) 0 / 2 ^ (s % 8) % 2 ≡ 1 → allowedIn column s ≡ true
-allowed-test column s h = allowed-bit column s ∙ sym (bit-test (getD column (s / 8) 0) (s % 8)) ∙ eq-eqb _ 1 h
-
-pub allowed-not : (column : List ℕ) (s : ℕ) → (getD column (s / 8) 0 / 2 ^ (s % 8) % 2 ≡ 1 → ⊥) → allowedIn column s ≡ false
-allowed-not column s h = allowed-bit column s ∙ sym (bit-test (getD column (s / 8) 0) (s % 8)) ∙ ne-eqb _ 1 h
-
 -- ---- the lowest of a column
+
+pub lowest-of : (m : ℕ) (e : Expression) (i : ℕ) → Lowest 256 0 (allowedBit m e i) (lowestOf m e i)
+unfolding lowestOf
+lowest-of m e i = lowest-is 256 0 (allowedBit m e i)
 
 pub lowest-most : (work : List ℕ) (k i : ℕ) → lowestAt work k i ≤ 256
 unfolding lowestAt
@@ -148,5 +142,4 @@ lowest-cells work k m e columns i h =
     ∙ lowest-same 256 0 (allowedIn (cellColumn m e i)) (allowedBit m e i) (λ s from below. cell-allowed m e i s below)
 
 pub blocked-cells : (work : List ℕ) (k m : ℕ) (e : Expression) → ((c : ℕ) → c < 16 → columnAt work k c ≡ cellColumn m e c) → blockedBy (lowestAt work k) ≡ blockedOf m e
-unfolding blockedOf
 blocked-cells work k m e columns = blocked-same (lowestAt work k) (lowestOf m e) (lowest-cells work k m e columns)

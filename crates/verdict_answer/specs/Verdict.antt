@@ -42,7 +42,7 @@ schemaBy m lowest schema = cond (ltb (blockedBy lowest) 16) schema (over (witnes
 -- ---- of an expression
 
 -- FORMAT 7.8: the witness of an expression, for m relations
-unfoldable pub witnessOf : ℕ → Expression → List ℕ
+abbrev pub witnessOf : ℕ → Expression → List ℕ
 witnessOf m e = witnessBytes m (lowestOf m e)
 
 -- ---- the operation: 1 to 13 (FORMAT 8.5), and then the outcome by the node's expression

@@ -22,12 +22,16 @@ use Rattle.special_maps.specs.SpecialLaws.{maps-length, maps-even}
 use Rattle.schema.specs.Schema.{schemaBytes, recordsOf, WritesFrom, schemaSize}
 use Rattle.verdict_answer.specs.Lowest.{lowestOf, lowestAt, blockedBy, chosenBy, subsetsAt}
 use Rattle.verdict_answer.specs.LowestLaws.{chosen-size, chosen-none, subsets-blocked, subsets-chosen, blocked-same, chosen-same, lowest-cells}
-use Rattle.verdict_answer.specs.Verdict.{witnessBytes, outcome, outcomeBy, schemaBy, verdictAnswer, verdictSpace, verdictSchema}
+use Rattle.verdict_answer.specs.Verdict.{witnessRecords, witnessBytes, outcome, outcomeBy, schemaBy, verdictAnswer, verdictSpace, verdictSchema}
 use Rattle.verdict_answer.specs.declared.Subsets.{Subsets}
 use Rattle.verdict_answer.specs.declared.Outcome.{Outcome}
 use Rattle.verdict_answer.specs.declared.Outcome.the-variants.{Typable, Untypable, Refused}
 
 -- ---- what is outcome
+
+pub witness-bytes : (m : ℕ) (lowest : ℕ → ℕ) → witnessBytes m lowest ≡ schemaBytes (witnessRecords m lowest)
+unfolding witnessBytes
+witness-bytes m lowest = refl
 
 module _ (m : ℕ) (lowest : ℕ → ℕ) (schema : List ℕ) where
   pub outcome-untypable : blockedBy lowest < 16 → (outcomeBy m lowest ≡ Untypable (blockedBy lowest)) × (schemaBy m lowest schema ≡ schema)

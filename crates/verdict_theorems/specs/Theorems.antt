@@ -4,38 +4,32 @@
 --   Typing           an assignment and a type that the rules derive under it   (crate principal, Principal)
 --   expressionAt     the expression of a node                               (crate node_expression, NodeExpression)
 --   Witness          bytes that are a schema which types an expression      (WitnessLaws)
---   verdictAnswer, verdictSpace, verdictSchema   what Verdict leaves, by its contract   (crate verdict, Verdict)
+--   verdictAnswer, verdictSchema   what Verdict leaves, by its contract     (crate verdict_answer, Verdict)
+-- What the work space holds afterwards is verdict-space (crate verdict_answer, WorkSpace).
 use Prim.Native.Nat.{ℕ, _≤_, _<_}
-use mathlib.Core.Path.{_≡_, refl, sym, ap, _∙_}
+use mathlib.Core.Path.{_≡_, sym, _∙_}
 use mathlib.Core.Logic.{_↔_}
-use mathlib.Core.Bool.{Bool, true, false, cond}
 use mathlib.Core.List.{List, []}
 use native.Mathlib.Decide.{decLt}
 use native.Mathlib.Omega.{arith}
-use lib.Dec.{ltb}
 use lib.ListN.{length, take}
-use Rattle.bits.specs.Tab.{over, take-over}
+use Rattle.bits.specs.Tab.{take-over}
 use Rattle.algebra.specs.Expression.{Legal}
 use Rattle.principal.specs.Principal.{Typing}
 use Rattle.refusal.specs.declared.Refusal.{Refusal}
 use Rattle.refusal.specs.Number.{numberOf}
-use Rattle.expression_file.specs.declared.files.Acceptance.{Acceptance}
-use Rattle.expression_file.specs.declared.files.Acceptance.the-variants.{Accepted, Refused as FileRefused}
+use Rattle.expression_file.specs.declared.files.Acceptance.the-variants.{Accepted}
 use Rattle.expression_file.specs.ReadFile.{acceptance}
 use Rattle.expression_file.specs.Accepted.{accepted-file}
-use Rattle.admission.specs.Admission.{after, sliced, admitted}
+use Rattle.admission.specs.Admission.{sliced, admitted}
 use Rattle.admission.specs.AdmissionLaws.{sliced-passed, sliced-refused, admitted-passed, admitted-refused}
 use Rattle.record.specs.Record.{recordOf}
 use Rattle.record.specs.RecordLaws.{record-empty}
 use Rattle.node_expression.specs.NodeExpression.{expressionAt, expression-legal}
-use Rattle.stored_formula.specs.FormulaBytes.{formulasOf}
-use Rattle.stored_formula.specs.Formula.{formulaSpace}
-use Rattle.stored_formula.specs.FormulaLaws.{admitted-space}
 use Rattle.verdict_theorems.specs.WitnessLaws.{Witness, blocked-untypable, witness-typed}
-use Rattle.verdict_answer.specs.Lowest.{lowestOf, blockedBy, blockedOf}
-use Rattle.verdict_answer.specs.Verdict.{witnessOf, witnessBytes, outcome, outcomeBy, schemaBy, verdictAnswer, verdictSpace, verdictSchema}
+use Rattle.verdict_answer.specs.Lowest.{lowestOf, blockedOf}
+use Rattle.verdict_answer.specs.Verdict.{witnessBytes, outcomeBy, schemaBy, verdictAnswer, verdictSchema}
 use Rattle.verdict_answer.specs.VerdictLaws.{outcome-untypable, outcome-typable, verdict-stops, verdict-passes, verdict-unrefused}
-use Rattle.verdict_answer.specs.declared.Outcome.{Outcome}
 use Rattle.verdict_answer.specs.declared.Outcome.the-variants.{Typable, Untypable, Refused}
 use Rattle.schema.specs.Schema.{schemaSize}
 
@@ -67,7 +61,6 @@ module _ (file : List ℕ) (m n : ℕ) (accepted : acceptance file ≡ Accepted 
     written = sym (verdict-passes file k work schema m n passes .1 .1)
 
     blocked-said : (a : ℕ) → verdictAnswer file k (length work) (length schema) ≡ Untypable a → blockedOf m (expressionAt file k) < 16
-    unfolding blockedOf
     blocked-said a said = go (decLt (blockedOf m (expressionAt file k)) 16)
       where
         go : Dec (blockedOf m (expressionAt file k) < 16) → blockedOf m (expressionAt file k) < 16
@@ -76,7 +69,6 @@ module _ (file : List ℕ) (m n : ℕ) (accepted : acceptance file ≡ Accepted 
 
     -- untypable is said exactly where no assignment types the node
     pub verdict-untypable : ((a : ℕ) × (verdictAnswer file k (length work) (length schema) ≡ Untypable a)) ↔ (Typing m (expressionAt file k) → ⊥)
-    unfolding blockedOf
     verdict-untypable =
         let right = blocked-untypable m few (expressionAt file k) legal in (
           (λ said. right .0 (blocked-said (said .0) (said .1))),
@@ -84,7 +76,6 @@ module _ (file : List ℕ) (m n : ℕ) (accepted : acceptance file ≡ Accepted 
         )
 
     witnessed : (size : ℕ) → verdictAnswer file k (length work) (length schema) ≡ Typable size → Witness m (expressionAt file k) (take size (verdictSchema file k (length work) schema))
-    unfolding blockedOf witnessOf
     witnessed size said = go (decLt (blockedOf m (expressionAt file k)) 16)
       where
         go : Dec (blockedOf m (expressionAt file k) < 16) → Witness m (expressionAt file k) (take size (verdictSchema file k (length work) schema))
@@ -100,36 +91,6 @@ module _ (file : List ℕ) (m n : ℕ) (accepted : acceptance file ≡ Accepted 
   -- types the node by the rules
   pub verdict-witness : (work schema : List ℕ) (size : ℕ) → verdictAnswer file k (length work) (length schema) ≡ Typable size → Witness m (expressionAt file k) (take size (verdictSchema file k (length work) schema))
   verdict-witness work schema size said = witnessed work schema (λ r refused. let both = sym said ∙ refused in let z : _≡_ {A = ℕ} 0 1 = cc in omega arith) size said
-
--- ---- the work space after Verdict, whatever it answers: the formulas, as Formula leaves them, unless it refuses
-
--- FORMAT 8.6: which answers come with a work space that is filled: all but refusals
-abbrev pub verdictFills : Outcome → Bool
-verdictFills (Typable size) = true
-verdictFills (Untypable a) = true
-verdictFills (Refused r) = false
-
-outcome-fills : (m : ℕ) (lowest : ℕ → ℕ) → verdictFills (outcomeBy m lowest) ≡ true
-unfolding outcomeBy
-outcome-fills m lowest = go (ltb (blockedBy lowest) 16)
-  where
-    go : (t : Bool) → verdictFills (outcome t (blockedBy lowest) (witnessBytes m lowest)) ≡ true
-    go true = refl
-    go false = refl
-
-pub verdict-space : (file : List ℕ) (k : ℕ) (work : List ℕ) (size : ℕ) → verdictSpace file k work size ≡ cond (verdictFills (verdictAnswer file k (length work) size)) (formulaSpace file work) work
-unfolding verdictSpace verdictAnswer
-verdict-space file k work size = go (sliced (admitted file k (length work)) size schemaSize) refl
-  where
-    go :
-        (a : Acceptance)
-        → sliced (admitted file k (length work)) size schemaSize ≡ a
-        → after a (λ r. work) (λ m n. over (formulasOf file m n) work)
-        ≡ cond (verdictFills (after a Refused (λ m n. outcomeBy m (lowestOf m (expressionAt file k))))) (formulaSpace file work) work
-    go (FileRefused r) is = refl
-    go (Accepted m n) is =
-        admitted-space file k work m n (sliced-passed (admitted file k (length work)) size schemaSize is .0)
-        ∙ sym (ap (λ (t : Bool). cond t (formulaSpace file work) work) (outcome-fills m (lowestOf m (expressionAt file k))))
 
 -- ---- Record: where it is empty, Verdict gives the number of the refusal, whatever its slices are
 

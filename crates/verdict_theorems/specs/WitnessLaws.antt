@@ -14,7 +14,7 @@ use lib.Dec.{eqb}
 use lib.ListN.{getD, List·getD-eq-default}
 use lib.Pow.{pow-mono, pow-pos}
 use Rattle.bits.specs.Bit.{bit, bit-none, bit-above}
-use Rattle.bits.specs.Lowest.{Lowest, lowest-is}
+use Rattle.bits.specs.Lowest.{Lowest}
 use Rattle.bits.specs.Word.{Bytes}
 use Rattle.attribute_set.specs.AttrSet.{special}
 use Rattle.attribute_set.specs.Laws.{special-range, special-in}
@@ -36,8 +36,9 @@ use Rattle.schema.specs.RecordsLaws.{schema-bytes}
 use Rattle.schema.specs.TableLaws.{ReadSchema}
 use Rattle.schema.specs.Image.{IsTable, image-size, image-at, image-records, image-schema}
 use Rattle.verdict_answer.specs.Lowest.{lowestOf, blockedOf, chosenBy}
-use Rattle.verdict_answer.specs.LowestLaws.{blocked-lowest, chosen-none, chosen-special}
-use Rattle.verdict_answer.specs.Verdict.{witnessRecords, witnessBytes, witnessOf}
+use Rattle.verdict_answer.specs.LowestLaws.{lowest-of, blocked-lowest, chosen-none, chosen-special}
+use Rattle.verdict_answer.specs.Verdict.{witnessRecords, witnessOf}
+use Rattle.verdict_answer.specs.VerdictLaws.{witness-bytes}
 
 -- these are bytes, they are read as a schema of m relations without a refusal, and the rules derive a type of e under
 -- the assignment that it means
@@ -58,11 +59,9 @@ module _ (m : ℕ) (few : m ≤ 8) (e : Expression) (legal : Legal m e) where
   is-formula = record { allowed = λ c s hc hs. allowed-is m e c s hs; output = λ c s hc hs. output-is m e c s hs }
 
   lowest : (i : ℕ) → Lowest 256 0 (allowedBit m e i) (lowestOf m e i)
-  unfolding lowestOf
-  lowest i = lowest-is 256 0 (allowedBit m e i)
+  lowest = lowest-of m e
 
   first : Lowest 15 1 (λ i. eqb (lowestOf m e i) 256) (blockedOf m e)
-  unfolding blockedOf
   first = blocked-lowest (lowestOf m e)
 
   -- ---- untypable
@@ -99,7 +98,6 @@ module _ (m : ℕ) (few : m ≤ 8) (e : Expression) (legal : Legal m e) where
     -- the subsets of the witness
 
     subset-is : (i : ℕ) → 1 ≤ i → i < 16 → getD (chosenBy (lowestOf m e)) i 0 ≡ lowestOf m e i
-    unfolding blockedOf
     subset-is i some most = chosen-special (lowestOf m e) i none some most
 
     subset-below : (i : ℕ) → i < 16 → getD (chosenBy (lowestOf m e)) i 0 < 2 ^ m
@@ -159,16 +157,16 @@ module _ (m : ℕ) (few : m ≤ 8) (e : Expression) (legal : Legal m e) where
 
     -- the witness is a schema that types it
     pub witness-typed : Witness m e (witnessOf m e)
-    unfolding witnessOf witnessBytes
     witness-typed =
-        record {
+        rw (witness-bytes m (lowestOf m e))
+        (record {
           below = schema-bytes (witnessRecords m (lowestOf m e)) (image-records m few (mapsFrom (chosenBy (lowestOf m e))) [] table);
           records = witnessRecords m (lowestOf m e);
           reading = image-schema m few (mapsFrom (chosenBy (lowestOf m e))) [] table;
           type = chosenType choice;
           isType = choice-type (cellFormula m e) choice;
           typed = subst (λ (A : Assignment). Typed A e (chosenType choice)) (sym witness-chosen) (Theorem.choice-typed e (cellFormula m e) legal is-formula choice);
-        }
+        })
 
     -- an assignment that types the expression
     pub unblocked-typable : Theorem.Typing m e

@@ -1,6 +1,6 @@
 use native.Mathlib.Omega.{arith}
 use Rattle.text.specs.Put.{wrote-more}
-use Rattle.listing.specs.ListingLaws.{number-most}
+use Rattle.refusal.specs.Number.{number-most}
 use borrow.Author.Needs.{needs}
 use Rattle.listing.proofs.write_refused as fn
 use fn.Statement.{statement}

@@ -1,20 +1,26 @@
-use native.Mathlib.Omega.{arith}
 use Rattle.bits.specs.Bit.{shifted-one}
-use Rattle.type_sets.specs.Sets.{lacking, without, renamingBreaks, renamed}
+use native.Mathlib.Omega.{arith}
 use borrow.Author.Needs.{needs}
 use Rattle.node_sets.proofs.lay_renaming as fn
 use fn.Statement.{statement}
 use fn.Tie as tie
 
 returns : tie.Need-returns
-unfolding lacking without renamingBreaks renamed
 returns c =
-    let start = c.before.before.before.before.before.before in
+    let at-without = c.before.before.before in
+    let start = at-without.before.before.before.before.before in
     let args = start.args in
     let pre = start.pre.0 in
-    rw (shifted-one 64 args.old (omega arith), shifted-one 64 args.new (omega arith)) at c.before.before.keep-entries.ensures
+    rw (
+      at-without.without.ensures,
+      at-without.before.lacking.ensures,
+      shifted-one 64 args.old (omega arith),
+      shifted-one 64 args.new (omega arith),
+    )
+    at c.before.before.keep-entries.ensures
 
 pub lay-renaming-spec : {M : Type 1} → statement M
 lay-renaming-spec =
-    tie.close (tie.spec (λ c. search needs) (λ c. search needs) (λ c. search needs) (λ c. search needs) (λ c. search needs)
-    (λ c κs. search needs) (λ c. search needs) returns)
+    tie.close (tie.spec (λ c. search needs) (λ c. search needs) (λ c. search needs) (λ c. search needs)
+    (λ c. search needs) (λ c κs. search needs) (λ c κs. search needs) (λ c κs. search needs) (λ c. search needs)
+    returns)

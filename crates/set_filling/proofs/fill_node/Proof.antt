@@ -3,7 +3,7 @@ use mathlib.Core.Path.{sym, ap, subst, _∙_}
 use native.Mathlib.Omega.{arith}
 use Rattle.node.specs.Legal.{LegalNode}
 use Rattle.expression_file.specs.Walk.{here-decoded}
-use Rattle.set_filling.specs.FilledSets.{filled-node}
+use Rattle.type_sets.specs.FilledSets.{filled-node}
 use borrow.Author.Needs.{needs}
 use Rattle.set_filling.proofs.fill_node as fn
 use fn.Statement.{statement}

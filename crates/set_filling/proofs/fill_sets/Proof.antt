@@ -5,7 +5,7 @@ use lib.ListN.{length, take}
 use Rattle.expression_file.specs.Accepted.{accepted-file}
 use Rattle.expression_file.specs.Walk.{Walk, walk-first, walk-next, walk-here}
 use Rattle.type_sets.specs.SetLaws.{node-below}
-use Rattle.set_filling.specs.FilledSets.{Filled, filled-none}
+use Rattle.type_sets.specs.FilledSets.{Filled, filled-none}
 use borrow.Author.Needs.{needs}
 use Rattle.set_filling.proofs.fill_sets as fn
 use fn.Statement.{statement}

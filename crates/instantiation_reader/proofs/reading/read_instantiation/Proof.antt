@@ -1,4 +1,4 @@
-use Rattle.instantiation_reader.proofs.TestsAfterLists.{refused-reading, reading-short, lists-refused, found, over-repeated, over-many, lists-fit, lists-room, falls, lists-read-all}
+use Rattle.instantiation.specs.TestsAfterLists.{refused-reading, reading-short, lists-refused, found, over-repeated, over-many, lists-fit, lists-room, falls, lists-read-all}
 use native.Mathlib.Omega.{arith}
 use borrow.Author.Needs.{needs}
 use Rattle.instantiation_reader.proofs.reading.read_instantiation as fn

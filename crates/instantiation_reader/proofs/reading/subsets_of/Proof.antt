@@ -7,9 +7,9 @@ use native.Mathlib.Omega.{arith}
 use borrow.Author.Tests.{ne-eqb}
 use lib.Dec.{eqb}
 use lib.ListN.{getD, replicate}
-use Rattle.bits.specs.Tab.{tab-is}
 use Rattle.bits.specs.Written.{Written, written-more}
 use Rattle.instantiation.specs.Instantiation.{subsetsOf}
+use Rattle.instantiation.specs.TableLaws.{subsets-are}
 use borrow.Author.Needs.{needs}
 use Rattle.instantiation_reader.proofs.reading.subsets_of as fn
 use fn.Statement.{statement}
@@ -31,8 +31,7 @@ given-more : (bytes : List ℕ) (i : ℕ) → getD bytes i 0 ≡ given bytes (i 
 given-more bytes i = rw (ne-eqb (i + 1) 0 (λ e. omega arith), add-sub-cancel i 1)
 
 all : (bytes subsets : List ℕ) (i : ℕ) → i ≤ 15 → 15 ≤ i → Written (given bytes) (i + 1) (replicate 16 0) subsets → subsets ≡ subsetsOf bytes
-unfolding subsetsOf
-all bytes subsets i most last w = tab-is 16 (given bytes) 0 subsets w.size (λ j h. w.front j (omega arith))
+all bytes subsets i most last w = subsets-are bytes subsets w.size (λ j h. w.front j (omega arith))
 
 abbrev Inv : tie.InvT-loop
 Inv bytes subsets₀ i₀ subsets i = (i ≤ 15) × Written (given bytes) (i + 1) (replicate 16 0) subsets

@@ -2,23 +2,20 @@ use mathlib.Core.Bool.{true≢false}
 use mathlib.Core.Path.{sym, _∙_}
 use native.Mathlib.Omega.{arith}
 use Rattle.attribute_set.specs.Laws.{built-none, built-set}
-use Rattle.node.specs.Reading.{checked-long, checked-set, node-is}
-use Rattle.node.specs.ReadNode.{sizeOf}
+use Rattle.node.specs.Reading.{checked-long, checked-set, node-is, set-size}
 use borrow.Author.Needs.{needs}
 use Rattle.node_reader.proofs.decoding.decode_with_set as fn
 use fn.Statement.{statement}
 use fn.Tie as tie
 
 shared-slice-read-build : tie.Need-shared-slice-read-build
-unfolding sizeOf
-shared-slice-read-build c = let long = checked-long _ 26 c.before.before.pre.1 c.before.before.pre.0 in omega arith
+shared-slice-read-build c = let long = checked-long _ 26 c.before.before.pre.1 c.before.before.pre.0 in omega (arith, set-size)
 
 cast-build : tie.Need-cast-build
 cast-build c = omega (arith, c.before.shared-slice-known.given 3)
 
 shared-slice-read-build-2 : tie.Need-shared-slice-read-build-2
-unfolding sizeOf
-shared-slice-read-build-2 c = let long = checked-long _ 26 c.before.before.before.pre.1 c.before.before.before.pre.0 in omega arith
+shared-slice-read-build-2 c = let long = checked-long _ 26 c.before.before.before.pre.1 c.before.before.before.pre.0 in omega (arith, set-size)
 
 cast-build-2 : tie.Need-cast-build-2
 cast-build-2 c = omega (arith, c.before.before.shared-slice-known.given 4)
@@ -30,18 +27,16 @@ add-build : tie.Need-add-build
 add-build c = omega (arith, c.before.before.shared-slice-known.given 3, c.before.before.shared-slice-known.given 4)
 
 shared-slice-read-set-operator : tie.Need-shared-slice-read-set-operator
-unfolding sizeOf
 shared-slice-read-set-operator c =
     let pre = c.before.before.before.before.before.before.before.before.pre in
     let long = checked-long _ 26 pre.1 pre.0 in
-    omega arith
+    omega (arith, set-size)
 
 shared-slice-read-t17 : tie.Need-shared-slice-read-t17
-unfolding sizeOf
 shared-slice-read-t17 c =
     let pre = c.before.before.before.before.before.before.before.before.before.before.pre in
     let long = checked-long _ 26 pre.1 pre.0 in
-    omega arith
+    omega (arith, set-size)
 
 returns : tie.Need-returns
 returns c =

@@ -2,8 +2,8 @@ use Prim.Native.Nat.{ℕ, _+_, _-_, _≤_, _<_}
 use mathlib.Core.Path.{_≡_, refl}
 use native.Mathlib.Omega.{arith}
 use lib.ListN.{length, getD, length-set}
-use Rattle.stored_formula.specs.ColumnPlace.{columnAt}
-use Rattle.planes.specs.Storage.{copied-more, copied-done}
+use Rattle.stored_formula.specs.ColumnPlace.{column-copied}
+use Rattle.planes.specs.Storage.{copied-more}
 use borrow.Author.Needs.{needs}
 use Rattle.stored_columns.proofs.storage.read_column as fn
 use fn.Statement.{statement}
@@ -30,8 +30,7 @@ loop-again c =
     )
 
 returns : tie.Need-returns Inv μ
-unfolding columnAt
-returns c = let all : c.before.loop.i ≡ 64 = omega arith in copied-done 64 _ _ _ c.before.loop.inv.1 c.before.before.pre (rw all at c.before.loop.inv.2)
+returns c = let all : c.before.loop.i ≡ 64 = omega arith in column-copied _ _ _ _ c.before.loop.inv.1 c.before.before.pre (rw all at c.before.loop.inv.2)
 
 pub read-column-spec : {M : Type 1} → statement M
 read-column-spec =

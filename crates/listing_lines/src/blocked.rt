@@ -3,7 +3,7 @@ ghost use mathlib.Core.Path.{_≡_};
 ghost use Prim.Native.Nat.{_+_, _*_, _≤_};
 ghost use lib.ListN.{length};
 ghost use Rattle.verdict_answer.specs.Lowest.{lowestAt, blockedBy};
-ghost use Rattle.listing_entries.specs.Text.{someBlocked};
+ghost use Rattle.listing_lines.specs.Text.{someBlocked};
 ghost use Rattle.admission.specs.Admission.{formulaSize};
 use lowest_subsets::lowest_subsets;
 

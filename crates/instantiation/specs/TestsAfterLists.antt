@@ -6,7 +6,8 @@ use mathlib.Core.List.{List}
 use native.Mathlib.Decide.{decLt}
 use native.Mathlib.Omega.{arith}
 use borrow.Author.Tests.{lt-ltb, le-ltb}
-use lib.ListN.{length, take, drop}
+use lib.ListN.{length, take, drop, replicate}
+use Rattle.bits.specs.Tab.{tab-same}
 use Rattle.bits.specs.Word.{Bytes}
 use Rattle.refusal.specs.declared.Refusal.{Refusal}
 use Rattle.refusal.specs.declared.Refusal.the-variants.{InputTruncated, TooManyAttributes, RepeatedAttribute}
@@ -18,17 +19,22 @@ use Rattle.entry_sorting.specs.Order.{ascending}
 use Rattle.entry_sorting.specs.Passes.{front-fit}
 use Rattle.entry_sorting.specs.Sorting.{byAttribute}
 use Rattle.schema.specs.Schema.{EntriesStand}
-use Rattle.schema.specs.declared.reading.Judgement.the-variants.{Read}
+use Rattle.schema.specs.declared.reading.Judgement.the-variants.{Read, Refused}
 use Rattle.instantiation.specs.declared.InstantiationReading.{InstantiationReading}
 use Rattle.instantiation.specs.declared.ListsReading.{ListsReading}
 use Rattle.instantiation.specs.declared.ListsReading.the-variants.{Listed as ListsListed, Refused as ListsRefused}
 use Rattle.instantiation.specs.Instantiation.{Instantiation, Lists, readLists, entriesIn, allListed, subsetsOf, refusedInstantiation, instantiationReading, readingOf}
 use Rattle.instantiation.specs.Gathering.{listedFrom, gathered, GatheredIn}
 use Rattle.instantiation.specs.ReadLaws.{IsLists, lists-read}
 use Rattle.instantiation.specs.Seen.{nothingSeen, repeatedIn}
 use Rattle.instantiation.specs.SortedLists.{listed-below, rising-apart, falling-repeated, sorted-lists, sorted-length}
 
 -- ---- a refusal
+
+-- what is handed on, by its fields
+pub refused-fields : (r : Refusal) → record { judgement = Refused r; subsets = replicate 16 0; count = 0 } ≡ readingOf (refusedInstantiation r)
+unfolding readingOf refusedInstantiation
+refused-fields r = ap (λ (s : List ℕ). record { judgement = Refused r; subsets = s; count = 0 }) (sym (tab-same 16 0))
 
 -- what is handed on, and nothing is said of the entries
 pub refused-reading :

@@ -1,8 +1,8 @@
 use mathlib.Core.Path.{ap}
 use Rattle.verdict_answer.specs.LowestLaws.{subsets-blocked}
-use Rattle.listing_entries.specs.Text.{someBlocked}
+use Rattle.listing_lines.specs.Text.{someBlocked}
 use borrow.Author.Needs.{needs}
-use Rattle.listing_entries.proofs.blocked.is_blocked as fn
+use Rattle.listing_lines.proofs.blocked.is_blocked as fn
 use fn.Statement.{statement}
 use fn.Tie as tie
 

@@ -12,10 +12,11 @@ use Rattle.node.specs.ReadNode.{sizeOf, checkFields, checkNode, nodeOf, readNod
 use Rattle.expression_file.specs.ReadFile.{acceptance, parse, header, readNodes, placedAt, placedNodes}
 use Rattle.node_expression.specs.NodeExpression.{expressionAt, earlier}
 use Rattle.stored_formula.specs.FormulaBytes.{allowedBit, outputBit}
-use Rattle.verdict_answer.specs.Lowest.{lowestOf, blockedBy, blockedOf}
+use Rattle.verdict_answer.specs.Lowest.{lowestOf, blockedBy}
 use Rattle.text.specs.Each.{each}
 use Rattle.text.specs.Characters.{subsetText, hexDigit, decimal}
-use Rattle.listing_entries.specs.Text.{textOf, listing, nodeLine, relationLine, outLine, attributeLine, namedBelow, isBlocked}
+use Rattle.listing_entries.specs.Naming.{namedBelow}
+use Rattle.listing_lines.specs.Text.{textOf, listing, nodeLine, relationLine, outLine, attributeLine, isBlocked}
 
 -- σ{2,3}((ρ1/2(r0) ∪ r1) ⋈ r2)
 abbrev pub e1 : List ℕ
@@ -32,7 +33,7 @@ pub e1-text :
     ∷ 97 ∷ 50 ∷ 58 ∷ 32 ∷ 48 ∷ 50 ∷ 43 ∷ 32 ∷ 48 ∷ 54 ∷ 43 ∷ 10
     ∷ 97 ∷ 51 ∷ 58 ∷ 32 ∷ 48 ∷ 51 ∷ 43 ∷ 32 ∷ 48 ∷ 52 ∷ 43 ∷ 32 ∷ 48 ∷ 55 ∷ 43 ∷ 10 ∷ []
 unfolding textOf listing nodeLine relationLine outLine attributeLine namedBelow isBlocked each subsetText hexDigit decimal acceptance
-    expressionAt allowedBit outputBit bit lowestOf blockedBy blockedOf lowestFrom hasAttribute parse header readNodes readNode checkNode
+    expressionAt allowedBit outputBit bit lowestOf blockedBy lowestFrom hasAttribute parse header readNodes readNode checkNode
     checkFields sizeOf nodeOf refuse inRange placedAt placedNodes earlier special setOf binaryOf setOpOf
 e1-text = refl
 
@@ -49,6 +50,6 @@ pub e5-text :
     ∷ 97 ∷ 50 ∷ 58 ∷ 32 ∷ 48 ∷ 49 ∷ 43 ∷ 10
     ∷ 97 ∷ 51 ∷ 58 ∷ 32 ∷ 48 ∷ 49 ∷ 43 ∷ 10 ∷ []
 unfolding textOf listing nodeLine relationLine outLine attributeLine namedBelow isBlocked each subsetText hexDigit decimal acceptance
-    expressionAt allowedBit outputBit bit lowestOf blockedBy blockedOf lowestFrom hasAttribute parse header readNodes readNode checkNode
+    expressionAt allowedBit outputBit bit lowestOf blockedBy lowestFrom hasAttribute parse header readNodes readNode checkNode
     checkFields sizeOf nodeOf refuse inRange placedAt placedNodes earlier special setOf binaryOf setOpOf
 e5-text = refl

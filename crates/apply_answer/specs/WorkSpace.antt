@@ -1,5 +1,5 @@
--- The work space after Apply and Recover (FORMAT 8.6): the formulas, as Formula leaves them, where the operation got as
--- far as reading them; else as it was.
+-- The work space after Apply (FORMAT 8.6): the formulas, as Formula leaves them, where Apply got as far as reading them;
+-- else as it was.
 use Prim.Native.Nat.{ℕ, _≤_}
 use mathlib.Core.Path.{_≡_, refl, sym, ap, ap₂, _∙_}
 use mathlib.Core.Bool.{Bool, true, false, cond, _||_}
@@ -22,18 +22,15 @@ use Rattle.node_expression.specs.NodeExpression.{expressionAt}
 use Rattle.stored_formula.specs.FormulaBytes.{formulasOf}
 use Rattle.stored_formula.specs.Formula.{formulaSpace}
 use Rattle.stored_formula.specs.FormulaLaws.{admitted-space}
-use Rattle.schema.specs.Schema.{schemaReading, schemaSize}
+use Rattle.schema.specs.Schema.{schemaSize}
 use Rattle.schema.specs.declared.reading.Judgement.{Judgement}
 use Rattle.schema.specs.declared.reading.Judgement.the-variants.{Read, Refused as ReadRefused}
-use Rattle.instantiation.specs.Instantiation.{instantiationReading, instantiationSize}
+use Rattle.instantiation.specs.Instantiation.{instantiationReading}
 use Rattle.instantiation.specs.TableLaws.{reading-number}
 use Rattle.typing_answer.specs.Typing.{afterSchema}
 use Rattle.apply_answer.specs.Apply.{tableApplied, readApplied, readSpace, applyAnswer, applySpace}
-use Rattle.recover_answer.specs.Recover.{fits, recovered, tableRecovered, readRecovered, recoverAnswer, recoverSpace}
 use Rattle.apply_answer.specs.declared.Application.{Application}
 use Rattle.apply_answer.specs.declared.Application.the-variants.{Applied, Refused}
-use Rattle.recover_answer.specs.declared.Recovery.{Recovery}
-use Rattle.recover_answer.specs.declared.Recovery.the-variants.{Recovered, Untyped, Refused as RecoverRefused}
 use Rattle.type_record.specs.Record.{outputSize}
 
 -- ---- which answers come with a work space that is filled
@@ -47,17 +44,11 @@ abbrev pub applyFills : Application → Bool
 applyFills (Applied size width) = true
 applyFills (Refused r) = refusalFills r
 
--- FORMAT 8.6: those of Recover
-abbrev pub recoverFills : Recovery → Bool
-recoverFills (Recovered size) = true
-recoverFills Untyped = true
-recoverFills (RecoverRefused r) = false
-
 -- an earlier refusal does not
 early-leaves : (r : Refusal) → numberOf r ≤ 19 → refusalFills r ≡ false
 early-leaves r most = ap₂ _||_ (ne-eqb (numberOf r) 20 (λ e. omega arith)) (ne-eqb (numberOf r) 21 (λ e. omega arith))
 
--- ---- Apply
+-- ---- it is filled
 
 -- whatever a table gives, the work space was filled before
 table-fills : (m : ℕ) (e : Expression) (subsets entries : List ℕ) → applyFills (tableApplied m e subsets entries) ≡ true
@@ -110,46 +101,3 @@ module _ (file : List ℕ) (k : ℕ) (bytes work : List ℕ) (size outSize : ℕ
           (sliced-passed (admitted file k (length work)) size schemaSize
           (sliced-passed (sliced (admitted file k (length work)) size schemaSize) outSize outputSize is .0) .0)
           (instantiationReading bytes .judgement) refl
-
--- ---- Recover
-
-table-recovers : (m : ℕ) (e : Expression) (special entries : List ℕ) → recoverFills (tableRecovered m e special entries) ≡ true
-unfolding tableRecovered
-table-recovers m e special entries = go (fits m e special entries)
-  where
-    go : (t : Bool) → recoverFills (recovered t special entries) ≡ true
-    go true = refl
-    go false = refl
-
-module _ (file : List ℕ) (k : ℕ) (bytes work : List ℕ) (size : ℕ) where
-  pub recover-space : recoverSpace file k bytes work size ≡ cond (recoverFills (recoverAnswer file k bytes (length work) size)) (formulaSpace file work) work
-  unfolding recoverSpace recoverAnswer readSpace readRecovered
-  recover-space = admission (sliced (admitted file k (length work)) size instantiationSize) refl
-    where
-      read :
-          (m n : ℕ)
-          → admitted file k (length work) ≡ Accepted m n
-          → (j : Judgement)
-          → afterSchema j (λ r. work) (over (formulasOf file m n) work)
-          ≡ cond
-          (recoverFills
-          (afterSchema j RecoverRefused
-          (tableRecovered m (expressionAt file k) (schemaReading m bytes .special) (schemaReading m bytes .entries))))
-          (formulaSpace file work) work
-      read m n admits (ReadRefused r) = refl
-      read m n admits Read =
-          admitted-space file k work m n admits
-          ∙ sym (ap (λ (t : Bool). cond t (formulaSpace file work) work) (table-recovers m (expressionAt file k) (schemaReading m bytes .special) (schemaReading m bytes .entries)))
-
-      admission :
-          (a : Acceptance)
-          → sliced (admitted file k (length work)) size instantiationSize ≡ a
-          → after a (λ r. work) (λ m n. afterSchema (schemaReading m bytes .judgement) (λ r. work) (over (formulasOf file m n) work))
-          ≡ cond
-          (recoverFills
-          (after a RecoverRefused
-          (λ m n. afterSchema (schemaReading m bytes .judgement) RecoverRefused
-          (tableRecovered m (expressionAt file k) (schemaReading m bytes .special) (schemaReading m bytes .entries)))))
-          (formulaSpace file work) work
-      admission (FileRefused r) is = refl
-      admission (Accepted m n) is = read m n (sliced-passed (admitted file k (length work)) size instantiationSize is .0) (schemaReading m bytes .judgement)

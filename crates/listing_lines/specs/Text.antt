@@ -1,28 +1,22 @@
 -- The text that the listing program prints for the last node of an expression file (FORMAT 7.15 to 7.17).
-use Prim.Native.Nat.{ℕ, zero, suc, _+_, _-_}
-use mathlib.Core.Bool.{Bool, true, false, cond, _&&_, _||_}
+use Prim.Native.Nat.{ℕ, _+_, _-_}
+use mathlib.Core.Bool.{Bool, true, false, cond, _&&_}
 use mathlib.Core.List.{List, [], _∷_, _++_}
-use lib.Dec.{eqb, ltb}
+use lib.Dec.{ltb}
 use Rattle.bits.specs.Bit.{bit}
 use Rattle.text.specs.Characters.{decimal, subsetText, newline}
 use Rattle.text.specs.Each.{each}
-use Rattle.attribute_set.specs.AttrSet.{hasAttribute}
 use Rattle.refusal.specs.Number.{numberOf}
 use Rattle.algebra.specs.Expression.{Expression}
 use Rattle.states.specs.Formula.{typeVariable}
-use Rattle.node.specs.declared.nodes.Node.{Node}
-use Rattle.node.specs.declared.nodes.Node.the-variants.{Relation, Binary, WithSet, Renaming, ProjectingOut}
 use Rattle.expression_file.specs.declared.files.Acceptance.{Acceptance}
 use Rattle.expression_file.specs.declared.files.Acceptance.the-variants.{Accepted, Refused}
 use Rattle.expression_file.specs.ReadFile.{acceptance, nodeAt}
 use Rattle.node_expression.specs.NodeExpression.{expressionAt}
 use Rattle.stored_formula.specs.FormulaBytes.{allowedBit, outputBit}
 use Rattle.verdict_answer.specs.Lowest.{blockedOf}
-
--- what is printed where a test holds
-abbrev pub whenSo : Bool → List ℕ → List ℕ
-whenSo true text = text
-whenSo false text = []
+use Rattle.listing_entries.specs.Entries.{whenSo}
+use Rattle.listing_entries.specs.Naming.{namedBelow}
 
 -- ---- lines
 
@@ -57,21 +51,6 @@ attributeLine m e i =
     (97 ∷ []) ++ decimal i ++ (58 ∷ [])
     ++ each 256 (λ s. whenSo (allowedBit m e i s) (subsetText s ++ (cond (outputBit m e i s) 43 45 ∷ [])))
     ++ newline
-
--- ---- the attributes that nodes of the file name
-
--- FORMAT 7.15: the node names attribute i, in its set, as old or as new
-abbrev pub names : Node → ℕ → Bool
-names (Relation r) i = false
-names (Binary op l r) i = false
-names (WithSet op k s) i = hasAttribute s i
-names (Renaming k old new) i = eqb old i || eqb new i
-names (ProjectingOut k old) i = eqb old i
-
--- FORMAT 7.15: one of the nodes below n names it
-unfoldable pub namedBelow : (ℕ → Node) → ℕ → ℕ → Bool
-namedBelow node zero i = false
-namedBelow node (suc n) i = namedBelow node n i || names (node n) i
 
 -- ---- the text
 
