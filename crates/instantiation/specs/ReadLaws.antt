@@ -82,19 +82,19 @@ module _ (subsets : List ℕ) (ls : List (List ℕ)) where
   front = tab 15 (λ i. getD subsets (i + 1) 0)
 
   -- the subsets, the map and the lists
-  pub bytes-parts : (tab 15 (λ i. getD subsets (i + 1) 0) ++ tab 32 (mapByte ls)) ++ listsBytes ls ≡ instantiationBytes subsets ls
+  pub instantiation-parts : (tab 15 (λ i. getD subsets (i + 1) 0) ++ tab 32 (mapByte ls)) ++ listsBytes ls ≡ instantiationBytes subsets ls
   unfolding instantiationBytes
-  bytes-parts = append-assoc front (tab 32 (mapByte ls)) (listsBytes ls)
+  instantiation-parts = append-assoc front (tab 32 (mapByte ls)) (listsBytes ls)
 
-  pub bytes-length : length (instantiationBytes subsets ls) ≡ 47 + length (listsBytes ls)
+  pub instantiation-length : length (instantiationBytes subsets ls) ≡ 47 + length (listsBytes ls)
   unfolding instantiationBytes
-  bytes-length =
+  instantiation-length =
       let size = length-tab 15 (λ i. getD subsets (i + 1) 0) in
       let all = length-tab 32 (mapByte ls) in
       rw (length-append, length-append) (omega arith)
 
   pub written-long : 47 ≤ length (instantiationBytes subsets ls)
-  written-long = let size = bytes-length in omega arith
+  written-long = let size = instantiation-length in omega arith
 
   written-after : drop 47 (instantiationBytes subsets ls) ≡ listsBytes ls
   unfolding instantiationBytes

@@ -80,7 +80,7 @@ pub record Found (bytes items : List ℕ) (k : ℕ) : Type 0 where
   table : TableIn (listedFrom 0 lists) items k
   short : k * 2 ≤ length bytes
 
-pub found :
+pub lists-found :
     (bytes items : List ℕ) {k : ℕ} {x : ListsReading}
     → 47 ≤ length bytes
     → Bytes bytes
@@ -88,7 +88,7 @@ pub found :
     → GatheredIn (length bytes) (readLists bytes 256 0 (drop 47 bytes)) items
     → x ≡ ListsListed k
     → Found bytes items k
-found bytes items {k} long below is stand e = go (readLists bytes 256 0 (drop 47 bytes)) refl stand
+lists-found bytes items {k} long below is stand e = go (readLists bytes 256 0 (drop 47 bytes)) refl stand
   where
     go : (ls : Lists) → readLists bytes 256 0 (drop 47 bytes) ≡ ls → GatheredIn (length bytes) ls items → Found bytes items k
     go (listsRefused q) read t = absurd (let said = sym (is ∙ ap gathered read) ∙ e in let z : _≡_ {A = ℕ} 0 1 = cc in omega arith)

@@ -13,7 +13,7 @@ use Rattle.entry_sorting.specs.SortedLaws.{RisingSubsets, subset-rising}
 use Rattle.entry_sorting.specs.Sorting.{byDigit}
 use Rattle.instantiation.specs.Instantiation.{listsOf, mapByte, listsBytes, instantiationBytes, WritesFrom}
 use Rattle.instantiation.specs.EntriesLaws.{lists-most}
-use Rattle.instantiation.specs.ReadLaws.{bytes-parts, bytes-length}
+use Rattle.instantiation.specs.ReadLaws.{instantiation-parts, instantiation-length}
 use Rattle.instantiation.specs.Runs.{BySubset, sorted-lists-of}
 
 -- what a part gives in the whole, where so many bytes stand before it
@@ -63,13 +63,13 @@ module _ (old subsets : List ℕ) (ls : List (List ℕ)) {out : List ℕ} (out-i
     whole-written {lists} same lists-written =
         part-over 47 (special subsets ++ tab 32 (mapByte ls)) (listsBytes ls) old (putMid 15 (length out - 15) out map) lists head-length
         head-is (rw same at lists-written)
-        ∙ ap (λ (l : List ℕ). over l old) (bytes-parts subsets ls)
+        ∙ ap (λ (l : List ℕ). over l old) (instantiation-parts subsets ls)
 
 pub whole-length : {n : ℕ} (subsets : List ℕ) (ls : List (List ℕ)) {written : List (List ℕ)} → written ≡ ls →
     n ≡ length (listsBytes written) → 47 + n ≡ length (instantiationBytes subsets ls)
 whole-length {n} subsets ls same n-is =
     let size = n-is ∙ ap (λ (l : List (List ℕ)). length (listsBytes l)) same in
-    let whole = bytes-length subsets ls in
+    let whole = instantiation-length subsets ls in
     omega arith
 
 pub lists-short : {subsets : List ℕ} (items : List ℕ) (count : ℕ) {written : List (List ℕ)} → WritesFrom subsets items count →

@@ -37,14 +37,14 @@ module _ (m : ℕ) (e : Expression) (legal : Legal m e) where
       lacks = bit-pack 16 (λ i. out plain e i (specialHolders special i)) 0 (lit< tt) ∙ rw none (cell-none plain refl refl m e legal .1)
 
 -- the output's map is of two bytes
-pub output-below : (e : Expression) (special : List ℕ) → outputMap e special < 65536
+pub output-map-below : (e : Expression) (special : List ℕ) → outputMap e special < 65536
 unfolding outputMap
-output-below e special = pack-below 16 (λ i. out plain e i (specialHolders special i))
+output-map-below e special = pack-below 16 (λ i. out plain e i (specialHolders special i))
 
 -- the bit of a special attribute
-pub output-bit : (e : Expression) (special : List ℕ) (i : ℕ) → i < 16 → bit (outputMap e special) i ≡ out plain e i (specialHolders special i)
+pub output-map-bit : (e : Expression) (special : List ℕ) (i : ℕ) → i < 16 → bit (outputMap e special) i ≡ out plain e i (specialHolders special i)
 unfolding outputMap
-output-bit e special i h = bit-pack 16 (λ i. out plain e i (specialHolders special i)) i h
+output-map-bit e special i h = bit-pack 16 (λ i. out plain e i (specialHolders special i)) i h
 
 -- the output's map, by its bits
 pub map-by-bits : (e : Expression) (special : List ℕ) (f : ℕ → Bool) → ((i : ℕ) → i < 16 → f i ≡ out plain e i (specialHolders special i)) → pack 16 f ≡ outputMap e special

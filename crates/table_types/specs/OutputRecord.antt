@@ -23,7 +23,7 @@ use Rattle.membership.specs.Entries.{attributeOf, subsetOf, holdersIn}
 use Rattle.membership.specs.EnterLaws.{RisingEntries, subset-bit}
 use Rattle.membership.specs.TableLaws.{Below}
 use Rattle.table_types.specs.Output.{specialHolders, outputMap, outputList}
-use Rattle.table_types.specs.OutputLaws.{map-even, none-held, output-below, output-bit}
+use Rattle.table_types.specs.OutputLaws.{map-even, none-held, output-map-below, output-map-bit}
 
 -- the output record over a table
 unfoldable pub outputRecord : Expression → List ℕ → List ℕ → TypeRecord
@@ -36,13 +36,13 @@ output-parts e special entries = refl
 -- ---- its type
 
 module _ (e : Expression) (special entries : List ℕ) where
-  pub output-special : (a : ℕ) → isSpecial a ≡ true → typeOf (outputRecord e special entries) a ≡ out plain e a (specialHolders special a)
+  pub output-of-special : (a : ℕ) → isSpecial a ≡ true → typeOf (outputRecord e special entries) a ≡ out plain e a (specialHolders special a)
   unfolding outputRecord
-  output-special a h = let range = special-range a h in type-of-special (outputRecord e special entries) a h ∙ output-bit e special a (omega arith)
+  output-of-special a h = let range = special-range a h in type-of-special (outputRecord e special entries) a h ∙ output-map-bit e special a (omega arith)
 
-  pub output-other : (a : ℕ) → isSpecial a ≡ false → typeOf (outputRecord e special entries) a ≡ member a (outputList e entries)
+  pub output-of-other : (a : ℕ) → isSpecial a ≡ false → typeOf (outputRecord e special entries) a ≡ member a (outputList e entries)
   unfolding outputRecord
-  output-other a h = type-of-other (outputRecord e special entries) a h
+  output-of-other a h = type-of-other (outputRecord e special entries) a h
 
 -- ---- the record
 
@@ -53,7 +53,7 @@ module _ (m : ℕ) (few : m ≤ 8) (e : Expression) (legal : Legal m e) where
       let most = kept-few (λ x. out plain e 0 (bit x)) es in
       record {
         even = map-even m e legal special even;
-        small = output-below e special;
+        small = output-map-below e special;
         few = omega arith;
         rising = kept-rising (λ x. out plain e 0 (bit x)) 15 es rising;
         below = kept-below (λ x. out plain e 0 (bit x)) es below;

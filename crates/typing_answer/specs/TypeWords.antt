@@ -18,7 +18,7 @@ use Rattle.algebra.specs.Expression.{Expression, Legal}
 use Rattle.algebra.specs.Cell.{plain, out, ok}
 use Rattle.algebra.specs.CellLaws.{cell-none}
 use Rattle.table_types.specs.Output.{specialHolders, typedIn, outputMap}
-use Rattle.table_types.specs.OutputLaws.{typed-special, typed-entry, all-typed, output-below, output-bit}
+use Rattle.table_types.specs.OutputLaws.{typed-special, typed-entry, all-typed, output-map-below, output-map-bit}
 use Rattle.type_sets.specs.Sets.{widthOf, placeColumn, heldAt, okAt, outAt, TypeIn}
 
 -- the bits of the entries in the words from a place on are those of e's output
@@ -92,7 +92,7 @@ module _ (m : ℕ) (e : Expression) (legal : Legal m e) (special items : List �
   module _ (typed : word 0 ≡ 0) where
     pub map-is : word 1 ≡ outputMap e special
     map-is =
-        bits-once 64 (word 1) (outputMap e special) (below 1) (lt-of-lt-of-le (output-below e special) (lit≤ tt)) (λ j h. here j h ∙ each j h (decLt j 16))
+        bits-once 64 (word 1) (outputMap e special) (below 1) (lt-of-lt-of-le (output-map-below e special) (lit≤ tt)) (λ j h. here j h ∙ each j h (decLt j 16))
       where
         here : (j : ℕ) → j < 64 → bit (word 1) j ≡ outAt e special entries j
         here j h =
@@ -101,10 +101,10 @@ module _ (m : ℕ) (e : Expression) (legal : Legal m e) (special items : List �
             rw (first, own) at (t .output typed j (omega arith))
 
         each : (j : ℕ) → j < 64 → Dec (j < 16) → outAt e special entries j ≡ bit (outputMap e special) j
-        each j h (yes less) = let place = special-place j less in rw (place .0, place .1) (sym (output-bit e special j less))
+        each j h (yes less) = let place = special-place j less in rw (place .0, place .1) (sym (output-map-bit e special j less))
         each j h (no more) =
             nobody j (omega arith) h .1
-            ∙ sym (bit-above (outputMap e special) j (lt-of-lt-of-le (output-below e special) (pow-mono {i = 16} {j = j} (omega arith))))
+            ∙ sym (bit-above (outputMap e special) j (lt-of-lt-of-le (output-map-below e special) (pow-mono {i = 16} {j = j} (omega arith))))
 
     pub entry-output : (i : ℕ) → i < count → bit (word (2 + i / 64)) (i % 64) ≡ out plain e 0 (bit (getD items i 0))
     entry-output i h =

@@ -25,7 +25,7 @@ use Rattle.schema.specs.declared.reading.SchemaReading.{SchemaReading}
 use Rattle.type_sets.specs.Sets.{widthOf, TypeIn, wordsAt}
 use Rattle.type_sets.specs.FilledSets.{Filled}
 use Rattle.table_types.specs.Output.{typedIn, outputMap, outputList}
-use Rattle.table_types.specs.OutputLaws.{map-even, output-below}
+use Rattle.table_types.specs.OutputLaws.{map-even, output-map-below}
 use Rattle.typing_answer.specs.TypeWords.{OutputBits, typed-words, map-is, entry-output}
 use Rattle.typing_answer.specs.Typing.{tableAnswer, tableOut, schemaAnswer, schemaOut, typingAnswer, typingOut}
 use Rattle.typing_answer.specs.declared.Answer.{Answer}
@@ -91,7 +91,7 @@ module _ (file : List ℕ) (m k : ℕ) (legal : Legal m (expressionAt file k)) (
 
     -- its map is of two bytes, and bit 0 is clear
     pub map-fits : (getD sets (start + 1) 0 < 65536) × (getD sets (start + 1) 0 % 2 ≡ 0)
-    map-fits = (rw map-found (output-below e special), ap (λ (x : ℕ). x % 2) map-found ∙ map-even m e legal special (table .even))
+    map-fits = (rw map-found (output-map-below e special), ap (λ (x : ℕ). x % 2) map-found ∙ map-even m e legal special (table .even))
 
     pub table-typed :
         (out written listed : List ℕ) (size : ℕ)

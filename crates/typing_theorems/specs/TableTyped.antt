@@ -26,7 +26,7 @@ use Rattle.schema.specs.EntriesLaws.{entries-rising, entries-holders, entries-b
 use Rattle.schema.specs.TableLaws.{maps-at, maps-is}
 use Rattle.table_types.specs.Output.{specialHolders, typedIn}
 use Rattle.table_types.specs.OutputLaws.{typed-special, typed-entry, all-typed}
-use Rattle.table_types.specs.OutputRecord.{outputRecord, output-special, output-other, output-is, output-member, holders-allowed, entries-allowed}
+use Rattle.table_types.specs.OutputRecord.{outputRecord, output-of-special, output-of-other, output-is, output-member, holders-allowed, entries-allowed}
 
 -- a legal expression over m relations, and the records of a schema of m relations with at most 255
 -- different ordinary attributes
@@ -63,10 +63,10 @@ module _ (m : ℕ) (few : m ≤ 8) (e : Expression) (legal : Legal m e) (ts : Li
   output = typeOf (outputRecord e (mapsOf ts) (entriesOf ts))
 
   special-output : (a : ℕ) → special a ≡ true → output a ≡ out plain e a (specialHolders (mapsOf ts) a)
-  special-output = output-special e (mapsOf ts) (entriesOf ts)
+  special-output = output-of-special e (mapsOf ts) (entriesOf ts)
 
   ordinary-output : (a : ℕ) → special a ≡ false → output a ≡ out plain e 0 (bit (holdersIn (entriesOf ts) a))
-  ordinary-output a h = output-other e (mapsOf ts) (entriesOf ts) a h ∙ output-member m few e legal 15 (entriesOf ts) (entries-rising ts eight all) a
+  ordinary-output a h = output-of-other e (mapsOf ts) (entriesOf ts) a h ∙ output-member m few e legal 15 (entriesOf ts) (entries-rising ts eight all) a
 
   pub table-rules : typedIn e (mapsOf ts) (entriesOf ts) ≡ true → Typed (assignmentOf ts) e output
   table-rules typed = cells-typed m e legal (assignmentOf ts) output (λ a. cell a (special a) refl)

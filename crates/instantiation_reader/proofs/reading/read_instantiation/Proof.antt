@@ -1,4 +1,4 @@
-use Rattle.instantiation.specs.TestsAfterLists.{refused-reading, reading-short, lists-refused, found, over-repeated, over-many, lists-fit, lists-room, falls, lists-read-all}
+use Rattle.instantiation.specs.TestsAfterLists.{refused-reading, reading-short, lists-refused, lists-found, over-repeated, over-many, lists-fit, lists-room, falls, lists-read-all}
 use native.Mathlib.Omega.{arith}
 use borrow.Author.Needs.{needs}
 use Rattle.instantiation_reader.proofs.reading.read_instantiation as fn
@@ -13,7 +13,7 @@ returns-2 c =
     let at-count = c.before.before.before.before.before in
     let read-lists = at-count.before.before.before.before.read-lists in
     let at-if1 = at-count.before.before.before.before.before.before in
-    let lists = found at-if1.before.before.before.before.args.bytes.now _ at-if1.if1.left
+    let lists = lists-found at-if1.before.before.before.before.args.bytes.now _ at-if1.if1.left
     (λ x. omega (arith, at-if1.before.before.before.shared-slice-known.given x)) read-lists.ensures.0 read-lists.ensures.1
     at-count.count.given.1 in
     let many = c.before.before.before.if2.taken in
@@ -24,7 +24,7 @@ returns-3 c =
     let at-count = c.before.before.before.before.before in
     let read-lists = at-count.before.before.before.before.read-lists in
     let at-if1 = at-count.before.before.before.before.before.before in
-    let lists = found at-if1.before.before.before.before.args.bytes.now _ at-if1.if1.left
+    let lists = lists-found at-if1.before.before.before.before.args.bytes.now _ at-if1.if1.left
     (λ x. omega (arith, at-if1.before.before.before.shared-slice-known.given x)) read-lists.ensures.0 read-lists.ensures.1
     at-count.count.given.1 in
     let many = c.before.before.before.if2.taken in
@@ -37,7 +37,7 @@ sort-by-attribute-requires c κs =
     let at-if1 = at-count.before.before.before.before.before.before in
     let start = at-if1.before.before.before.before in
     let args = start.args in
-    let lists = found args.bytes.now _ at-if1.if1.left (λ x. omega (arith, at-if1.before.before.before.shared-slice-known.given x))
+    let lists = lists-found args.bytes.now _ at-if1.if1.left (λ x. omega (arith, at-if1.before.before.before.shared-slice-known.given x))
     read-lists.ensures.0 read-lists.ensures.1 at-count.count.given.1 in
     let few = c.before.before.if2.left in
     ((few, lists-fit lists few), lists-room lists few args.spare.now start.pre.1)
@@ -48,7 +48,7 @@ rises-requires c κs =
     let at-read-lists = at-if2.before.before.before.before.before.before in
     let read-lists = at-read-lists.read-lists in
     let at-if1 = at-read-lists.before.before in
-    let lists = found at-if1.before.before.before.before.args.bytes.now _ at-if1.if1.left
+    let lists = lists-found at-if1.before.before.before.before.args.bytes.now _ at-if1.if1.left
     (λ x. omega (arith, at-if1.before.before.before.shared-slice-known.given x)) read-lists.ensures.0 read-lists.ensures.1
     at-if2.before.before.count.given.1 in
     let enough = lists-fit lists at-if2.if2.left .enough in
@@ -65,7 +65,7 @@ returns-4 c =
     let at-if1 = at-read-lists.before.before in
     let start = at-if1.before.before.before.before in
     let args = start.args in
-    let lists = found args.bytes.now _ at-if1.if1.left (λ x. omega (arith, at-if1.before.before.before.shared-slice-known.given x))
+    let lists = lists-found args.bytes.now _ at-if1.if1.left (λ x. omega (arith, at-if1.before.before.before.shared-slice-known.given x))
     read-lists.ensures.0 read-lists.ensures.1 at-if2.before.before.count.given.1 in
     let read = lists-read-all lists if2.left _ sort-by-attribute.ensures c.before.before.rises.ensures c.before.if4.taken c.subsets-of.ensures in
     let room = lists-room lists if2.left args.spare.now start.pre.1 in
@@ -83,7 +83,7 @@ returns-6 c =
     let at-read-lists = at-if2.before.before.before.before.before.before in
     let read-lists = at-read-lists.read-lists in
     let at-if1 = at-read-lists.before.before in
-    let lists = found at-if1.before.before.before.before.args.bytes.now _ at-if1.if1.left
+    let lists = lists-found at-if1.before.before.before.before.args.bytes.now _ at-if1.if1.left
     (λ x. omega (arith, at-if1.before.before.before.shared-slice-known.given x)) read-lists.ensures.0 read-lists.ensures.1
     at-if2.before.before.count.given.1 in
     refused-reading _ _ _ _ c.refused5.ensures (falls lists at-if2.if2.left _
