@@ -1,3 +1,4 @@
+use native.Mathlib.Omega.{arith}
 use Rattle.recover_answer.specs.RecoverLaws.{entry-untyped, special-untyped, table-recovered, recovered-from}
 use Rattle.special_maps.specs.SpecialLaws.{subsets-size}
 use borrow.Author.Tests.{not-true, not-false}
@@ -9,7 +10,8 @@ use fn.Tie as tie
 entries-allowed-requires : tie.Need-entries-allowed-requires
 entries-allowed-requires c κs =
     let pre = c.before.before.before.before.before.before.pre in
-    (pre.1.0.fit.enough, pre.0.fits)
+    let enough = pre.1.0.fit.enough in
+    (omega arith, pre.0.fits)
 
 returns : tie.Need-returns
 returns c =
