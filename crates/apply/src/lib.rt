@@ -5,7 +5,6 @@ ghost use lib.ListN.{length};
 ghost use Rattle.expression_file.specs.declared.files.Acceptance.the-variants.{Accepted};
 ghost use Rattle.expression_file.specs.ReadFile.{acceptance};
 ghost use Rattle.node_expression.specs.NodeExpression.{expressionAt};
-ghost use Rattle.membership.specs.Entries.{RoomFor};
 ghost use Rattle.instantiation.specs.Instantiation.{instantiationReading};
 ghost use Rattle.apply_answer.specs.Apply.{readApplied, readSpace, readImage, readOutput, applyAnswer, applySpace, applySchema, applyOut};
 ghost use Rattle.admission.specs.Admission.{formulaSize};
@@ -15,61 +14,12 @@ use admission::admit;
 use admission::with_slice;
 use apply_answer::Application;
 use expression_file::Acceptance;
-use filling::fill;
-use instantiation_reader::read_instantiation;
-use schema::Judgement;
+use instantiation_application::apply_instantiation;
 use schema::SCHEMA_SIZE;
-use table_application::apply_table;
 use type_record::OUTPUT_SIZE;
 
-// The instantiation in these bytes at a node of an accepted file, with two slices for its entries.
-fn apply_bytes(
-    file: &[u8],
-    m: u8,
-    n: u8,
-    node: u8,
-    bytes: &[u8],
-    items: &mut [u32],
-    spare: &mut [u32],
-    work: &mut [u8],
-    schema: &mut [u8],
-    out: &mut [u8],
-) -> Application
-    requires { ⌜ acceptance (now file) ≡ Accepted m n ⌝ }
-    requires { ⌜ (node < n) × (n * formulaSize ≤ length (now work)) ⌝ }
-    requires { ⌜ RoomFor (length (now bytes)) (now items) × RoomFor (length (now bytes)) (now spare) ⌝ }
-    requires { ⌜ (schemaSize ≤ length (now schema)) × (outputSize ≤ length (now out)) ⌝ }
-    ensures { λ r. ⌜ r ≡ readApplied m (expressionAt (now (file .entry)) node) (instantiationReading (now (bytes .entry))) ⌝ }
-    ensures { λ _. ⌜ now (work .exit) ≡ readSpace (now (file .entry)) m n (instantiationReading (now (bytes .entry)) .judgement) (now (work .entry)) ⌝ }
-    ensures { λ _. ⌜ now (schema .exit) ≡ readImage m (expressionAt (now (file .entry)) node) (instantiationReading (now (bytes .entry))) (now (schema .entry)) ⌝ }
-    ensures { λ _. ⌜ now (out .exit) ≡ readOutput m (expressionAt (now (file .entry)) node) (instantiationReading (now (bytes .entry))) (now (out .entry)) ⌝ }
-{
-    let read = read_instantiation(bytes, items, spare);
-    let judgement = read.judgement;
-    match judgement {
-        Judgement::Refused(r) => Application::Refused(r),
-        Judgement::Read => {
-            let subsets = read.subsets;
-            let count = read.count;
-            fill(file, m, n, work);
-            apply_table(
-                file,
-                m,
-                n,
-                node,
-                work,
-                &subsets,
-                items,
-                count,
-                spare,
-                schema,
-                out,
-            )
-        }
-    }
-}
-
-// The same with room for as many entries as the bytes can list, where they are many.
+// The instantiation in these bytes at a node of an accepted file, with room for as many entries as the bytes can list,
+// where they are many.
 fn apply_many(
     file: &[u8],
     m: u8,
@@ -91,7 +41,7 @@ fn apply_many(
     if bytes.len() <= 256 {
         let mut items = [0u32; 128];
         let mut spare = [0u32; 128];
-        return apply_bytes(
+        return apply_instantiation(
             file,
             m,
             n,
@@ -106,7 +56,7 @@ fn apply_many(
     }
     let mut items = [0u32; 256];
     let mut spare = [0u32; 256];
-    apply_bytes(
+    apply_instantiation(
         file,
         m,
         n,
@@ -142,7 +92,7 @@ fn apply_sized(
     if bytes.len() <= 64 {
         let mut items = [0u32; 32];
         let mut spare = [0u32; 32];
-        return apply_bytes(
+        return apply_instantiation(
             file,
             m,
             n,

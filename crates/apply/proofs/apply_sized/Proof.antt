@@ -4,8 +4,8 @@ use Rattle.apply.proofs.apply_sized as fn
 use fn.Statement.{statement}
 use fn.Tie as tie
 
-apply-bytes-requires : tie.Need-apply-bytes-requires
-apply-bytes-requires c κs =
+apply-instantiation-requires : tie.Need-apply-instantiation-requires
+apply-instantiation-requires c κs =
     let at-if1 = c.before.before.before.before.before in
     let pre = at-if1.before.before.before.before.before.before.pre in
     let short = at-if1.if1.taken in
@@ -19,6 +19,6 @@ returns-2 c = c.before.before.before.before.before.before.apply-many.ensures
 
 pub apply-sized-spec : {M : Type 1} → statement M
 apply-sized-spec =
-    tie.close (tie.spec (λ c. search needs) (λ c. search needs) apply-bytes-requires (λ c. search needs)
+    tie.close (tie.spec (λ c. search needs) (λ c. search needs) apply-instantiation-requires (λ c. search needs)
     (λ c. search needs) (λ c. search needs) (λ c. search needs) apply-many-requires (λ c. search needs)
     (λ c. search needs) (λ c. search needs) returns-2)

@@ -1,7 +1,7 @@
 use Rattle.apply_answer.specs.ApplyLaws.{filled-space, read-subsets, read-stopped, read-stops, read-goes}
 use native.Mathlib.Omega.{arith}
 use borrow.Author.Needs.{needs}
-use Rattle.apply.proofs.apply_bytes as fn
+use Rattle.instantiation_application.proofs.apply_instantiation as fn
 use fn.Statement.{statement}
 use fn.Tie as tie
 
@@ -52,8 +52,8 @@ returns-2 c =
     read-goes _ _ _ _ _ _ _ _ table.judged _ _ _ _ at-fill.fill.ensures (rw (← table.subsets, ← table.entries) apply-table.ensures.0)
     (rw (← table.subsets, ← table.entries) apply-table.ensures.1.0) (rw (← table.subsets, ← table.entries) apply-table.ensures.1.1)
 
-pub apply-bytes-spec : {M : Type 1} → statement M
-apply-bytes-spec =
+pub apply-instantiation-spec : {M : Type 1} → statement M
+apply-instantiation-spec =
     tie.close (tie.spec read-instantiation-requires (λ c. search needs) (λ c. search needs) fill-requires
     (λ c. search needs) apply-table-requires (λ c. search needs) (λ c. search needs) returns
     (λ c. search needs) (λ c. search needs) (λ c. search needs) (λ c. search needs) (λ c. search needs) returns-2)
