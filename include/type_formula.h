@@ -24,9 +24,9 @@ extern "C" {
 
 /* The version of this header and of the archive, and as one number: 10,000 major + 100 minor + patch. */
 #define TYPE_FORMULA_VERSION_MAJOR 0
-#define TYPE_FORMULA_VERSION_MINOR 1
+#define TYPE_FORMULA_VERSION_MINOR 2
 #define TYPE_FORMULA_VERSION_PATCH 0
-#define TYPE_FORMULA_VERSION 100
+#define TYPE_FORMULA_VERSION 200
 
 /* The most relations of an expression file. */
 #define TYPE_FORMULA_MOST_RELATIONS 8
@@ -47,7 +47,7 @@ extern "C" {
 
 /* The answer of Typing and Recover where the schema does not type the node. */
 #define TYPE_FORMULA_UNTYPED 255
-/* The answer of Verdict where no schema types the node. */
+/* The answer of Verdict, and of the verdict by lowest subsets, where no schema types the node. */
 #define TYPE_FORMULA_UNTYPABLE 255
 
 /* The refusals (FORMAT 8.1). An answer is the number of the first that applies (FORMAT 8.5). */
@@ -122,13 +122,21 @@ uint64_t type_formula_read_node(uint8_t relations, uint8_t number, const uint8_t
 uint8_t type_formula_formula(const uint8_t *file, size_t file_len, uint8_t *work, size_t work_len);
 
 /*
- * Verdict: whether some schema types the node. Answers 0, writes the witness to the schema slice and
- * its length to the value; or answers TYPE_FORMULA_UNTYPABLE and writes to the value the lowest
- * special attribute whose column allows nothing, and the schema slice stays; or answers a refusal,
- * 1 to 13, and everything stays. Unless it refuses, it fills the work space as Formula does.
+ * Verdict: whether some schema types the node. Answers 0, writes the witness to the schema slice, its
+ * length to the value and the number of its memberships, of which no schema that types the node has
+ * fewer; or answers TYPE_FORMULA_UNTYPABLE and writes to the value the lowest special attribute whose
+ * column allows nothing, and schema slice and memberships stay; or answers a refusal, 1 to 13, and
+ * everything stays. Unless it refuses, it fills the work space as Formula does.
  */
 uint8_t type_formula_verdict(const uint8_t *file, size_t file_len, size_t node, uint8_t *work, size_t work_len,
-                             uint8_t *schema, size_t schema_len, size_t *value);
+                             uint8_t *schema, size_t schema_len, size_t *value, uint8_t *memberships);
+
+/*
+ * The verdict by lowest subsets: as Verdict, with the witness in which each special attribute has the
+ * lowest subset that its column allows, and without the number of memberships.
+ */
+uint8_t type_formula_lowest_verdict(const uint8_t *file, size_t file_len, size_t node, uint8_t *work,
+                                    size_t work_len, uint8_t *schema, size_t schema_len, size_t *value);
 
 /*
  * Typing: the type of the node under a schema. Answers 0, writes the output record to the result

@@ -1,10 +1,11 @@
 #!/bin/sh
 # Prints the instructions of one call of each operation and its alternatives as a markdown
 # table, and those of the engine and of the hand-written code as nodes double. Sizes are those
-# of the benchmark: a number of nodes, or 64 nodes with 255 ordinary attributes in three lists
-# (64x255) or with one in each list (64x255each). Each is counted by callgrind for two numbers
-# of calls; the difference divided by that of the calls leaves out what comes before them. A
-# copy by one repeated instruction counts as an instruction for each byte.
+# of the benchmark: a number of nodes, so many with an untypable last node, or 64 nodes with 255
+# ordinary attributes in three lists (64x255) or with one in each list (64x255each). Each is
+# counted by callgrind for two numbers of calls; the difference divided by that of the calls
+# leaves out what comes before them. A copy by one repeated instruction counts as an instruction
+# for each byte.
 set -eu
 cd "$(dirname "$0")"
 few=5 many=25
@@ -27,7 +28,8 @@ per_call() {
 # The sizes at which an operation is counted.
 sizes() {
     case $1 in
-        formula | verdict) echo 7 64 ;;
+        formula) echo 7 64 ;;
+        verdict | lowestverdict) echo 7 7untypable 64 64untypable ;;
         *) echo 7 64 64x255 64x255each ;;
     esac
 }
@@ -35,7 +37,7 @@ sizes() {
 echo "| Operation | size | engine | other implementation | hand-written | copy |" \
     "copy by a 64-bit loop |"
 echo "|---|---|---|---|---|---|---|"
-for operation in formula verdict typing apply recover; do
+for operation in formula verdict lowestverdict typing apply recover; do
     for size in $(sizes $operation); do
         row="| $operation | $size |"
         for by in engine reference words copy copyloop; do

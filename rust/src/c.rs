@@ -14,7 +14,7 @@ pub(crate) mod calls;
 /// The answer of Typing and Recover where the schema does not type the node.
 pub const UNTYPED: u8 = 255;
 
-/// The answer of Verdict where no schema types the node.
+/// The answer of Verdict, and of the verdict by lowest subsets, where no schema types the node.
 pub const UNTYPABLE: u8 = 255;
 
 extern "C" {
@@ -58,11 +58,26 @@ extern "C" {
     ) -> u8;
 
     /// Verdict: whether some schema types the node. Answers 0, writes the witness to the schema
-    /// slice and its length to the value; or answers [`UNTYPABLE`] and writes to the value the
-    /// lowest special attribute whose column allows nothing, and the schema slice stays; or answers
-    /// a refusal, 1 to 13, and everything stays. Unless it refuses, it fills the work space as
-    /// Formula does.
+    /// slice, its length to the value and the number of its memberships, of which no schema that
+    /// types the node has fewer; or answers [`UNTYPABLE`] and writes to the value the lowest special
+    /// attribute whose column allows nothing, and schema slice and memberships stay; or answers a
+    /// refusal, 1 to 13, and everything stays. Unless it refuses, it fills the work space as Formula
+    /// does.
     pub fn type_formula_verdict(
+        file: *const u8,
+        file_len: usize,
+        node: usize,
+        work: *mut u8,
+        work_len: usize,
+        schema: *mut u8,
+        schema_len: usize,
+        value: *mut usize,
+        memberships: *mut u8,
+    ) -> u8;
+
+    /// The verdict by lowest subsets: as Verdict, with the witness in which each special attribute
+    /// has the lowest subset that its column allows, and without the number of memberships.
+    pub fn type_formula_lowest_verdict(
         file: *const u8,
         file_len: usize,
         node: usize,

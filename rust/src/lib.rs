@@ -14,7 +14,8 @@
 //! | [`record`] | a file, a node | the part of the file that holds the node |
 //! | [`read_node`] | bytes | the [`Node`] at their front, and its length |
 //! | [`formula`] | a file | the [`Formulas`] of all nodes, in the work space |
-//! | [`verdict`] | a file, a node | a [`Schema`] that types the node, or that there is none |
+//! | [`verdict`] | a file, a node | a [`Schema`] that types the node with the fewest columns, and their number, or that there is none |
+//! | [`lowest_verdict`] | a file, a node | the same by the lowest subsets, without a number |
 //! | [`typing`] | a file, a node, a schema | the output [`TypeRecord`], or untyped |
 //! | [`apply`] | a file, a node, an instantiation | its [`Schema`] and output [`TypeRecord`] |
 //! | [`recover`] | a file, a node, a schema | its [`Instantiation`], or untyped |
@@ -127,8 +128,8 @@ mod views;
 pub use builders::{ExpressionBuilder, InstantiationBuilder, SchemaBuilder};
 pub use node::{BinaryOp, Node, SetOp};
 pub use operations::{
-    accept, apply, formula, read_node, record, recover, typing, verdict, Application, Recovery,
-    Typing, Verdict,
+    accept, apply, formula, lowest_verdict, read_node, record, recover, typing, verdict,
+    Application, LowestVerdict, Recovery, Typing, Verdict,
 };
 pub use refusal::{Refusal, UnknownRefusal};
 pub use sizes::{

@@ -6,7 +6,9 @@ use type_formula::*;
 
 /// E1, selection {2,3} of (renaming 1 into 2 of r0, union r1) join r2.
 const E1: &[u8] = include_bytes!("../../examples/e1");
-/// E2, the witness of E1.
+/// The witness of E1.
+const FEWEST: [u8; 6] = [2, 0, 4, 0, 8, 0];
+/// E2, the witness of E1 by lowest subsets.
 const WITNESS: [u8; 6] = [10, 0, 12, 0, 0, 0];
 /// The instantiation of the witness.
 const INSTANTIATION: [u8; 47] = {
@@ -104,18 +106,36 @@ fn verdict_writes_the_witness() {
     assert_stays(&work);
     assert_stays(&schema);
     let given = verdict(E1, 6, &mut work, &mut schema);
+    let wanted = Verdict::Typable {
+        witness: Schema::read(3, &FEWEST).expect("a schema"),
+        memberships: 3,
+    };
+    assert_eq!(given, Ok(wanted));
+    assert_stays(&schema[FEWEST.len()..]);
+}
+
+#[test]
+fn lowest_verdict_writes_the_witness_of_lowest_subsets() {
+    let (mut work, mut schema) = ([BEFORE; WORK_SIZE], [BEFORE; SCHEMA_SIZE]);
+    let given = lowest_verdict(E1, 7, &mut work, &mut schema);
+    assert_eq!(given, Err(Refusal::NodeNumber));
+    assert_stays(&work);
+    assert_stays(&schema);
+    let given = lowest_verdict(E1, 6, &mut work, &mut schema);
     let witness = Schema::read(3, &WITNESS).expect("a schema");
-    assert_eq!(given, Ok(Verdict::Typable(witness)));
+    assert_eq!(given, Ok(LowestVerdict::Typable(witness)));
     assert_stays(&schema[WITNESS.len()..]);
 }
 
 #[test]
-fn verdict_names_the_attribute_of_an_untypable_node() {
+fn verdicts_name_the_attribute_of_an_untypable_node() {
     // E5: the selection {1,2} of the projection {2,3} of r0.
     let file = [1, 3, 1, 0, 26, 0, 6, 12, 0, 26, 1, 5, 6, 0];
     let (mut work, mut schema) = ([BEFORE; WORK_SIZE], [BEFORE; SCHEMA_SIZE]);
     let given = verdict(&file, 2, &mut work, &mut schema);
     assert_eq!(given, Ok(Verdict::Untypable { attribute: 1 }));
+    let given = lowest_verdict(&file, 2, &mut work, &mut schema);
+    assert_eq!(given, Ok(LowestVerdict::Untypable { attribute: 1 }));
     assert_stays(&schema);
 }
 
@@ -171,10 +191,10 @@ fn threads_may_call_at_the_same_time() {
         let (mut work, mut schema) = (vec![BEFORE; WORK_SIZE], vec![BEFORE; SCHEMA_SIZE]);
         for _ in 0..1_000 {
             let given = verdict(E1, 6, &mut work, &mut schema);
-            let Ok(Verdict::Typable(witness)) = given else {
+            let Ok(Verdict::Typable { witness, .. }) = given else {
                 panic!("{given:?}")
             };
-            assert_eq!(witness.bytes(), WITNESS);
+            assert_eq!(witness.bytes(), FEWEST);
         }
     };
     thread::scope(|scope| {

@@ -10,18 +10,20 @@ pub enum Operation {
     ReadNode,
     Formula,
     Verdict,
+    LowestVerdict,
     Typing,
     Apply,
     Recover,
 }
 
 /// All operations, each at the place of its number.
-pub const OPERATIONS: [Operation; 8] = [
+pub const OPERATIONS: [Operation; 9] = [
     Operation::Accept,
     Operation::Record,
     Operation::ReadNode,
     Operation::Formula,
     Operation::Verdict,
+    Operation::LowestVerdict,
     Operation::Typing,
     Operation::Apply,
     Operation::Recover,
@@ -35,6 +37,7 @@ impl Operation {
             Operation::ReadNode => "read node",
             Operation::Formula => "Formula",
             Operation::Verdict => "Verdict",
+            Operation::LowestVerdict => "Verdict by lowest subsets",
             Operation::Typing => "Typing",
             Operation::Apply => "Apply",
             Operation::Recover => "Recover",

@@ -4,8 +4,9 @@
 //! The wrappers are inline, so that the benchmark measures the C functions alone.
 
 use type_formula::c::{
-    type_formula_accept, type_formula_apply, type_formula_formula, type_formula_read_node,
-    type_formula_record, type_formula_recover, type_formula_typing, type_formula_verdict,
+    type_formula_accept, type_formula_apply, type_formula_formula, type_formula_lowest_verdict,
+    type_formula_read_node, type_formula_record, type_formula_recover, type_formula_typing,
+    type_formula_verdict,
 };
 pub use type_formula::c::{UNTYPABLE, UNTYPED};
 
@@ -49,11 +50,45 @@ pub fn formula(file: &[u8], work: &mut [u8]) -> u8 {
     unsafe { type_formula_formula(file.as_ptr(), file.len(), work.as_mut_ptr(), work.len()) }
 }
 
-/// Verdict: 0 if the node is typable, and then writes the witness schema and its
-/// length; 255 if it is untypable, and then writes the attribute to the value; else
-/// the number of the first refusal, and the value stays.
+/// The numbers that Verdict writes.
+#[derive(Clone, Copy, Debug, Default, PartialEq, Eq)]
+pub struct Found {
+    /// The length of the witness, or the attribute of an untypable node.
+    pub value: usize,
+    pub memberships: u8,
+}
+
+/// Verdict: 0 if the node is typable, and then writes the witness schema, its length and
+/// the number of its memberships; 255 if it is untypable, and then writes the attribute to
+/// the value; else the number of the first refusal. A number that is not written stays.
 #[inline]
 pub fn verdict(
+    file: &[u8],
+    node: usize,
+    work: &mut [u8],
+    schema: &mut [u8],
+    found: &mut Found,
+) -> u8 {
+    // SAFETY: pointers and lengths are those of slices; work space, schema and numbers
+    // are writable.
+    unsafe {
+        type_formula_verdict(
+            file.as_ptr(),
+            file.len(),
+            node,
+            work.as_mut_ptr(),
+            work.len(),
+            schema.as_mut_ptr(),
+            schema.len(),
+            &mut found.value,
+            &mut found.memberships,
+        )
+    }
+}
+
+/// The verdict by lowest subsets: as Verdict, without the number of memberships.
+#[inline]
+pub fn lowest_verdict(
     file: &[u8],
     node: usize,
     work: &mut [u8],
@@ -63,7 +98,7 @@ pub fn verdict(
     // SAFETY: pointers and lengths are those of slices; work space, schema and value
     // are writable.
     unsafe {
-        type_formula_verdict(
+        type_formula_lowest_verdict(
             file.as_ptr(),
             file.len(),
             node,

@@ -1,4 +1,4 @@
-//! Examples of document 01 with the formula, verdict, typings and listing of their last
+//! Examples of document 01 with the formula, verdicts, typings and listing of their last
 //! node.
 
 use crate::examples::{e10_nodes, e1_nodes};
@@ -16,12 +16,32 @@ pub struct FormulaExample {
     pub columns: &'static [(usize, &'static str)],
     /// The allowed subsets of each column that is not listed.
     pub other_columns: &'static str,
-    /// The witness as hexadecimal pairs, or the attribute whose column allows nothing.
-    pub verdict: Result<&'static str, u8>,
+    /// What the verdicts give, or the attribute whose column allows nothing.
+    pub verdict: Result<Witnesses, u8>,
     /// Schemas with the output record under them, none if untyped; hexadecimal pairs.
     pub typings: &'static [(&'static str, Option<&'static str>)],
     /// The text that the listing program prints.
     pub listing: &'static str,
+}
+
+/// The witnesses of a typable node, as hexadecimal pairs.
+#[derive(Clone, Copy)]
+pub struct Witnesses {
+    /// Verdict's.
+    pub fewest: &'static str,
+    /// How many memberships it has.
+    pub memberships: u8,
+    /// That by lowest subsets.
+    pub lowest: &'static str,
+}
+
+/// Both verdicts have this witness.
+const fn one_witness(witness: &'static str, memberships: u8) -> Result<Witnesses, u8> {
+    Ok(Witnesses {
+        fewest: witness,
+        memberships,
+        lowest: witness,
+    })
 }
 
 impl FormulaExample {
@@ -78,7 +98,10 @@ a2: 02+ 06+
 a3: 03+ 04+ 07+
 ";
 
-/// The witness of E1.
+/// Verdict's witness of E1.
+pub const E1_WITNESS: &str = "02 00 04 00 08 00";
+
+/// The witness of E1 by lowest subsets.
 pub const E2_SCHEMA: &str = "0a 00 0c 00 00 00";
 
 /// The columns of E1's last node: the first byte of the allowed and of the output
@@ -105,7 +128,7 @@ pub fn assert_e1_columns(work: &[u8]) {
     }
 }
 
-/// E1 with the witness of E2.
+/// E1 with Verdict's witness and that of E2.
 fn e1() -> FormulaExample {
     FormulaExample {
         name: "E1",
@@ -113,8 +136,13 @@ fn e1() -> FormulaExample {
         nodes: e1_nodes(),
         columns: &[(1, "01- 05+"), (2, "02+ 06+"), (3, "03+ 04+ 07+")],
         other_columns: "00- 03+ 04+ 07+",
-        verdict: Ok(E2_SCHEMA),
+        verdict: Ok(Witnesses {
+            fewest: E1_WITNESS,
+            memberships: 3,
+            lowest: E2_SCHEMA,
+        }),
         typings: &[
+            (E1_WITNESS, Some("0c 00")),
             ("0a 00 0d 00 01 14 00 00 00", None),
             ("0a 00 0c 00 01 00 01 14 00", Some("0d 00 01 14 00")),
             ("0b 00 01 14 00 0c 00 01 00 01 14 00", None),
@@ -195,7 +223,7 @@ fn e7() -> FormulaExample {
         nodes: vec![relation(0), Node::Product { left: 0, right: 0 }],
         columns: &[],
         other_columns: "00-",
-        verdict: Ok("00 00"),
+        verdict: one_witness("00 00", 0),
         typings: &[
             ("00 00", Some("00 00")),
             ("02 00", None),
@@ -218,7 +246,7 @@ fn e8() -> FormulaExample {
         nodes: vec![relation(0), projection(0, 0)],
         columns: &[],
         other_columns: "00- 01-",
-        verdict: Ok("00 00"),
+        verdict: one_witness("00 00", 0),
         typings: &[
             ("00 00", Some("00 00")),
             ("fe ff", Some("00 00")),
@@ -241,7 +269,7 @@ fn e9() -> FormulaExample {
         nodes: vec![relation(0), relation(1), projection(1, 0b10), union],
         columns: &[(1, "03+")],
         other_columns: "00- 02-",
-        verdict: Ok("02 00 02 00"),
+        verdict: one_witness("02 00 02 00", 2),
         typings: &[
             ("02 00 02 00", Some("02 00")),
             ("02 00 03 00 01 14 00", Some("02 00")),
@@ -270,7 +298,7 @@ fn e10() -> FormulaExample {
         nodes: e10_nodes(),
         columns: &[(1, "02+ 09+ 0b+ 0e+")],
         other_columns: "00- 02+ 09+ 0b+ 0c+ 0e+",
-        verdict: Ok("00 00 02 00 00 00 00 00"),
+        verdict: one_witness("00 00 02 00 00 00 00 00", 1),
         typings: &[
             ("00 00 02 00 00 00 00 00", Some("02 00")),
             ("02 00 00 00 00 00 02 00", Some("02 00")),
@@ -295,7 +323,54 @@ a1: 02+ 09+ 0b+ 0e+
     }
 }
 
-/// E1 with the witness of E2, and E5 to E10.
+/// Selection {1} of ((r0 union r1) join r2) join r3: two subsets have the fewest members,
+/// and neither is the lowest.
+fn tie() -> FormulaExample {
+    let (union, join) = (
+        Node::Union { left: 0, right: 1 },
+        Node::NaturalJoin { left: 2, right: 3 },
+    );
+    let (left, right) = (4, 5);
+    let (operand, set) = (6, 0b10);
+    FormulaExample {
+        name: "tie",
+        relations: 4,
+        nodes: vec![
+            relation(0),
+            relation(1),
+            union,
+            relation(2),
+            join,
+            relation(3),
+            Node::NaturalJoin { left, right },
+            Node::Selection { operand, set },
+        ],
+        columns: &[(1, "03+ 04+ 07+ 08+ 0b+ 0c+ 0f+")],
+        other_columns: "00- 03+ 04+ 07+ 08+ 0b+ 0c+ 0f+",
+        verdict: Ok(Witnesses {
+            fewest: "00 00 00 00 02 00 00 00",
+            memberships: 1,
+            lowest: "02 00 02 00 00 00 00 00",
+        }),
+        typings: &[
+            ("00 00 00 00 02 00 00 00", Some("02 00")),
+            ("02 00 02 00 00 00 00 00", Some("02 00")),
+            ("02 00 00 00 00 00 00 00", None),
+            ("00 00 00 00 00 00 00 00", None),
+        ],
+        listing: "\
+node 7 typable
+r0: 03 07 0b 0f
+r1: 03 07 0b 0f
+r2: 04 07 0c 0f
+r3: 08 0b 0c 0f
+out: 03 04 07 08 0b 0c 0f
+a1: 03+ 04+ 07+ 08+ 0b+ 0c+ 0f+
+",
+    }
+}
+
+/// E1 with the witness of E2, E5 to E10, and one with a tie.
 pub fn formula_examples() -> Vec<FormulaExample> {
-    vec![e1(), e5(), e6(), e7(), e8(), e9(), e10()]
+    vec![e1(), e5(), e6(), e7(), e8(), e9(), e10(), tie()]
 }

@@ -88,6 +88,40 @@ impl Random {
         encode_file(relations, &self.mild_nodes(relations, count))
     }
 
+    /// A pair of these nodes.
+    fn pair(&mut self, left: u8, right: u8) -> Node {
+        match self.below(8) {
+            0..=2 => Node::Union { left, right },
+            3 => Node::Difference { left, right },
+            4..=6 => Node::NaturalJoin { left, right },
+            _ => Node::Product { left, right },
+        }
+    }
+
+    /// The relations, a tree of pairs in which each occurs once, and a selection of one to
+    /// three attributes, all typable: several subsets are allowed for the attributes, and
+    /// the lowest often has more members than another.
+    pub fn tree_nodes(&mut self, relations: u8) -> Vec<Node> {
+        let mut nodes: Vec<Node> = (0..relations)
+            .map(|relation| Node::Relation { relation })
+            .collect();
+        let mut roots: Vec<u8> = (0..relations).collect();
+        while roots.len() > 1 {
+            let left = roots.swap_remove(self.below(roots.len()));
+            let right = roots.swap_remove(self.below(roots.len()));
+            roots.push(nodes.len() as u8);
+            nodes.push(self.pair(left, right));
+        }
+        let (operand, set) = (roots[0], 1 << self.attribute() | self.small_attribute_set());
+        nodes.push(Node::Selection { operand, set });
+        nodes
+    }
+
+    /// The file of such nodes.
+    pub fn tree_file(&mut self, relations: u8) -> Vec<u8> {
+        encode_file(relations, &self.tree_nodes(relations))
+    }
+
     /// The nodes of an accepted file with m relations and n nodes.
     pub fn nodes(&mut self, relations: u8, count: u8) -> Vec<Node> {
         (0..count)

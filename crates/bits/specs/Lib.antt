@@ -13,3 +13,4 @@ pub mod AllBelow
 pub mod Truth
 pub mod Search
 pub mod AnyBelow
+pub mod Total

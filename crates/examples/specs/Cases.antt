@@ -1,4 +1,4 @@
--- The starred examples (FORMAT 10.1 to 10.10).
+-- The starred examples (FORMAT 10.1 to 10.10), and one in which two subsets have the fewest members (FORMAT 10.13).
 use Prim.Native.Nat.{ℕ, zero, suc}
 use mathlib.Core.Bool.{Bool, true, false}
 use mathlib.Core.List.{List, [], _∷_}
@@ -24,8 +24,10 @@ pub record Case : Type 0 where
   pub columns : List Column
   -- the lowest special attribute whose column allows nothing; 16 if the last node is typable
   pub blocked : ℕ
-  -- the witness, of a typable node
+  -- of a typable node: Verdict's witness, its memberships, and the witness by lowest subsets
   pub witness : List ℕ
+  pub memberships : ℕ
+  pub lowest : List ℕ
   pub typings : List Typing
 
 -- a schema that types the node, and the output record
@@ -40,7 +42,8 @@ untyped schema = record { schema = schema; typed = false; output = [] }
 abbrev pub column : ℕ → List ℕ → List ℕ → Column
 column c a o = record { number = c; allowed = a; output = o }
 
--- FORMAT 10.1 to 10.4: E1, σ{2,3}((ρ1/2(r0) ∪ r1) ⋈ r2); E2, its witness; E3 and E4, schemas with attribute 20
+-- FORMAT 10.1 to 10.4: E1, σ{2,3}((ρ1/2(r0) ∪ r1) ⋈ r2), with Verdict's witness; E2, the witness by lowest subsets; E3 and
+-- E4, schemas with attribute 20
 abbrev pub e1 : Case
 e1 =
     record {
@@ -54,9 +57,12 @@ e1 =
           ∷ column 3 (3 ∷ 4 ∷ 7 ∷ []) (3 ∷ 4 ∷ 7 ∷ [])
           ∷ [];
       blocked = 16;
-      witness = 10 ∷ 0 ∷ 12 ∷ 0 ∷ 0 ∷ 0 ∷ [];
+      witness = 2 ∷ 0 ∷ 4 ∷ 0 ∷ 8 ∷ 0 ∷ [];
+      memberships = 3;
+      lowest = 10 ∷ 0 ∷ 12 ∷ 0 ∷ 0 ∷ 0 ∷ [];
       typings =
-          typed (10 ∷ 0 ∷ 12 ∷ 0 ∷ 0 ∷ 0 ∷ []) (12 ∷ 0 ∷ [])
+          typed (2 ∷ 0 ∷ 4 ∷ 0 ∷ 8 ∷ 0 ∷ []) (12 ∷ 0 ∷ [])
+          ∷ typed (10 ∷ 0 ∷ 12 ∷ 0 ∷ 0 ∷ 0 ∷ []) (12 ∷ 0 ∷ [])
           ∷ typed (11 ∷ 0 ∷ 1 ∷ 20 ∷ 0 ∷ 13 ∷ 0 ∷ 1 ∷ 20 ∷ 0 ∷ 0 ∷ 0 ∷ []) (13 ∷ 0 ∷ 1 ∷ 20 ∷ 0 ∷ [])
           ∷ untyped (11 ∷ 0 ∷ 1 ∷ 20 ∷ 0 ∷ 12 ∷ 0 ∷ 0 ∷ 0 ∷ [])
           ∷ [];
@@ -72,6 +78,8 @@ e5 =
       columns = column 1 [] [] ∷ column 2 (1 ∷ []) (1 ∷ []) ∷ [];
       blocked = 1;
       witness = [];
+      memberships = 0;
+      lowest = [];
       typings = [];
     }
 
@@ -85,6 +93,8 @@ e6 =
       columns = column 1 [] [] ∷ [];
       blocked = 1;
       witness = [];
+      memberships = 0;
+      lowest = [];
       typings = [];
     }
 
@@ -103,6 +113,8 @@ e7 =
       columns = columnsBelow 16 (0 ∷ []) [];
       blocked = 16;
       witness = 0 ∷ 0 ∷ [];
+      memberships = 0;
+      lowest = 0 ∷ 0 ∷ [];
       typings = typed (0 ∷ 0 ∷ []) (0 ∷ 0 ∷ []) ∷ untyped (2 ∷ 0 ∷ []) ∷ [];
     }
 
@@ -116,6 +128,8 @@ e8 =
       columns = columnsBelow 16 (0 ∷ 1 ∷ []) [];
       blocked = 16;
       witness = 0 ∷ 0 ∷ [];
+      memberships = 0;
+      lowest = 0 ∷ 0 ∷ [];
       typings = typed (3 ∷ 0 ∷ 1 ∷ 16 ∷ 0 ∷ []) (0 ∷ 0 ∷ []) ∷ [];
     }
 
@@ -129,6 +143,8 @@ e9 =
       columns = column 0 (0 ∷ 2 ∷ []) [] ∷ column 1 (3 ∷ []) (3 ∷ []) ∷ [];
       blocked = 16;
       witness = 2 ∷ 0 ∷ 2 ∷ 0 ∷ [];
+      memberships = 2;
+      lowest = 2 ∷ 0 ∷ 2 ∷ 0 ∷ [];
       typings = typed (2 ∷ 0 ∷ 3 ∷ 0 ∷ 1 ∷ 20 ∷ 0 ∷ []) (2 ∷ 0 ∷ []) ∷ untyped (3 ∷ 0 ∷ 1 ∷ 20 ∷ 0 ∷ 3 ∷ 0 ∷ 1 ∷ 20 ∷ 0 ∷ []) ∷ [];
     }
 
@@ -145,9 +161,26 @@ e10 =
           ∷ [];
       blocked = 16;
       witness = 0 ∷ 0 ∷ 2 ∷ 0 ∷ 0 ∷ 0 ∷ 0 ∷ 0 ∷ [];
+      memberships = 1;
+      lowest = 0 ∷ 0 ∷ 2 ∷ 0 ∷ 0 ∷ 0 ∷ 0 ∷ 0 ∷ [];
+      typings = [];
+    }
+
+-- FORMAT 10.13: σ{1}(((r0 ∪ r1) ⋈ r2) ⋈ r3), where 04 and 08 have the fewest members and 03 is the lowest
+abbrev pub tie : Case
+tie =
+    record {
+      file = 4 ∷ 8 ∷ 1 ∷ 0 ∷ 1 ∷ 1 ∷ 14 ∷ 0 ∷ 1 ∷ 1 ∷ 1 ∷ 2 ∷ 14 ∷ 2 ∷ 3 ∷ 3 ∷ 1 ∷ 3 ∷ 14 ∷ 4 ∷ 5 ∷ 3 ∷ 26 ∷ 6 ∷ 5 ∷ 2 ∷ 0 ∷ [];
+      relations = 4;
+      nodes = 8;
+      columns = column 1 (3 ∷ 4 ∷ 7 ∷ 8 ∷ 11 ∷ 12 ∷ 15 ∷ []) (3 ∷ 4 ∷ 7 ∷ 8 ∷ 11 ∷ 12 ∷ 15 ∷ []) ∷ [];
+      blocked = 16;
+      witness = 0 ∷ 0 ∷ 0 ∷ 0 ∷ 2 ∷ 0 ∷ 0 ∷ 0 ∷ [];
+      memberships = 1;
+      lowest = 2 ∷ 0 ∷ 2 ∷ 0 ∷ 0 ∷ 0 ∷ 0 ∷ 0 ∷ [];
       typings = [];
     }
 
 -- all cases
 unfoldable pub table : List Case
-table = e1 ∷ e5 ∷ e6 ∷ e7 ∷ e8 ∷ e9 ∷ e10 ∷ []
+table = e1 ∷ e5 ∷ e6 ∷ e7 ∷ e8 ∷ e9 ∷ e10 ∷ tie ∷ []

@@ -11,8 +11,10 @@ use Rattle.bits.specs.Lowest.{lowestFrom}
 use Rattle.bits.specs.Pack.{pack}
 use Rattle.bits.specs.Range.{inRange}
 use Rattle.bits.specs.Tab.{tab, over}
+use Rattle.bits.specs.Total.{total}
 use Rattle.bits.specs.Word.{word}
 use Rattle.attribute_set.specs.AttrSet.{special, hasAttribute, setOf}
+use Rattle.types.specs.Memberships.{members}
 use Rattle.refusal.specs.Chain.{refuse}
 use Rattle.refusal.specs.Several.{severalRefused as recordsRefused, severalRead as recordsRead}
 use Rattle.node.specs.Operators.{binaryOf, setOpOf}
@@ -26,9 +28,12 @@ use Rattle.algebra.specs.Expression.{Expression}
 use Rattle.bits.specs.Truth.{left, right}
 use Rattle.node_expression.specs.NodeExpression.{expressionAt, earlier}
 use Rattle.stored_formula.specs.FormulaBytes.{allowedBit, outputBit}
-use Rattle.verdict_answer.specs.Lowest.{lowestOf, blockedBy, blockedOf, chosenBy}
-use Rattle.verdict_answer.specs.Verdict.{witnessBytes, witnessOf, outcome, outcomeBy, schemaBy, verdictAnswer, verdictSchema}
+use Rattle.verdict_answer.specs.First.{lowestWith, fewestIn, firstOf, blockedBy, blockedOf, chosenBy}
+use Rattle.verdict_answer.specs.FirstLaws.{blocked-either}
+use Rattle.verdict_answer.specs.Verdict.{witnessBytes, witnessOf, membershipsOf, outcome, outcomeBy, schemaBy, answerIn, schemaIn, verdictAnswer, verdictSchema, withoutCount, lowestAnswer, lowestSchema}
 use Rattle.verdict_answer.specs.VerdictLaws.{verdict-passes}
+use Rattle.verdict_answer.specs.declared.Order.{Order}
+use Rattle.verdict_answer.specs.declared.Order.the-variants.{FewestMembers, LowestNumber}
 use Rattle.type_record.specs.Lists.{readFrom, readList, listed}
 use Rattle.type_record.specs.Record.{readRecord, recordSize, recordAt, recordBytes, outputSize}
 use Rattle.type_record.specs.RecordBytes.{record-length}
@@ -68,8 +73,13 @@ AllHold m e (c ∷ cs) = ColumnHolds m e c × AllHold m e cs
 -- what Verdict does on the last node, in slices that are long enough: the answer, and the schema slice with
 -- the witness or as it was
 pub record VerdictHolds (x : Case) (work schema : List ℕ) : Type 0 where
-  pub answer : verdictAnswer (x .file) (x .nodes - 1) (length work) (length schema) ≡ outcome (ltb (x .blocked) 16) (x .blocked) (x .witness)
+  pub answer : verdictAnswer (x .file) (x .nodes - 1) (length work) (length schema) ≡ outcome (ltb (x .blocked) 16) (x .blocked) (x .witness) (x .memberships)
   pub slice : verdictSchema (x .file) (x .nodes - 1) (length work) schema ≡ cond (ltb (x .blocked) 16) schema (over (x .witness) schema)
+
+-- the same of the verdict by lowest subsets, whose answer has no number of memberships
+pub record LowestHolds (x : Case) (work schema : List ℕ) : Type 0 where
+  pub answer : lowestAnswer (x .file) (x .nodes - 1) (length work) (length schema) ≡ withoutCount (outcome (ltb (x .blocked) 16) (x .blocked) (x .lowest) 0)
+  pub slice : lowestSchema (x .file) (x .nodes - 1) (length work) schema ≡ cond (ltb (x .blocked) 16) schema (over (x .lowest) schema)
 
 -- what Typing does on the last node under a schema, in a slice that is long enough: the answer, and the slice with the
 -- output record or as it was
@@ -82,11 +92,12 @@ abbrev pub TypingsHold : Case → List Typing → List ℕ → Type 0
 TypingsHold x [] out = Unit
 TypingsHold x (y ∷ ys) out = TypingHolds x y out × TypingsHold x ys out
 
--- what holds of a case: its counts, its columns, its verdict and its typings
+-- what holds of a case: its counts, its columns, its verdicts and its typings
 pub record Holds (x : Case) : Type 0 where
   pub accepted : acceptance (x .file) ≡ Accepted (x .relations) (x .nodes)
   pub columns : AllHold (x .relations) (lastOf x) (x .columns)
   pub verdict : (work schema : List ℕ) → x .nodes * formulaSize ≤ length work → schemaSize ≤ length schema → VerdictHolds x work schema
+  pub lowest : (work schema : List ℕ) → x .nodes * formulaSize ≤ length work → schemaSize ≤ length schema → LowestHolds x work schema
   pub typings : (out : List ℕ) → outputSize ≤ length out → TypingsHold x (x .typings) out
 
 -- ---- the test
@@ -111,10 +122,19 @@ columnsPass m e (c ∷ cs) =
     && same (passing (2 ^ m) (outputBit m e (c .number))) (c .output)
     && columnsPass m e cs
 
--- the witness of an untypable node is not asked for
-witnessPasses : Bool → List ℕ → List ℕ → Bool
-witnessPasses true w w′ = true
-witnessPasses false w w′ = same w w′
+-- the witness of an untypable node and its memberships are not asked for
+witnessPasses : Bool → List ℕ → List ℕ → ℕ → ℕ → Bool
+witnessPasses true w w′ c c′ = true
+witnessPasses false w w′ c c′ = same w w′ && eqb c c′
+
+-- the witness in an order, and its memberships
+orderPasses : Order → Case → List ℕ → ℕ → Bool
+orderPasses order x w c =
+    witnessPasses (ltb (x .blocked) 16) (witnessOf order (x .relations) (lastOf x)) w (membershipsOf (chosenBy (firstOf order (x .relations) (lastOf x)))) c
+
+-- by lowest subsets the memberships are not asked for
+lowestMemberships : Case → ℕ
+lowestMemberships x = membershipsOf (chosenBy (firstOf LowestNumber (x .relations) (lastOf x)))
 
 -- the output record of an untyped node is not asked for
 outputPasses : Bool → Bool → List ℕ → List ℕ → Bool
@@ -141,7 +161,7 @@ passes x =
     accepts (acceptance (x .file)) (x .relations) (x .nodes)
     && columnsPass (x .relations) (lastOf x) (x .columns)
     && eqb (blockedOf (x .relations) (lastOf x)) (x .blocked)
-    && witnessPasses (ltb (x .blocked) 16) (witnessOf (x .relations) (lastOf x)) (x .witness)
+    && (orderPasses FewestMembers x (x .witness) (x .memberships) && orderPasses LowestNumber x (x .lowest) (lowestMemberships x))
     && ltb 0 (x .nodes)
     && typingsPass (x .relations) (lastOf x) (x .typings)
 
@@ -183,34 +203,45 @@ columns-hold m e (c ∷ cs) t =
     )
 
 witness-is :
-    (untypable : Bool) (blocked : ℕ) (w w′ schema : List ℕ)
-    → T (witnessPasses untypable w w′)
-    → (outcome untypable blocked w ≡ outcome untypable blocked w′)
+    (untypable : Bool) (blocked : ℕ) (w w′ : List ℕ) (c c′ : ℕ) (schema : List ℕ)
+    → T (witnessPasses untypable w w′ c c′)
+    → (outcome untypable blocked w c ≡ outcome untypable blocked w′ c′)
     × (cond untypable schema (over w schema) ≡ cond untypable schema (over w′ schema))
 unfolding witnessPasses
-witness-is true blocked w w′ schema t = (refl, refl)
-witness-is false blocked w w′ schema t = let is = same-is w w′ t in (ap (outcome false blocked) is, ap (λ (l : List ℕ). over l schema) is)
+witness-is true blocked w w′ c c′ schema t = (refl, refl)
+witness-is false blocked w w′ c c′ schema t =
+    let is = same-is w w′ (left (same w w′) (eqb c c′) t) in
+    (ap₂ (outcome false blocked) is (eqb→eq c c′ (right (same w w′) (eqb c c′) t)), ap (λ (l : List ℕ). over l schema) is)
 
-verdict-holds :
-    (x : Case)
+-- a verdict in an order, on the last node of an accepted case
+order-holds :
+    (order : Order) (x : Case) (w : List ℕ) (c : ℕ)
     → acceptance (x .file) ≡ Accepted (x .relations) (x .nodes)
     → blockedOf (x .relations) (lastOf x) ≡ x .blocked
-    → T (witnessPasses (ltb (x .blocked) 16) (witnessOf (x .relations) (lastOf x)) (x .witness))
+    → T (orderPasses order x w c)
     → 0 < x .nodes
     → (work schema : List ℕ)
     → x .nodes * formulaSize ≤ length work
     → schemaSize ≤ length schema
-    → VerdictHolds x work schema
-unfolding outcomeBy schemaBy
-verdict-holds x accepted blocked t some work schema space slice =
+    → (answerIn order (x .file) (x .nodes - 1) (length work) (length schema) ≡ outcome (ltb (x .blocked) 16) (x .blocked) w c)
+    × (schemaIn order (x .file) (x .nodes - 1) (length work) schema ≡ cond (ltb (x .blocked) 16) schema (over w schema))
+unfolding outcomeBy schemaBy orderPasses
+order-holds order x w c accepted blocked t some work schema space slice =
     let admits = admitted-passes (x .file) (x .nodes - 1) (length work) (record { accepted = accepted; node = omega arith; workSpace = space }) in
     let goes = sliced-passes (admitted (x .file) (x .nodes - 1) (length work)) (length schema) schemaSize admits slice in
-    let results = verdict-passes (x .file) (x .nodes - 1) work schema (x .relations) (x .nodes) goes in
-    let same = witness-is (ltb (x .blocked) 16) (x .blocked) (witnessOf (x .relations) (lastOf x)) (x .witness) schema t in
-    record {
-      answer = sym (results .0) ∙ ap (λ (b : ℕ). outcome (ltb b 16) b (witnessOf (x .relations) (lastOf x))) blocked ∙ same .0;
-      slice = sym (results .1 .1) ∙ ap (λ (b : ℕ). cond (ltb b 16) schema (over (witnessOf (x .relations) (lastOf x)) schema)) blocked ∙ same .1;
-    }
+    let results = verdict-passes order (x .file) (x .nodes - 1) work schema (x .relations) (x .nodes) goes in
+    let own = witnessOf order (x .relations) (lastOf x) in
+    let number = membershipsOf (chosenBy (firstOf order (x .relations) (lastOf x))) in
+    let same = witness-is (ltb (x .blocked) 16) (x .blocked) own w number c schema t in
+    let here = blocked-either order (x .relations) (lastOf x) ∙ blocked in (
+      sym (results .0) ∙ ap (λ (b : ℕ). outcome (ltb b 16) b own number) here ∙ same .0,
+      sym (results .1 .1) ∙ ap (λ (b : ℕ). cond (ltb b 16) schema (over own schema)) here ∙ same .1,
+    )
+
+-- without the number of memberships it does not matter
+uncounted : (untypable : Bool) (blocked : ℕ) (w : List ℕ) (c c′ : ℕ) → withoutCount (outcome untypable blocked w c) ≡ withoutCount (outcome untypable blocked w c′)
+uncounted true blocked w c c′ = refl
+uncounted false blocked w c c′ = refl
 
 output-is :
     (t t′ : Bool) (e : Expression) (special entries record-is out : List ℕ)
@@ -259,31 +290,35 @@ case-holds x t =
     let a = accepts (acceptance (x .file)) (x .relations) (x .nodes) in
     let c = columnsPass (x .relations) (lastOf x) (x .columns) in
     let b = eqb (blockedOf (x .relations) (lastOf x)) (x .blocked) in
-    let w = witnessPasses (ltb (x .blocked) 16) (witnessOf (x .relations) (lastOf x)) (x .witness) in
+    let f = orderPasses FewestMembers x (x .witness) (x .memberships) in
+    let l = orderPasses LowestNumber x (x .lowest) (lowestMemberships x) in
     let n = ltb 0 (x .nodes) in
     let y = typingsPass (x .relations) (lastOf x) (x .typings) in
-    let upToN = left (a && c && b && w && n) y t in
-    let upToW = left (a && c && b && w) n upToN in
-    let upToB = left (a && c && b) w upToW in
+    let upToN = left (a && c && b && (f && l) && n) y t in
+    let upToW = left (a && c && b && (f && l)) n upToN in
+    let witnesses = right (a && c && b) (f && l) upToW in
+    let upToB = left (a && c && b) (f && l) upToW in
     let upToC = left (a && c) b upToB in
     let accepted = accepts-is (acceptance (x .file)) (x .relations) (x .nodes) (left a c upToC) in
-    let some = ltb→lt 0 (x .nodes) (right (a && c && b && w) n upToN) in
+    let blocked = eqb→eq (blockedOf (x .relations) (lastOf x)) (x .blocked) (right (a && c) b upToB) in
+    let some = ltb→lt 0 (x .nodes) (right (a && c && b && (f && l)) n upToN) in
     record {
       accepted = accepted;
       columns = columns-hold (x .relations) (lastOf x) (x .columns) (right a c upToC);
-      verdict =
-          verdict-holds x accepted (eqb→eq (blockedOf (x .relations) (lastOf x)) (x .blocked) (right (a && c) b upToB)) (right (a && c && b) w upToW)
-          some;
+      verdict = λ work schema space slice. let holds = order-holds FewestMembers x (x .witness) (x .memberships) accepted blocked (left f l witnesses) some work schema space slice in record { answer = holds .0; slice = holds .1 };
+      lowest =
+          λ work schema space slice. let holds = order-holds LowestNumber x (x .lowest) (lowestMemberships x) accepted blocked (right f l witnesses) some work schema space slice in
+          record { answer = ap withoutCount (holds .0) ∙ uncounted (ltb (x .blocked) 16) (x .blocked) (x .lowest) (lowestMemberships x) 0; slice = holds .1 };
       typings =
           λ out slice. typings-hold x (x .typings) out
           (sliced-passes (asked (x .file) (x .nodes - 1)) (length out) outputSize
           (asked-passes (x .file) (x .nodes - 1) accepted (omega arith)) slice)
-          (right (a && c && b && w && n) y t);
+          (right (a && c && b && (f && l) && n) y t);
     }
 
 -- a case that is none, for a place past the table
 abbrev pub none : Case
-none = record { file = []; relations = 0; nodes = 0; columns = []; blocked = 0; witness = []; typings = [] }
+none = record { file = []; relations = 0; nodes = 0; columns = []; blocked = 0; witness = []; memberships = 0; lowest = []; typings = [] }
 
 each-holds : (xs : List Case) → T (every xs) → (i : ℕ) → i < length xs → Holds (getD xs i none)
 unfolding every
@@ -293,8 +328,8 @@ each-holds (x ∷ xs) t (suc i) h = each-holds xs (right (passes x) (every xs) t
 
 -- the theorem: every case of the table holds; antt computes the test
 pub examples-hold : (i : ℕ) → i < length table → Holds (getD table i none)
-unfolding every passes same accepts columnsPass witnessPasses outputPasses recordsPass typingsPass readRecords readRecord readList readFrom
-    recordSize recordAt listed word entriesOf mapsOf enter typedIn outputMap recordBytes passing lowestOf blockedBy
+unfolding every passes same accepts columnsPass witnessPasses orderPasses lowestMemberships outputPasses recordsPass typingsPass readRecords readRecord readList readFrom
+    recordSize recordAt listed word entriesOf mapsOf enter typedIn outputMap recordBytes passing lowestWith fewestIn members total membershipsOf blockedBy
     chosenBy witnessBytes schemaBytes recordsOf mapsFrom mapOf pack tab bit lowestFrom allowedBit outputBit expressionAt earlier
     acceptance parse header readNodes readNode checkNode checkFields sizeOf nodeOf refuse inRange special hasAttribute setOf binaryOf
     setOpOf placedAt nodeEntries table

@@ -4,6 +4,7 @@ use mathlib.Core.List.{List, [], _∷_}
 use Prim.Native.Nat.{ℕ}
 use Rattle.bits.specs.Bit.{bit}
 use Rattle.bits.specs.Lowest.{lowestFrom}
+use Rattle.bits.specs.Total.{total}
 use Rattle.bits.specs.Range.{inRange}
 use Rattle.attribute_set.specs.AttrSet.{hasAttribute, special, setOf}
 use Rattle.refusal.specs.Chain.{refuse}
@@ -12,7 +13,8 @@ use Rattle.node.specs.ReadNode.{sizeOf, checkFields, checkNode, nodeOf, readNod
 use Rattle.expression_file.specs.ReadFile.{acceptance, parse, header, readNodes, placedAt, placedNodes}
 use Rattle.node_expression.specs.NodeExpression.{expressionAt, earlier}
 use Rattle.stored_formula.specs.FormulaBytes.{allowedBit, outputBit}
-use Rattle.verdict_answer.specs.Lowest.{lowestOf, blockedBy}
+use Rattle.types.specs.Memberships.{members}
+use Rattle.verdict_answer.specs.First.{lowestWith, fewestIn, blockedBy}
 use Rattle.text.specs.Each.{each}
 use Rattle.text.specs.Characters.{subsetText, hexDigit, decimal}
 use Rattle.listing_entries.specs.Naming.{namedBelow}
@@ -33,7 +35,7 @@ pub e1-text :
     ∷ 97 ∷ 50 ∷ 58 ∷ 32 ∷ 48 ∷ 50 ∷ 43 ∷ 32 ∷ 48 ∷ 54 ∷ 43 ∷ 10
     ∷ 97 ∷ 51 ∷ 58 ∷ 32 ∷ 48 ∷ 51 ∷ 43 ∷ 32 ∷ 48 ∷ 52 ∷ 43 ∷ 32 ∷ 48 ∷ 55 ∷ 43 ∷ 10 ∷ []
 unfolding textOf listing nodeLine relationLine outLine attributeLine namedBelow isBlocked each subsetText hexDigit decimal acceptance
-    expressionAt allowedBit outputBit bit lowestOf blockedBy lowestFrom hasAttribute parse header readNodes readNode checkNode
+    expressionAt allowedBit outputBit bit total members lowestWith fewestIn blockedBy lowestFrom hasAttribute parse header readNodes readNode checkNode
     checkFields sizeOf nodeOf refuse inRange placedAt placedNodes earlier special setOf binaryOf setOpOf
 e1-text = refl
 
@@ -50,6 +52,6 @@ pub e5-text :
     ∷ 97 ∷ 50 ∷ 58 ∷ 32 ∷ 48 ∷ 49 ∷ 43 ∷ 10
     ∷ 97 ∷ 51 ∷ 58 ∷ 32 ∷ 48 ∷ 49 ∷ 43 ∷ 10 ∷ []
 unfolding textOf listing nodeLine relationLine outLine attributeLine namedBelow isBlocked each subsetText hexDigit decimal acceptance
-    expressionAt allowedBit outputBit bit lowestOf blockedBy lowestFrom hasAttribute parse header readNodes readNode checkNode
+    expressionAt allowedBit outputBit bit total members lowestWith fewestIn blockedBy lowestFrom hasAttribute parse header readNodes readNode checkNode
     checkFields sizeOf nodeOf refuse inRange placedAt placedNodes earlier special setOf binaryOf setOpOf
 e5-text = refl

@@ -16,8 +16,9 @@ use Rattle.stored_formula.specs.ColumnPlace.{columnAt}
 use Rattle.stored_formula.specs.FormulaBytes.{allowedBit, outputBit, cellColumn}
 use Rattle.stored_formula.specs.FormulaBytesLaws.{output-within}
 use Rattle.stored_formula.specs.NodeColumn.{cell-allowed, cell-output}
-use Rattle.verdict_answer.specs.Lowest.{lowestAt, blockedBy}
-use Rattle.verdict_answer.specs.LowestLaws.{blocked-cells}
+use Rattle.verdict_answer.specs.First.{firstAt, blockedBy}
+use Rattle.verdict_answer.specs.declared.Order.the-variants.{FewestMembers}
+use Rattle.verdict_answer.specs.FirstLaws.{blocked-cells}
 use Rattle.listing_entries.specs.declared.entries.Kind.the-variants.{Variables, Output, Signed}
 use Rattle.text.specs.Characters.{decimal, subsetText, newline}
 use Rattle.text.specs.Each.{each, each-same}
@@ -63,11 +64,11 @@ module _ (m : ℕ) (e : Expression) where
 -- ---- lines off a work space that holds the columns of expression e at a node
 
 module _ (work : List ℕ) (node m : ℕ) (e : Expression) (columns : (c : ℕ) → c < 16 → columnAt work node c ≡ cellColumn m e c) where
-  blocked-is : someBlocked (blockedBy (lowestAt work node)) ≡ isBlocked m e
+  blocked-is : someBlocked (blockedBy (firstAt FewestMembers work node)) ≡ isBlocked m e
   unfolding isBlocked
   blocked-is = ap someBlocked (blocked-cells work node m e columns)
 
-  node-line : nodeText (someBlocked (blockedBy (lowestAt work node))) node ≡ nodeLine m e node
+  node-line : nodeText (someBlocked (blockedBy (firstAt FewestMembers work node))) node ≡ nodeLine m e node
   unfolding nodeText nodeLine
   node-line = ap (λ (b : Bool). (110 ∷ 111 ∷ 100 ∷ 101 ∷ 32 ∷ []) ++ decimal node ++ verdictText b ++ newline) blocked-is
 

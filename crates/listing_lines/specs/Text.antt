@@ -14,7 +14,7 @@ use Rattle.expression_file.specs.declared.files.Acceptance.the-variants.{Accept
 use Rattle.expression_file.specs.ReadFile.{acceptance, nodeAt}
 use Rattle.node_expression.specs.NodeExpression.{expressionAt}
 use Rattle.stored_formula.specs.FormulaBytes.{allowedBit, outputBit}
-use Rattle.verdict_answer.specs.Lowest.{blockedOf}
+use Rattle.verdict_answer.specs.First.{blockedOf}
 use Rattle.listing_entries.specs.Entries.{whenSo}
 use Rattle.listing_entries.specs.Naming.{namedBelow}
 

@@ -17,7 +17,7 @@ use Rattle.expression_file.specs.ReadFile.{acceptance}
 use Rattle.expression_file.specs.Walk.{file-most}
 use Rattle.expression_file.specs.Enough.{enough}
 use Rattle.node_expression.specs.NodeExpression.{expressionAt}
-use Rattle.verdict_answer.specs.Lowest.{blockedOf}
+use Rattle.verdict_answer.specs.First.{blockedOf}
 use Rattle.text.specs.Characters.{decimal, newline}
 use Rattle.listing_lines.specs.Text.{isBlocked, verdictText, nodeLine, listing, textAfter, textOf}
 use Rattle.listing_lines.specs.Lines.{nodeText}

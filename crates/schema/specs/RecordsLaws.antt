@@ -5,17 +5,17 @@ use mathlib.Core.Path.{_≡_, refl, sym, ap, ap₂, _∙_}
 use mathlib.Core.List.{List, [], _∷_, _++_}
 use native.Mathlib.Omega.{arith}
 use lib.Dec.{lit<}
-use lib.ListN.{length, drop, length-append, take-append-drop}
+use lib.ListN.{length, getD, drop, length-append, take-append-drop}
 use lib.Seq.{getD-drop, drop-at}
 use Rattle.bits.specs.Word.{Bytes, bytes-append}
 use Rattle.type_record.specs.declared.records.RecordReading.{RecordReading}
 use Rattle.type_record.specs.declared.records.RecordReading.the-variants.{Read as RecordRead, Refused as RecordRefused}
 use Rattle.type_record.specs.Record.{TypeRecord, readRecord, recordSize, recordAt, recordBytes, outputSize}
-use Rattle.type_record.specs.RecordBytes.{IsRecord, size-most, record-length, record-bytes}
+use Rattle.type_record.specs.RecordBytes.{IsRecord, size-none, size-most, record-length, record-bytes}
 use Rattle.type_record.specs.RecordReading.{record-map, record-read}
 use Rattle.type_record.specs.RecordRoundTrip.{read-written, written-read, written-record}
 use Rattle.type_record.specs.RecordTypes.{type-once}
-use Rattle.schema.specs.Schema.{Records, follow, readRecords, schemaBytes, assignmentOf}
+use Rattle.schema.specs.Schema.{Records, follow, readRecords, noRecord, schemaBytes, assignmentOf}
 use Rattle.refusal.specs.Several.{severalRefused as recordsRefused, severalRead as recordsRead, precede, atEnd}
 use Rattle.refusal.specs.declared.Refusal.the-variants.{InputFollowed}
 
@@ -95,6 +95,15 @@ schema-most (t ∷ ts) all =
     let most = size-most (length (t .ordinary)) (all .0 .few) .1 in
     let size = record-length (t .map) (t .ordinary) in
     rw length-append (omega arith)
+
+-- a record without a list has two bytes
+pub schema-listless : (ts : List TypeRecord) → ((r : ℕ) → r < length ts → length (getD ts r noRecord .ordinary) ≡ 0) → length (schemaBytes ts) ≡ length ts * 2
+unfolding schemaBytes
+schema-listless [] none = refl
+schema-listless (t ∷ ts) none =
+    let here = record-length (t .map) (t .ordinary) ∙ ap recordSize (none 0 (omega arith)) ∙ size-none in
+    let rest = schema-listless ts (λ r h. none (suc r) (omega arith)) in
+    length-append (recordBytes (t .map) (t .ordinary)) (schemaBytes ts) ∙ omega arith
 
 -- and they are bytes
 pub schema-bytes : (ts : List TypeRecord) → AllRecords ts → Bytes (schemaBytes ts)

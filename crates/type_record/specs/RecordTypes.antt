@@ -31,7 +31,7 @@ type-special t a least most = type-of-special t a (special-in a least most)
 type-ordinary : (t : TypeRecord) (a : ℕ) → 16 ≤ a → typeOf t a ≡ member a (t .ordinary)
 type-ordinary t a least = type-of-other t a (special-above a least)
 
-clear-first : (t : TypeRecord) → IsRecord t → bit (t .map) 0 ≡ false
+pub clear-first : (t : TypeRecord) → IsRecord t → bit (t .map) 0 ≡ false
 clear-first t is = bit-first (t .map) ∙ ap (λ (d : ℕ). eqb d 1) (is .even)
 
 module _ (t u : TypeRecord) (t-is : IsRecord t) (u-is : IsRecord u) (same : (a : ℕ) → typeOf t a ≡ typeOf u a) where

@@ -1,3 +1,4 @@
 pub mod Types
 pub mod Laws
 pub mod Attributes
+pub mod Memberships

@@ -1,5 +1,6 @@
-pub mod Lowest
-pub mod LowestLaws
+pub mod First
+pub mod FewestLaws
+pub mod FirstLaws
 pub mod Verdict
 pub mod VerdictLaws
 pub mod Numbers

@@ -1,2 +1,4 @@
+pub mod SchemaMemberships
 pub mod WitnessLaws
+pub mod MembershipLaws
 pub mod Theorems

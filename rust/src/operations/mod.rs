@@ -6,6 +6,6 @@ mod instantiations;
 mod schemas;
 
 pub use files::{accept, read_node, record};
-pub use formulas::{formula, verdict, Verdict};
+pub use formulas::{formula, lowest_verdict, verdict, LowestVerdict, Verdict};
 pub use instantiations::{apply, recover, Application, Recovery};
 pub use schemas::{typing, Typing};

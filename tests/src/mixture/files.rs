@@ -190,6 +190,10 @@ impl Files {
             0 => one_of(random, &self.greatest),
             1..=3 => one_of(random, &self.extreme),
             4..=31 => Rc::new(Input::new(damaged(random, size))),
+            32..=39 => {
+                let relations = random.between(1, 8);
+                Rc::new(Input::new(random.tree_file(relations)))
+            }
             _ => Rc::new(Input::new(random.likely_file(size.0, size.1))),
         }
     }

@@ -1,10 +1,10 @@
-//! Formula and Verdict.
+//! Formula, Verdict and the verdict by lowest subsets.
 
 use super::{prepare, Difference, Outcome, PairedCalls};
 use crate::answer::Answer;
-use crate::engine;
+use crate::engine::{self, Found};
 use crate::input::Input;
-use crate::reference::Verdict;
+use crate::reference::{read_schema, Order, Verdict};
 
 impl PairedCalls {
     /// Compares Formula: the answer and every byte. Gives the answer.
@@ -26,10 +26,13 @@ impl PairedCalls {
         Ok(wanted)
     }
 
-    /// Compares Verdict: the answer, the value or that it stays, and every byte. The
-    /// lengths are those of work space and schema. Gives the reference's answer.
+    /// Compares a verdict: the answer, the numbers or that they stay, and every byte. The
+    /// lengths are those of work space and schema. Where the engine gives a number of
+    /// memberships, it is also compared with that counted off the bytes that the engine
+    /// wrote. Gives the reference's answer.
     pub fn verdict(
         &mut self,
+        order: Order,
         input: &Input,
         node: usize,
         lengths: [usize; 2],
@@ -39,25 +42,60 @@ impl PairedCalls {
         let before = input.bytes.clone();
         let (work, schema) = (self.work.for_reference(), self.schema.for_reference());
         let verdict = match &input.inferred {
-            Ok(inferred) => inferred.verdict(node, work, schema),
+            Ok(inferred) => inferred.verdict(order, node, work, schema),
             Err(number) => Verdict::Refused { number: *number },
         };
-        let value_before = self.random.word() as usize;
-        let value_wanted = match verdict {
-            Verdict::Typable { length } => length,
-            Verdict::Untypable { attribute } => usize::from(attribute),
-            Verdict::Refused { .. } => value_before,
+        let found_before = Found {
+            value: self.random.word() as usize,
+            memberships: self.random.word() as u8,
         };
-        let mut value = value_before;
+        let mut found = found_before;
         let (work, schema) = (self.work.for_engine(), self.schema.for_engine());
-        let answer = engine::verdict(&input.bytes, node, work, schema, &mut value);
+        let answer = match order {
+            Order::FewestMembers => engine::verdict(&input.bytes, node, work, schema, &mut found),
+            Order::LowestNumber => {
+                engine::lowest_verdict(&input.bytes, node, work, schema, &mut found.value)
+            }
+        };
+        let counted = match (order, answer) {
+            (Order::FewestMembers, 0) => memberships(&input.bytes, &schema[..found.value]),
+            _ => Ok(found.memberships),
+        };
         let outcome = Outcome {
-            given: (answer, value),
-            wanted: (verdict.number(), value_wanted),
+            given: (answer, found, counted),
+            wanted: wanted(order, verdict, found_before),
             inputs: &[("file", &before, &input.bytes)],
             slices: &[("work space", &self.work), ("schema", &self.schema)],
         };
-        outcome.check(|| format!("Verdict of node {node}, {lengths:?} bytes (answer, value)"))?;
+        outcome.check(|| {
+            format!("{order:?} verdict of node {node}, {lengths:?} bytes (answer, numbers, count)")
+        })?;
         Ok(verdict)
     }
+}
+
+/// The memberships of a schema of an accepted file, counted off its bytes.
+fn memberships(file: &[u8], schema: &[u8]) -> Result<u8, u8> {
+    let sets = read_schema(file[0], schema)?;
+    Ok(sets.iter().map(|set| set.len() as u8).sum())
+}
+
+/// The answer and the numbers that the engine is to give, and the memberships counted off
+/// what it wrote, or those that it was lent.
+fn wanted(order: Order, verdict: Verdict, before: Found) -> (u8, Found, Result<u8, u8>) {
+    let mut found = before;
+    match verdict {
+        Verdict::Typable {
+            length,
+            memberships,
+        } => {
+            found.value = length;
+            if order == Order::FewestMembers {
+                found.memberships = memberships;
+            }
+        }
+        Verdict::Untypable { attribute } => found.value = attribute.into(),
+        Verdict::Refused { .. } => {}
+    }
+    (verdict.number(), found, Ok(found.memberships))
 }

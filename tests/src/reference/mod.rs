@@ -32,4 +32,6 @@ pub use recover::{recover, Recover, INSTANTIATION_LENGTH};
 pub use rules::{assignment_of, holders, type_of, Type};
 pub use schema::{encode_record, encode_schema, read_schema};
 pub use typing::{typing, Typing, OUTPUT_LENGTH};
-pub use verdict::{untypable_attribute, verdict, witness, Verdict, SCHEMA_LENGTH};
+pub use verdict::{
+    lowest_verdict, members, untypable_attribute, verdict, witness, Order, Verdict, SCHEMA_LENGTH,
+};

@@ -1,7 +1,10 @@
 //! The page `docs/FORMAT.md` against the engine and the crate: the examples of section 10, with
 //! their files, texts, columns and verdicts, and the clauses that the refusals' texts name.
 
-use type_formula::{accept, formula, verdict, Formula, Refusal, Verdict, SCHEMA_SIZE, WORK_SIZE};
+use type_formula::{
+    accept, formula, lowest_verdict, verdict, Formula, LowestVerdict, Refusal, Verdict,
+    SCHEMA_SIZE, WORK_SIZE,
+};
 use type_formula_tests::examples::{e1, from_hexadecimal};
 
 const FORMAT: &str = include_str!("../../../docs/FORMAT.md");
@@ -58,19 +61,39 @@ fn assert_columns(clause: &str, formula: Formula) -> usize {
     count
 }
 
-/// Asserts the verdict that a clause gives, if it does.
-fn assert_verdict(clause: &str, file: &[u8], node: usize) -> usize {
+/// The number after some words, if the clause has them.
+fn number_after(clause: &str, words: &str) -> Option<u8> {
+    let number = between(clause, words, &['.', ':', ';']).next();
+    number.map(|number| number.parse().expect("a number"))
+}
+
+/// Asserts the verdicts that a clause gives; gives how many.
+fn assert_verdicts(clause: &str, file: &[u8], node: usize) -> usize {
     let (mut work, mut schema) = ([0; WORK_SIZE], [0; SCHEMA_SIZE]);
-    let given = verdict(file, node, &mut work, &mut schema).expect("a verdict");
     let witness = bytes_after(clause, "itness");
-    let attribute = between(clause, "Untypable, attribute ", &['.', ':']).next();
-    let attribute = attribute.map(|number| number.parse().expect("an attribute"));
-    match given {
-        _ if witness.is_none() && attribute.is_none() => return 0,
-        Verdict::Typable(schema) => assert_eq!(Some(schema.bytes().to_vec()), witness),
+    let attribute = number_after(clause, "Untypable, attribute ");
+    if witness.is_none() && attribute.is_none() {
+        return 0;
+    }
+    match verdict(file, node, &mut work, &mut schema).expect("a verdict") {
+        Verdict::Typable {
+            witness: given,
+            memberships,
+        } => {
+            assert_eq!(Some(given.bytes().to_vec()), witness, "{clause}");
+            let wanted = number_after(clause, "memberships ");
+            assert_eq!(Some(memberships), wanted, "{clause}");
+        }
         Verdict::Untypable { attribute: given } => assert_eq!(Some(given), attribute),
     }
-    1
+    let lowest = bytes_after(clause, "by lowest subsets");
+    match lowest_verdict(file, node, &mut work, &mut schema).expect("a verdict") {
+        LowestVerdict::Typable(given) => {
+            assert_eq!(Some(given.bytes().to_vec()), lowest, "{clause}");
+        }
+        LowestVerdict::Untypable { attribute: given } => assert_eq!(Some(given), attribute),
+    }
+    2
 }
 
 #[test]
@@ -90,10 +113,10 @@ fn the_examples_of_the_format_are_what_the_engine_gives() {
             texts += 1;
         }
         columns += assert_columns(clause, formula);
-        verdicts += assert_verdict(clause, &file, node);
+        verdicts += assert_verdicts(clause, &file, node);
     }
     println!("{files} files, {texts} texts, {columns} columns, {verdicts} verdicts");
-    assert!(files >= 7 && texts >= 2 && columns >= 39 && verdicts >= 6);
+    assert!(files >= 8 && texts >= 2 && columns >= 40 && verdicts >= 16);
 }
 
 #[test]

@@ -6,7 +6,7 @@ use type_formula_tests::answer::{
 use type_formula_tests::mixture::{operation_of, Mixture};
 
 /// How many inputs are compared.
-const INPUTS: u64 = 40_000;
+const INPUTS: u64 = 45_000;
 
 /// The refusals that an operation can give.
 fn refusals(operation: Operation) -> Vec<u8> {
@@ -16,7 +16,7 @@ fn refusals(operation: Operation) -> Vec<u8> {
         Operation::Record => refusal <= 11,
         Operation::ReadNode => (4..=9).contains(&refusal),
         Operation::Formula => refusal <= 10 || refusal == 12,
-        Operation::Verdict => refusal <= 13,
+        Operation::Verdict | Operation::LowestVerdict => refusal <= 13,
         Operation::Typing => refusal <= 18 && refusal != 12,
         Operation::Apply => true,
         Operation::Recover => refusal <= 18,
@@ -26,8 +26,8 @@ fn refusals(operation: Operation) -> Vec<u8> {
 
 /// Whether the operation can give untyped or untypable.
 fn has_no_type(operation: Operation) -> bool {
-    use Operation::{Recover, Typing, Verdict};
-    matches!(operation, Verdict | Typing | Recover)
+    use Operation::{LowestVerdict, Recover, Typing, Verdict};
+    matches!(operation, Verdict | LowestVerdict | Typing | Recover)
 }
 
 #[test]

@@ -1,12 +1,12 @@
-//! The reference alone: typing rules, Formula, Verdict and the listing.
+//! The reference alone: typing rules, Formula, both verdicts and the listing.
 
 use type_formula_tests::examples::{cases, e1, from_hexadecimal, join_of_eight, three_subsets};
 use type_formula_tests::formula_examples::{assert_e1_columns, formula_examples, E2_SCHEMA};
 use type_formula_tests::pseudorandom::Random;
 use type_formula_tests::reference::{
     allowed_subsets, assignment_of, encode_file, formula, holders, infer, is_allowed, is_output,
-    listing, read_schema, type_of, verdict, Formula, Inferred, Node, Type, Verdict, COLUMNS,
-    FORMULA_LENGTH, SCHEMA_LENGTH,
+    listing, lowest_verdict, read_schema, type_of, verdict, Formula, Inferred, Node, Order, Type,
+    Verdict, COLUMNS, FORMULA_LENGTH, SCHEMA_LENGTH,
 };
 
 /// The ordinary attributes of the random assignments.
@@ -97,13 +97,21 @@ fn files(random: &mut Random) -> Vec<Inferred> {
     files.iter().map(infer).collect()
 }
 
-/// Verdict with slices that are long enough, and the bytes written.
-fn verdict_of(inferred: &Inferred, node: usize) -> (Verdict, Vec<u8>) {
+/// The orders of the two verdicts.
+const ORDERS: [Order; 2] = [Order::FewestMembers, Order::LowestNumber];
+
+/// How many attributes the relations have in all.
+fn memberships(assignment: &[Type]) -> u8 {
+    assignment.iter().map(|set| set.len() as u8).sum()
+}
+
+/// A verdict with slices that are long enough, and the bytes written.
+fn verdict_of(order: Order, inferred: &Inferred, node: usize) -> (Verdict, Vec<u8>) {
     let mut work = vec![0; FORMULA_LENGTH * inferred.formulas.len()];
     let mut schema = vec![0; SCHEMA_LENGTH];
-    let answer = inferred.verdict(node, &mut work, &mut schema);
+    let answer = inferred.verdict(order, node, &mut work, &mut schema);
     match answer {
-        Verdict::Typable { length } => schema.truncate(length),
+        Verdict::Typable { length, .. } => schema.truncate(length),
         _ => schema.clear(),
     }
     (answer, schema)
@@ -159,6 +167,44 @@ fn every_small_assignment_is_typed_as_the_formula_says() {
     assert!(typed >= 2_000 && untyped >= 2_000);
 }
 
+/// The least number of memberships of the assignments of attributes 1, 2 and 16 that type
+/// the last node.
+fn fewest_memberships(Inferred { file, .. }: &Inferred) -> Option<u8> {
+    let node = file.nodes.len() - 1;
+    let typed = three_subsets(file.relations).filter_map(|[first, second, third]| {
+        let subsets = [(1, first), (2, second), (16, third)];
+        let assignment = assignment_of(file.relations, subsets);
+        let is_typed = type_of(file, node, &assignment).is_some();
+        is_typed.then(|| memberships(&assignment))
+    });
+    typed.min()
+}
+
+/// Every small assignment that types a node has at least as many memberships as Verdict
+/// says, and one has as many.
+#[test]
+fn no_small_assignment_that_types_a_node_has_fewer_memberships_than_the_witness() {
+    let mut random = Random::new(34);
+    let (mut typable, mut fewer) = (0, 0);
+    for _ in 0..1_000 {
+        let nodes = random.tree_nodes(3);
+        let nodes: Vec<Node> = nodes.iter().map(with_attributes_1_and_2).collect();
+        let inferred = infer(&encode_file(3, &nodes)).expect("accepted");
+        let [fewest, lowest] =
+            ORDERS.map(
+                |order| match verdict_of(order, &inferred, nodes.len() - 1).0 {
+                    Verdict::Typable { memberships, .. } => Some(memberships),
+                    _ => None,
+                },
+            );
+        assert_eq!(fewest_memberships(&inferred), fewest, "{nodes:?}");
+        typable += u64::from(fewest.is_some());
+        fewer += u64::from(fewest < lowest);
+    }
+    println!("{typable} typable, {fewer} with fewer memberships than by lowest subsets");
+    assert!(typable >= 500 && fewer >= 50);
+}
+
 /// The node with 1 for each odd and 2 for each even attribute.
 fn with_attributes_1_and_2(node: &Node) -> Node {
     let one = |attribute: u8| 2 - attribute % 2;
@@ -196,7 +242,8 @@ fn a_witness_types_its_node_and_nothing_types_an_untypable_node() {
     for inferred in files(&mut random) {
         let Inferred { file, formulas } = &inferred;
         for (node, formula) in formulas.iter().enumerate() {
-            let (answer, schema) = verdict_of(&inferred, node);
+            let order = ORDERS[random.below(2)];
+            let (answer, schema) = verdict_of(order, &inferred, node);
             if let Verdict::Untypable { attribute } = answer {
                 assert_eq!(allowed_subsets(formula, usize::from(attribute)), []);
                 let assignments =
@@ -211,8 +258,13 @@ fn a_witness_types_its_node_and_nothing_types_an_untypable_node() {
                 untypable += 1;
             } else {
                 let length = 2 * usize::from(file.relations);
-                assert_eq!(answer, Verdict::Typable { length });
                 let witness = read_schema(file.relations, &schema).expect("a schema");
+                let memberships = memberships(&witness);
+                let wanted = Verdict::Typable {
+                    length,
+                    memberships,
+                };
+                assert_eq!(answer, wanted);
                 let by_rules = type_of(file, node, &witness);
                 assert!(by_rules.is_some(), "node {node} of {file:?}");
                 assert_eq!(by_rules, type_by_formula(formula, &witness));
@@ -255,15 +307,25 @@ fn examples_have_their_formulas_verdicts_and_listings() {
             example.formula(),
             "{name}"
         );
-        let wanted = match example.verdict {
-            Ok(witness) => {
-                let witness = from_hexadecimal(witness);
-                let length = witness.len();
-                (Verdict::Typable { length }, witness)
+        for order in ORDERS {
+            let (answer, schema) = verdict_of(order, &inferred, example.last());
+            let wanted = example.verdict.map(|given| match order {
+                Order::FewestMembers => given.fewest,
+                Order::LowestNumber => given.lowest,
+            });
+            let wanted = wanted.map(from_hexadecimal);
+            assert_eq!(schema, wanted.clone().unwrap_or_default(), "{name}");
+            match (answer, example.verdict) {
+                (Verdict::Untypable { attribute }, given) => {
+                    assert_eq!(given.err(), Some(attribute), "{name}");
+                }
+                (Verdict::Typable { memberships, .. }, Ok(given)) => {
+                    let is_fewest = order == Order::FewestMembers;
+                    assert!(!is_fewest || memberships == given.memberships, "{name}");
+                }
+                other => panic!("{name}: {:?}", other.0),
             }
-            Err(attribute) => (Verdict::Untypable { attribute }, Vec::new()),
-        };
-        assert_eq!(verdict_of(&inferred, example.last()), wanted, "{name}");
+        }
         assert_eq!(listing(&bytes), example.listing, "{name}");
     }
 }
@@ -290,7 +352,7 @@ fn e1_is_typed_by_the_rules_as_e2_to_e4_say() {
 }
 
 #[test]
-fn formula_and_verdict_are_refused_in_order() {
+fn formula_and_verdicts_are_refused_in_order() {
     let bytes = e1().bytes;
     let untouched = |slice: &[u8]| slice.iter().all(|&byte| byte == 0xaa);
     for (node, work_length, schema_length, number) in [
@@ -301,10 +363,12 @@ fn formula_and_verdict_are_refused_in_order() {
         (6, 7_168, 4_103, 13),
         (0, 70_000, 0, 13),
     ] {
-        let (mut work, mut schema) = (vec![0xaa; work_length], vec![0xaa; schema_length]);
-        let answer = verdict(&bytes, node, &mut work, &mut schema);
-        assert_eq!(answer, Verdict::Refused { number });
-        assert!(untouched(&work) && untouched(&schema));
+        for verdict in [verdict, lowest_verdict] {
+            let (mut work, mut schema) = (vec![0xaa; work_length], vec![0xaa; schema_length]);
+            let answer = verdict(&bytes, node, &mut work, &mut schema);
+            assert_eq!(answer, Verdict::Refused { number });
+            assert!(untouched(&work) && untouched(&schema));
+        }
     }
     let mut work = vec![0xaa; 7_169];
     assert_eq!(formula(&bytes, &mut work[..7_167]), 12);
@@ -321,6 +385,7 @@ fn a_refused_file_is_refused_first_of_all() {
         let refused = Verdict::Refused { number };
         assert_eq!(formula(&case.bytes, &mut []), number, "{}", case.name);
         assert_eq!(verdict(&case.bytes, 64, &mut [], &mut []), refused);
+        assert_eq!(lowest_verdict(&case.bytes, 64, &mut [], &mut []), refused);
         assert_eq!(listing(&case.bytes), format!("refused {number}\n"));
     }
 }

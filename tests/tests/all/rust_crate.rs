@@ -2,10 +2,11 @@
 //! on the same inputs the same answers, and the same bytes in every slice.
 
 use type_formula::{
-    accept, apply, formula, read_node, record, recover, typing, verdict, BinaryOp, Node, Recovery,
-    Refusal, SetOp, Typing, Verdict, INSTANTIATION_SIZE, OUTPUT_SIZE, SCHEMA_SIZE, WORK_SIZE,
+    accept, apply, formula, lowest_verdict, read_node, record, recover, typing, verdict, BinaryOp,
+    LowestVerdict, Node, Recovery, Refusal, SetOp, Typing, Verdict, INSTANTIATION_SIZE,
+    OUTPUT_SIZE, SCHEMA_SIZE, WORK_SIZE,
 };
-use type_formula_tests::engine::{self, Lengths, UNTYPABLE, UNTYPED};
+use type_formula_tests::engine::{self, Found, Lengths, UNTYPABLE, UNTYPED};
 use type_formula_tests::examples::to_hexadecimal;
 use type_formula_tests::pseudorandom::Random;
 use type_formula_tests::reference::{encode_instantiation, encode_node, encode_schema, infer};
@@ -179,7 +180,8 @@ fn record_is_as_in_c() {
             Err(refused) => {
                 assert!(wanted.is_empty(), "{}", input.text());
                 // The C function gives no number; Verdict has the same order of tests.
-                let answer = engine::verdict(&input.file, input.node, &mut [], &mut [], &mut 0);
+                let found = &mut Found::default();
+                let answer = engine::verdict(&input.file, input.node, &mut [], &mut [], found);
                 assert_eq!(refused.number(), answer, "{}", input.text());
                 answer
             }
@@ -260,8 +262,44 @@ fn verdict_is_as_in_c() {
     let counts = Counts::of(5, |random, input| {
         let (mut work, mut schema) = (work_space(random), slice(random, SCHEMA_SIZE));
         let (mut wanted_work, mut wanted_schema) = (work.clone(), schema.clone());
-        let mut value = 0;
+        let mut found = Found::default();
         let answer = engine::verdict(
+            &input.file,
+            input.node,
+            &mut wanted_work,
+            &mut wanted_schema,
+            &mut found,
+        );
+        let Found { value, memberships } = found;
+        let wanted = match answer {
+            0 => Ok(Ok((&wanted_schema[..value], memberships))),
+            UNTYPABLE => Ok(Err(value as u8)),
+            number => Err(refusal(number)),
+        };
+        let given = verdict(&input.file, input.node, &mut work, &mut schema);
+        let given = given.map(|verdict| match verdict {
+            Verdict::Typable {
+                witness,
+                memberships,
+            } => Ok((witness.bytes(), memberships)),
+            Verdict::Untypable { attribute } => Err(attribute),
+        });
+        assert_eq!(given, wanted, "{}", input.text());
+        assert!(work == wanted_work, "{}", input.text());
+        assert!(schema == wanted_schema, "{}", input.text());
+        answer
+    });
+    assert!(counts.without > 0);
+    counts.assert_met(&[4, 5, 10, 11, 12, 13]);
+}
+
+#[test]
+fn lowest_verdict_is_as_in_c() {
+    let counts = Counts::of(9, |random, input| {
+        let (mut work, mut schema) = (work_space(random), slice(random, SCHEMA_SIZE));
+        let (mut wanted_work, mut wanted_schema) = (work.clone(), schema.clone());
+        let mut value = 0;
+        let answer = engine::lowest_verdict(
             &input.file,
             input.node,
             &mut wanted_work,
@@ -273,10 +311,10 @@ fn verdict_is_as_in_c() {
             UNTYPABLE => Ok(Err(value as u8)),
             number => Err(refusal(number)),
         };
-        let given = verdict(&input.file, input.node, &mut work, &mut schema);
+        let given = lowest_verdict(&input.file, input.node, &mut work, &mut schema);
         let given = given.map(|verdict| match verdict {
-            Verdict::Typable(witness) => Ok(witness.bytes()),
-            Verdict::Untypable { attribute } => Err(attribute),
+            LowestVerdict::Typable(witness) => Ok(witness.bytes()),
+            LowestVerdict::Untypable { attribute } => Err(attribute),
         });
         assert_eq!(given, wanted, "{}", input.text());
         assert!(work == wanted_work, "{}", input.text());

@@ -12,7 +12,7 @@ use type_formula_tests::pseudorandom::Random;
 use type_formula_tests::random_instantiations::MOST_IN_DISTURBED;
 use type_formula_tests::reference::{
     assignment_of, encode_file, encode_schema, infer, read_schema, untypable_attribute, witness,
-    Type, Typing, SCHEMA_LENGTH,
+    Order, Type, Typing, SCHEMA_LENGTH,
 };
 use type_formula_tests::test_run::TestRun;
 use type_formula_tests::typing_examples::{
@@ -167,7 +167,8 @@ fn random_schemas_near_witnesses() {
         if untypable_attribute(&formulas[node]).is_some() {
             continue;
         }
-        let witness = witness(&formulas[node], relations);
+        let order = [Order::FewestMembers, Order::LowestNumber][random.below(2)];
+        let (witness, _) = witness(order, &formulas[node], relations);
         let typing = run.typing_by_schema(&bytes, node, &witness);
         assert!(matches!(typing, Typing::Typed { .. }));
         let mut sets = read_schema(relations, &witness).expect("a schema");

@@ -5,13 +5,13 @@ use fn.Statement.{statement}
 use fn.Tie as tie
 
 returns : tie.Need-returns
-returns c = rw c.before.outcome.given.1 (refl, refl)
+returns c = rw c.before.outcome.given.1 (refl, (refl, refl))
 
 returns-2 : tie.Need-returns-2
-returns-2 c = rw c.before.outcome2.given.1 (refl, refl)
+returns-2 c = rw c.before.outcome2.given.1 (refl, (refl, refl))
 
 returns-3 : tie.Need-returns-3
-returns-3 c = rw c.before.before.outcome3.given.1 (c.number.ensures, refl)
+returns-3 c = rw c.before.before.outcome3.given.1 (c.number.ensures, (refl, refl))
 
 pub write-outcome-spec : {M : Type 1} → statement M
 write-outcome-spec =

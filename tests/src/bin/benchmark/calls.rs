@@ -2,8 +2,8 @@
 
 use std::hint::black_box;
 
-use type_formula_tests::answer::Answer;
-use type_formula_tests::engine::{self, Lengths};
+use type_formula_tests::answer::{Answer, NO_TYPE, RESULT};
+use type_formula_tests::engine::{self, Found, Lengths};
 use type_formula_tests::reference::{self, Apply, Recover, Typing, Verdict};
 
 use crate::settings::Setting;
@@ -14,14 +14,16 @@ use crate::words;
 pub enum Operation {
     Formula,
     Verdict,
+    LowestVerdict,
     Typing,
     Apply,
     Recover,
 }
 
-pub const OPERATIONS: [Operation; 5] = [
+pub const OPERATIONS: [Operation; 6] = [
     Operation::Formula,
     Operation::Verdict,
+    Operation::LowestVerdict,
     Operation::Typing,
     Operation::Apply,
     Operation::Recover,
@@ -52,8 +54,14 @@ fn formula(by: impl Fn(&[u8], &mut [u8]) -> u8, of: &Setting, slices: Parts) -> 
 }
 
 fn verdict_by_engine(of: &Setting, slices: Parts) -> [usize; 3] {
+    let (file, mut found) = (black_box(&of.file), Found::default());
+    let answer = engine::verdict(file, of.last, slices.work, slices.schema, &mut found);
+    [answer.into(), found.value, found.memberships.into()]
+}
+
+fn lowest_verdict_by_engine(of: &Setting, slices: Parts) -> [usize; 3] {
     let (file, mut value) = (black_box(&of.file), 0);
-    let answer = engine::verdict(file, of.last, slices.work, slices.schema, &mut value);
+    let answer = engine::lowest_verdict(file, of.last, slices.work, slices.schema, &mut value);
     [answer.into(), value, 0]
 }
 
@@ -63,12 +71,25 @@ fn verdict(
     slices: Parts,
 ) -> [usize; 3] {
     let verdict = by(black_box(&of.file), of.last, slices.work, slices.schema);
-    let value = match verdict {
-        Verdict::Typable { length } => length,
-        Verdict::Untypable { attribute } => attribute.into(),
-        Verdict::Refused { .. } => 0,
+    let (value, memberships) = match verdict {
+        Verdict::Typable {
+            length,
+            memberships,
+        } => (length, memberships),
+        Verdict::Untypable { attribute } => (attribute.into(), 0),
+        Verdict::Refused { .. } => (0, 0),
     };
-    [verdict.number().into(), value, 0]
+    [verdict.number().into(), value, memberships.into()]
+}
+
+/// The same without the number of memberships.
+fn lowest_verdict(
+    by: impl Fn(&[u8], usize, &mut [u8], &mut [u8]) -> Verdict,
+    of: &Setting,
+    slices: Parts,
+) -> [usize; 3] {
+    let [answer, value, _] = verdict(by, of, slices);
+    [answer, value, 0]
 }
 
 fn typing_by_engine(of: &Setting, slices: Parts) -> [usize; 3] {
@@ -157,6 +178,13 @@ fn one_call(operation: Operation, by: By) -> Option<OneCall> {
         (Operation::Verdict, By::Engine) => verdict_by_engine,
         (Operation::Verdict, By::Reference) => |of, slices| verdict(reference::verdict, of, slices),
         (Operation::Verdict, By::Words) => |of, slices| verdict(words::verdict, of, slices),
+        (Operation::LowestVerdict, By::Engine) => lowest_verdict_by_engine,
+        (Operation::LowestVerdict, By::Reference) => {
+            |of, slices| lowest_verdict(reference::lowest_verdict, of, slices)
+        }
+        (Operation::LowestVerdict, By::Words) => {
+            |of, slices| lowest_verdict(words::lowest_verdict, of, slices)
+        }
         (Operation::Typing, By::Engine) => typing_by_engine,
         (Operation::Typing, By::Reference) => |of, slices| typing(reference::typing, of, slices),
         (Operation::Typing, By::Words) => |of, slices| typing(words::typing, of, slices),
@@ -176,7 +204,7 @@ fn one_call(operation: Operation, by: By) -> Option<OneCall> {
 fn copied_length(operation: Operation, setting: &Setting) -> usize {
     let (work, schema) = (setting.work_length(), setting.schema.len());
     match operation {
-        Operation::Formula | Operation::Verdict => work,
+        Operation::Formula | Operation::Verdict | Operation::LowestVerdict => work,
         Operation::Typing => schema + setting.output_length,
         Operation::Apply => work + schema + setting.output_length,
         Operation::Recover => work + setting.instantiation.len(),
@@ -220,8 +248,8 @@ pub fn call(operation: Operation, by: By, setting: &Setting) -> Option<Call<'_>>
     }))
 }
 
-/// Asserts that all implementations of the operation give the same answers and bytes, and
-/// no refusal.
+/// Asserts that all implementations of the operation give the same answers and bytes: a
+/// result, or untypable where the setting is so.
 pub fn check(operation: Operation, setting: &Setting) {
     let after = |by| {
         let mut slices = Slices::new();
@@ -229,7 +257,16 @@ pub fn check(operation: Operation, setting: &Setting) {
         Some((slices.answer, slices.bytes().to_vec()))
     };
     let wanted = after(By::Reference).expect("has every operation");
-    assert_eq!(wanted.0[0], 0, "{operation:?}, {}", setting.name);
+    let answer = match setting.is_typable() {
+        true => RESULT,
+        false => NO_TYPE,
+    };
+    assert_eq!(
+        wanted.0[0],
+        answer.into(),
+        "{operation:?}, {}",
+        setting.name
+    );
     for by in [By::Engine, By::Words] {
         let is_same = after(by).is_some_and(|given| given == wanted);
         assert!(is_same, "{operation:?} by {by:?}, {}", setting.name);

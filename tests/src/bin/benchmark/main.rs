@@ -1,4 +1,4 @@
-//! Times of Formula, Verdict, Typing, Apply and Recover, as markdown tables: beside the
+//! Times of Formula, both verdicts, Typing, Apply and Recover, as markdown tables: beside the
 //! same operation by the reference, the same written by hand for speed (module `words`),
 //! and copies of the bytes that are written, by the C library and by a loop; and those of
 //! the engine and of the hand-written code as nodes and as attributes double.
@@ -7,9 +7,9 @@
 //!     benchmark once OPERATION SIZE COUNT [BY]
 //!
 //! The second calls one operation so many times and prints nothing, for a count of
-//! instructions. SIZE is a number of nodes, 7, 8, 16, 32 or 64, or one of two settings of 64
-//! nodes and 255 ordinary attributes: 64x255 with three lists, 64x255each with one attribute
-//! in each list. BY is engine, reference, words (the hand-written code), copy or copyloop.
+//! instructions. SIZE is a number of nodes, 7, 8, 16, 32 or 64; 7untypable or 64untypable,
+//! for the verdicts; or one of two settings of 64 nodes and 255 ordinary attributes: 64x255
+//! with three lists, 64x255each with one attribute in each list. BY is engine, reference, words (the hand-written code), copy or copyloop.
 
 mod calls;
 mod checks;

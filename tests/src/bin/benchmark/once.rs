@@ -1,14 +1,20 @@
 //! One operation, called a number of times.
 
 use crate::calls::{call, By, Operation, ALL, OPERATIONS};
-use crate::settings::{e1_with_10_columns, of_attributes, of_nodes, Lists, Setting};
+use crate::settings::{
+    e1_with_10_columns, of_attributes, of_nodes, untypable_of_64_nodes, untypable_of_7_nodes,
+    Lists, Setting,
+};
 use crate::slices::Slices;
 
-/// The setting with so many nodes, or with 64 nodes and 255 ordinary attributes.
+/// The setting with so many nodes, with so many and no type, or with 64 nodes and 255
+/// ordinary attributes.
 fn setting(size: &str) -> Option<Setting> {
     Some(match size {
         "7" => e1_with_10_columns(),
         "8" | "16" | "32" | "64" => of_nodes(size.parse().ok()?),
+        "7untypable" => untypable_of_7_nodes(),
+        "64untypable" => untypable_of_64_nodes(),
         "64x255" => of_attributes(64, 255, Lists::Three),
         "64x255each" => of_attributes(64, 255, Lists::OneInEach),
         _ => return None,

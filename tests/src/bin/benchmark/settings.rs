@@ -3,15 +3,15 @@
 use std::collections::HashSet;
 use std::mem::discriminant;
 
-use type_formula_tests::examples::{e1, e10_nodes, join_of_eight};
+use type_formula_tests::examples::{e1, e10_nodes, e1_nodes, join_of_eight};
 use type_formula_tests::pseudorandom::Random;
 use type_formula_tests::reference::{
     assignment_of, encode_file, encode_schema, infer, recover, typing, untypable_attribute,
-    witness, Node, Recover, Typing, FORMULA_LENGTH, INSTANTIATION_LENGTH, OUTPUT_LENGTH,
+    witness, Node, Order, Recover, Typing, FORMULA_LENGTH, INSTANTIATION_LENGTH, OUTPUT_LENGTH,
 };
 
 /// A file with a schema that types its last node, and the instantiation whose image the
-/// schema is.
+/// schema is; both are empty where the last node is untypable.
 pub struct Setting {
     pub name: String,
     pub file: Vec<u8>,
@@ -47,6 +47,25 @@ impl Setting {
         setting
     }
 
+    /// A file whose last node is untypable.
+    fn untypable(name: &str, file: Vec<u8>) -> Self {
+        let last = usize::from(file[1]) - 1;
+        let formula = infer(&file).expect("accepted").formulas[last];
+        assert!(untypable_attribute(&formula).is_some(), "{name}: typable");
+        Setting {
+            name: name.into(),
+            last,
+            file,
+            schema: Vec::new(),
+            instantiation: Vec::new(),
+            output_length: 0,
+        }
+    }
+
+    pub fn is_typable(&self) -> bool {
+        !self.schema.is_empty()
+    }
+
     pub fn work_length(&self) -> usize {
         FORMULA_LENGTH * (self.last + 1)
     }
@@ -59,6 +78,27 @@ pub fn e1_with_10_columns() -> Setting {
     let subsets = [(1, 1), (2, 2), (3, 3), (20, 7), (21, 3), (22, 4)];
     let schema = encode_schema(&assignment_of(3, subsets));
     Setting::new("n 7, m 3 (E1), 10 columns", e1().bytes, schema)
+}
+
+/// The nodes with the last one exchanged for one that asks for attribute 15 and for a type
+/// without it: the search for the witness comes to the last column.
+fn without_a_type(mut nodes: Vec<Node>) -> Vec<Node> {
+    let operand = nodes.len() as u8 - 2;
+    let (old, new) = (15, 15);
+    *nodes.last_mut().expect("a node") = Node::Renaming { operand, old, new };
+    nodes
+}
+
+/// E1 with an untypable last node.
+pub fn untypable_of_7_nodes() -> Setting {
+    let file = encode_file(3, &without_a_type(e1_nodes()));
+    Setting::untypable("n 7, m 3, untypable", file)
+}
+
+/// 64 nodes over a join of eight relations, the last one untypable.
+pub fn untypable_of_64_nodes() -> Setting {
+    let file = encode_file(8, &without_a_type(nodes_over_a_join()));
+    Setting::untypable("n 64, m 8, untypable", file)
 }
 
 /// Whether all nine cases of nodes occur.
@@ -77,7 +117,7 @@ pub fn random_of_64_nodes() -> Setting {
         let formula = infer(&file).expect("accepted").formulas[63];
         let last_is_relation = matches!(nodes[63], Node::Relation { .. });
         if has_all_cases(&nodes) && untypable_attribute(&formula).is_none() && !last_is_relation {
-            let schema = witness(&formula, 8);
+            let (schema, _) = witness(Order::LowestNumber, &formula, 8);
             return Setting::new("n 64, m 8, random nodes", file, schema);
         }
     }

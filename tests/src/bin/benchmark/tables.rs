@@ -4,7 +4,8 @@ use crate::calls::{call, check, By, Call, Operation, ALL, OPERATIONS};
 use crate::checks::check_words;
 use crate::measure::{medians, BATCHES};
 use crate::settings::{
-    e1_with_10_columns, of_attributes, of_nodes, random_of_64_nodes, Lists, Setting,
+    e1_with_10_columns, of_attributes, of_nodes, random_of_64_nodes, untypable_of_64_nodes,
+    untypable_of_7_nodes, Lists, Setting,
 };
 
 /// Prints a row of a markdown table.
@@ -53,9 +54,11 @@ fn print_comparisons() {
     print_head(title, &names.map(String::from));
     for (setting, operations) in [
         (e1_with_10_columns(), &OPERATIONS[..]),
-        (random_of_64_nodes(), &OPERATIONS[..2]),
-        (of_attributes(64, 255, Lists::Three), &OPERATIONS[2..]),
-        (of_attributes(64, 255, Lists::OneInEach), &OPERATIONS[2..]),
+        (untypable_of_7_nodes(), &OPERATIONS[1..3]),
+        (random_of_64_nodes(), &OPERATIONS[..3]),
+        (untypable_of_64_nodes(), &OPERATIONS[1..3]),
+        (of_attributes(64, 255, Lists::Three), &OPERATIONS[3..]),
+        (of_attributes(64, 255, Lists::OneInEach), &OPERATIONS[3..]),
     ] {
         for &operation in operations {
             let front = vec![format!("{operation:?}"), setting.name.clone()];
@@ -115,14 +118,14 @@ fn both<'a>(operations: &[Operation], settings: &'a [Setting]) -> Vec<Column<'a>
 fn print_nodes() {
     let counts = [8, 16, 32, 64];
     let settings = counts.map(|count| of_nodes(count as u8));
-    let mut columns = both(&OPERATIONS[..2], &settings);
+    let mut columns = both(&OPERATIONS[..3], &settings);
     let copy = (Operation::Formula, By::Copy);
     columns.push(("copy of the formulas".into(), copy, &settings));
     let title = "As nodes double, m 8: nanoseconds, and in brackets the ratio to the row before.";
     print_doubling(title, ("n", &counts), &columns);
     let title = "As nodes double, m 8 and 15 ordinary attributes: nanoseconds, and in brackets \
                  the ratio to the row before.";
-    print_doubling(title, ("n", &counts), &both(&OPERATIONS[2..], &settings));
+    print_doubling(title, ("n", &counts), &both(&OPERATIONS[3..], &settings));
 }
 
 /// The engine and the hand-written code as attributes double, for so many nodes.
@@ -137,7 +140,7 @@ fn print_attributes(nodes: usize) {
             "As ordinary attributes double, n {nodes}, m 8, {name}: nanoseconds, and in \
              brackets the ratio to the row before."
         );
-        let columns = both(&OPERATIONS[2..], &settings);
+        let columns = both(&OPERATIONS[3..], &settings);
         print_doubling(&title, ("Ordinary attributes", &counts), &columns);
     }
 }

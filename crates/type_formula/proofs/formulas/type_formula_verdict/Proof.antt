@@ -5,7 +5,7 @@ use fn.Tie as tie
 
 returns : tie.Need-returns
 returns c =
-    let verdict = c.before.before.before.before.before.before.verdict in
+    let verdict = c.before.before.before.before.before.before.before.verdict in
     let gives = rw verdict.ensures.0 at c.write-outcome.ensures in
     (gives.0, (verdict.ensures.1.0, (verdict.ensures.1.1, gives.1)))
 

@@ -234,7 +234,27 @@ pub fn write_formula(node: Node, relations: u8, earlier: &[u8], formula: &mut [u
 
 /// The lowest bit that stands, if one does.
 #[inline]
-pub fn lowest(bits: &Bits) -> Option<u32> {
+pub fn lowest(bits: &Bits) -> Option<u8> {
     let place = bits.iter().position(|&word| word != 0)?;
-    Some(64 * place as u32 + bits[place].trailing_zeros())
+    Some((64 * place as u32 + bits[place].trailing_zeros()) as u8)
+}
+
+/// By the number of its members: the bits of the subsets that have so many.
+const BY_MEMBERS: [Bits; 9] = by_members();
+
+const fn by_members() -> [Bits; 9] {
+    let mut all = [[0; 4]; 9];
+    let mut s = 0;
+    while s < 256_usize {
+        all[s.count_ones() as usize][s / 64] |= 1 << (s % 64);
+        s += 1;
+    }
+    all
+}
+
+/// The bit that stands for a subset with fewest members, of those the lowest, if one does.
+#[inline]
+pub fn fewest(bits: &Bits) -> Option<u8> {
+    let with = |members: &Bits| lowest(&std::array::from_fn(|i| bits[i] & members[i]));
+    BY_MEMBERS.iter().find_map(with)
 }

@@ -1,4 +1,4 @@
-//! Formula, Verdict, Typing, Apply and Recover written by hand for speed: without an
+//! Formula, both verdicts, Typing, Apply and Recover written by hand for speed: without an
 //! allocation, on 64-bit words, compiled for every x86-64 machine.
 
 mod apply;
@@ -22,7 +22,7 @@ use type_formula_tests::reference::{
     SCHEMA_LENGTH, STANDING_BIT_NO_TYPE_VARIABLE, SUBSET_NOT_ALLOWED, WORK_SPACE_TOO_SHORT,
 };
 
-use self::columns::{is_allowed, lowest, read_column, write_formula, Bits};
+use self::columns::{fewest, is_allowed, lowest, read_column, write_formula, Bits};
 use self::reader::{accept, refuse_if, File};
 
 #[inline(always)]
@@ -76,38 +76,60 @@ pub fn formula(bytes: &[u8], work: &mut [u8]) -> u8 {
     0
 }
 
-/// The maps of the witness, or the attribute whose column allows nothing.
-fn witness(work: &[u8], node: u8) -> Result<[u16; 8], u8> {
-    let mut maps = [0; 8];
+/// The maps of the witness and its memberships, or the attribute whose column allows
+/// nothing. A special attribute has the subset that is the first of those allowed.
+#[inline(always)]
+fn witness(
+    first: impl Fn(&Bits) -> Option<u8>,
+    work: &[u8],
+    node: u8,
+) -> Result<([u16; 8], u8), u8> {
+    let (mut maps, mut memberships) = ([0; 8], 0);
     for column in 1..COLUMNS {
         let allowed = read_column(work, node, column).allowed;
-        let s = lowest(&allowed).ok_or(column as u8)?;
+        let s = first(&allowed).ok_or(column as u8)?;
+        memberships += s.count_ones() as u8;
         for (relation, map) in maps.iter_mut().enumerate() {
-            *map |= (s as u16 >> relation & 1) << column;
+            *map |= (u16::from(s) >> relation & 1) << column;
         }
     }
-    Ok(maps)
+    Ok((maps, memberships))
 }
+
 /// The verdict, or the first refusal.
 #[inline(always)]
-fn decide(bytes: &[u8], node: usize, work: &mut [u8], schema: &mut [u8]) -> Result<Verdict, u8> {
+fn decide(
+    first: impl Fn(&Bits) -> Option<u8>,
+    bytes: &[u8],
+    node: usize,
+    work: &mut [u8],
+    schema: &mut [u8],
+) -> Result<Verdict, u8> {
     let file = accept(bytes)?;
     check_node(&file, node)?;
     check_work_space(&file, work)?;
     check_result(schema, SCHEMA_LENGTH)?;
     fill(file, work);
-    let maps = match witness(work, node as u8) {
-        Ok(maps) => maps,
+    let (maps, memberships) = match witness(first, work, node as u8) {
+        Ok(witness) => witness,
         Err(attribute) => return Ok(Verdict::Untypable { attribute }),
     };
     let length = 2 * usize::from(file.relations);
     for (record, map) in schema[..length].chunks_exact_mut(2).zip(maps) {
         record.copy_from_slice(&map.to_le_bytes());
     }
-    Ok(Verdict::Typable { length })
+    Ok(Verdict::Typable {
+        length,
+        memberships,
+    })
 }
 
 /// Verdict.
 pub fn verdict(bytes: &[u8], node: usize, work: &mut [u8], schema: &mut [u8]) -> Verdict {
-    decide(bytes, node, work, schema).unwrap_or_else(|number| Verdict::Refused { number })
+    decide(fewest, bytes, node, work, schema).unwrap_or_else(|number| Verdict::Refused { number })
+}
+
+/// The verdict by lowest subsets.
+pub fn lowest_verdict(bytes: &[u8], node: usize, work: &mut [u8], schema: &mut [u8]) -> Verdict {
+    decide(lowest, bytes, node, work, schema).unwrap_or_else(|number| Verdict::Refused { number })
 }

@@ -3,7 +3,7 @@ use native.Mathlib.Omega.{arith}
 use Rattle.admission.specs.AdmissionLaws.{sliced-after, slice-admits, admits-few}
 use Rattle.verdict_answer.specs.VerdictLaws.{verdict-stops, verdict-goes}
 use borrow.Author.Needs.{needs}
-use Rattle.verdict.proofs.verdict as fn
+use Rattle.verdict.proofs.verdict_in as fn
 use fn.Statement.{statement}
 use fn.Tie as tie
 
@@ -32,7 +32,7 @@ stored-verdict-requires c κs =
 
 returns : tie.Need-returns
 returns c =
-    verdict-stops _ _ _ _ _ (sym (sliced-after _ _ _ _ _ c.before.before.before.with-slice.ensures
+    verdict-stops _ _ _ _ _ _ (sym (sliced-after _ _ _ _ _ c.before.before.before.with-slice.ensures
     c.before.before.before.before.admit.ensures) ∙ c.before.r.given.1)
 
 returns-2 : tie.Need-returns-2
@@ -40,10 +40,10 @@ returns-2 c =
     let at-fill = c.before.before.before.before.before.before.before in
     let at-m = at-fill.before.before.before in
     let goes = sym (sliced-after _ _ _ _ _ at-m.before.before.with-slice.ensures at-m.before.before.before.admit.ensures) ∙ at-m.m.given.1 in
-    verdict-goes _ _ _ _ _ _ _ _ _ goes at-fill.fill.ensures c.before.before.stored-verdict.ensures.0 c.before.before.stored-verdict.ensures.1
+    verdict-goes _ _ _ _ _ _ _ _ _ _ goes at-fill.fill.ensures c.before.before.stored-verdict.ensures.0 c.before.before.stored-verdict.ensures.1
 
-pub verdict-spec : {M : Type 1} → statement M
-verdict-spec =
+pub verdict-in-spec : {M : Type 1} → statement M
+verdict-in-spec =
     tie.close (tie.spec (λ c κs. search needs) (λ c κs. search needs) (λ c. search needs) (λ c. search needs)
     fill-requires cast-stored-verdict stored-verdict-requires returns (λ c. search needs)
     (λ c. search needs) returns-2)

@@ -4,7 +4,7 @@ use native.Mathlib.Omega.{arith}
 use Rattle.bits.specs.Lowest.{lowestFrom, search-found, search-next, search-ended}
 use Rattle.column.specs.Column.{allowedIn}
 use borrow.Author.Needs.{needs}
-use Rattle.lowest_subsets.proofs.lowest_allowed as fn
+use Rattle.first_subsets.proofs.lowest_allowed as fn
 use fn.Statement.{statement}
 use fn.Tie as tie
 

@@ -1,0 +1,15 @@
+use borrow.Author.Needs.{needs}
+use Rattle.type_formula.proofs.formulas.type_formula_lowest_verdict as fn
+use fn.Statement.{statement}
+use fn.Tie as tie
+
+returns : tie.Need-returns
+returns c =
+    let verdict = c.before.before.before.before.before.before.lowest-verdict in
+    let gives = rw verdict.ensures.0 at c.write-lowest-outcome.ensures in
+    (gives.0, (verdict.ensures.1.0, (verdict.ensures.1.1, gives.1)))
+
+pub type-formula-lowest-verdict-spec : {M : Type 1} → statement M
+type-formula-lowest-verdict-spec =
+    tie.close (tie.spec (λ c κs. search needs) (λ c κs. search needs) (λ c. search needs) (λ c. search needs)
+    returns)
