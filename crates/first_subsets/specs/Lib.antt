@@ -1,1 +1,2 @@
+pub mod ByteMembers
 pub mod SubsetList

@@ -2,17 +2,17 @@
 -- that a list which passes it follows.
 use Prim.Native.Nat.{ℕ, zero, suc, _+_, _-_, _≤_, _<_}
 use mathlib.Core.Path.{_≡_, refl, sym, ap, _∙_}
-use mathlib.Core.Bool.{Bool, true, false, _&&_, _||_}
+use mathlib.Core.Bool.{Bool, true, false, _&&_, _||_, and-eq-true-iff}
 use mathlib.Core.List.{List, [], _∷_}
 use mathlib.Core.Logic.{_⊎_, inl, inr, ⊎-elim}
 use native.Mathlib.Decide.{decLt}
 use native.Mathlib.Nat.{le-of-suc-le-suc}
 use native.Mathlib.Omega.{arith}
-use borrow.Author.Tests.{eqb-true}
+use borrow.Author.Tests.{eqb-true, leb-true, ltb-true}
 use lib.Dec.{T, eqb, ltb, leb, ltb→lt, leb→le, eqb→eq}
 use lib.ListN.{length, getD}
 use Rattle.bits.specs.AllBelow.{allBelow, all-in}
-use Rattle.bits.specs.Lowest.{lowestFrom, Lowest, lowest-is, search-found, search-ended}
+use Rattle.bits.specs.Lowest.{lowestFrom, Lowest, lowest-is, search-found, search-ended, search-from}
 use Rattle.bits.specs.Rising.{member}
 use Rattle.bits.specs.Truth.{is-true, by-true, by-false, left, right}
 use Rattle.types.specs.Memberships.{members}
@@ -29,6 +29,12 @@ risesFrom p (s ∷ list) = ltb s 256 && (leb p (rank s) && risesFrom (rank s + 1
 -- 256 subsets in their order, and each number among them
 unfoldable pub fewestFirst : List ℕ → Bool
 fewestFirst list = eqb (length list) 256 && (risesFrom 0 list && allBelow 256 (λ s. member s list))
+
+-- where those with n members begin, for n up to 9: the one before has fewer
+unfoldable pub startsIn : List ℕ → List ℕ → Bool
+startsIn list starts =
+    eqb (length starts) 10
+    && allBelow 10 (λ n. leb (getD starts n 0) 256 && (eqb (getD starts n 0) 0 || ltb (members (getD list (getD starts n 0 - 1) 0)) n))
 
 -- ---- the rule
 
@@ -122,6 +128,60 @@ fewest-first list passes =
     let each = allBelow 256 (λ s. member s list) in
     let parts = right size (ranks && each) (by-true passes) in
     by-parts list (eqb→eq (length list) 256 (left size (ranks && each) (by-true passes))) (left ranks each parts) (is-true each (right ranks each parts))
+
+-- ---- where the search begins
+
+module _ (list starts : List ℕ) (passes : startsIn list starts ≡ true) where
+  pub starts-size : length starts ≡ 10
+  unfolding startsIn
+  starts-size =
+      eqb-true (length starts) 10
+      (and-eq-true-iff (eqb (length starts) 10) (allBelow 10 (λ n. leb (getD starts n 0) 256 && (eqb (getD starts n 0) 0 || ltb (members (getD list (getD starts n 0 - 1) 0)) n))) .0 passes .0)
+
+  start-test : (n : ℕ) → n < 10 → leb (getD starts n 0) 256 && (eqb (getD starts n 0) 0 || ltb (members (getD list (getD starts n 0 - 1) 0)) n) ≡ true
+  unfolding startsIn
+  start-test n h =
+      all-in 10 (λ n. leb (getD starts n 0) 256 && (eqb (getD starts n 0) 0 || ltb (members (getD list (getD starts n 0 - 1) 0)) n))
+      (and-eq-true-iff (eqb (length starts) 10) (allBelow 10 (λ n. leb (getD starts n 0) 256 && (eqb (getD starts n 0) 0 || ltb (members (getD list (getD starts n 0 - 1) 0)) n))) .0 passes .1) n h
+
+  start-most : (n : ℕ) → n < 10 → getD starts n 0 ≤ 256
+  start-most n h = leb-true (getD starts n 0) 256 (and-eq-true-iff (leb (getD starts n 0) 256) (eqb (getD starts n 0) 0 || ltb (members (getD list (getD starts n 0 - 1) 0)) n) .0 (start-test n h) .0)
+
+  -- those before have fewer members
+  before-start : FewestFirst list → (n : ℕ) → n < 10 → (i : ℕ) → i < getD starts n 0 → members (getD list i 0) < n
+  before-start is n h i less = last (eqb (getD starts n 0) 0) refl (and-eq-true-iff (leb (getD starts n 0) 256) (eqb (getD starts n 0) 0 || ltb (members (getD list (getD starts n 0 - 1) 0)) n) .0 (start-test n h) .1)
+    where
+      rest : members (getD list (getD starts n 0 - 1) 0) < n → Dec (i < getD starts n 0 - 1) → members (getD list i 0) < n
+      rest fewer (yes earlier) =
+          let most = start-most n h in
+          ⊎-elim (λ rises. omega arith) (λ both. let same = both .0 in omega arith) (is .rises i (getD starts n 0 - 1) earlier (omega arith))
+      rest fewer (no other) =
+          let here : i ≡ getD starts n 0 - 1 = omega arith in
+          rw here fewer
+
+      last : (t : Bool) → eqb (getD starts n 0) 0 ≡ t → t || ltb (members (getD list (getD starts n 0 - 1) 0)) n ≡ true → members (getD list i 0) < n
+      last true e passed = let none = eqb-true (getD starts n 0) 0 e in absurd (omega arith)
+      last false e passed = rest (ltb-true (members (getD list (getD starts n 0 - 1) 0)) n passed) (decLt i (getD starts n 0 - 1))
+
+  -- a search may begin there, if no subset that passes has fewer members
+  pub search-start :
+      FewestFirst list
+      → (test : ℕ → Bool) (n : ℕ)
+      → (n ≤ 9) × ((s : ℕ) → s < 256 → test s ≡ true → n ≤ members s)
+      → (getD starts n 0 ≤ 256) × (lowestFrom (256 - getD starts n 0) (getD starts n 0) (λ i. test (getD list i 0)) ≡ lowestFrom 256 0 (λ i. test (getD list i 0)))
+  search-start is test n least =
+      let few = least .0 in
+      let most = start-most n (omega arith) in
+      (most, search-from 256 (getD starts n 0) (λ i. test (getD list i 0)) most (λ i less. fails i less (test (getD list i 0)) refl))
+    where
+      fails : (i : ℕ) → i < getD starts n 0 → (t : Bool) → test (getD list i 0) ≡ t → t ≡ false
+      fails i less true e =
+          let few = least .0 in
+          let most = start-most n (omega arith) in
+          let fewer = before-start is n (omega arith) i less in
+          let more = least .1 (getD list i 0) (is .below i (omega arith)) e in
+          absurd (omega arith)
+      fails i less false e = refl
 
 -- ---- the search through such a list, which stands at place j
 

@@ -1,14 +1,20 @@
 // The first allowed subset of each special attribute, off the work space, and their memberships (FORMAT 7.7, 7.8, 7.22).
+mod all_subsets;
 mod list;
+mod members;
 
+pub use members::count_memberships;
 ghost use mathlib.Core.Path.{_≡_};
+ghost use mathlib.Core.Bool.{true};
 ghost use Prim.Native.Nat.{_+_, _*_, _≤_};
 ghost use lib.ListN.{length};
 ghost use Rattle.column.specs.Column.{allowedIn};
 ghost use Rattle.verdict_answer.specs.First.{lowestIn, firstIn, firstAt, subsetsBy};
-ghost use Rattle.verdict_answer.specs.Verdict.{membershipsOf};
+ghost use Rattle.first_subsets.specs.SubsetList.{fewestFirst, startsIn};
 ghost use Rattle.admission.specs.Admission.{formulaSize};
-use crate::list::fewest_allowed;
+use crate::all_subsets::FEWEST_FIRST;
+use crate::list::STARTS;
+use crate::list::first_listed;
 use column::allowed_in;
 use stored_columns::read_column;
 use verdict_answer::Order;
@@ -29,24 +35,26 @@ fn lowest_allowed(column: [u8; 64]) -> u16
 }
 
 // The first subset that a column allows, or 256.
-fn first_allowed(column: [u8; 64], order: Order) -> u16
+fn first_allowed(column: [u8; 64], order: Order, list: &[u8], starts: &[u16]) -> u16
+    requires { ⌜ (fewestFirst (now list) ≡ true) × (startsIn (now list) (now starts) ≡ true) ⌝ }
     ensures { λ r. ⌜ r ≡ firstIn order (allowedIn column) ⌝ }
 {
     match order {
-        Order::FewestMembers => fewest_allowed(column),
+        Order::FewestMembers => first_listed(column, list, starts),
         Order::LowestNumber => lowest_allowed(column),
     }
 }
 
 // The first allowed subsets of a node whose formula stands in the work space.
-pub fn first_subsets(work: &[u8], node: u8, order: Order) -> Subsets
+fn first_in_columns(work: &[u8], node: u8, order: Order, list: &[u8], starts: &[u16]) -> Subsets
     requires { ⌜ node * formulaSize + formulaSize ≤ length (now work) ⌝ }
+    requires { ⌜ (fewestFirst (now list) ≡ true) × (startsIn (now list) (now starts) ≡ true) ⌝ }
     ensures { λ r. ⌜ r ≡ subsetsBy (firstAt order (now (work .entry)) node) ⌝ }
 {
     let mut chosen = [0u8; 16];
     let mut i = 1u8;
     while i < 16 {
-        let s = first_allowed(read_column(work, node, i), order);
+        let s = first_allowed(read_column(work, node, i), order, list, starts);
         if s == 256 {
             return Subsets { blocked: i, chosen };
         }
@@ -56,16 +64,10 @@ pub fn first_subsets(work: &[u8], node: u8, order: Order) -> Subsets
     Subsets { blocked: i, chosen }
 }
 
-// How many memberships the subsets of 16 attributes have.
-pub fn count_memberships(subsets: &[u8]) -> u8
-    requires { ⌜ length (now subsets) ≡ 16 ⌝ }
-    ensures { λ r. ⌜ r ≡ membershipsOf (now (subsets .entry)) ⌝ }
+// The same, with the list of all subsets.
+pub fn first_subsets(work: &[u8], node: u8, order: Order) -> Subsets
+    requires { ⌜ node * formulaSize + formulaSize ≤ length (now work) ⌝ }
+    ensures { λ r. ⌜ r ≡ subsetsBy (firstAt order (now (work .entry)) node) ⌝ }
 {
-    let mut count = 0u8;
-    let mut i = 0usize;
-    while i < 16 {
-        count += u8::count_ones(subsets[i]) as u8;
-        i += 1;
-    }
-    count
+    first_in_columns(work, node, order, &FEWEST_FIRST, &STARTS)
 }

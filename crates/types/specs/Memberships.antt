@@ -1,12 +1,12 @@
 -- Memberships: how many relations have how many attributes (FORMAT 2.16, 3.1).
-use Prim.Native.Nat.{ℕ, zero, suc, _+_, _-_, _≤_, _<_}
-use mathlib.Core.Path.{_≡_, refl, sym, ap, _∙_}
+use Prim.Native.Nat.{ℕ, zero, suc, _+_, _-_, _*_, _/_, _%_, _≤_, _<_}
+use mathlib.Core.Path.{_≡_, refl, sym, ap, ap₂, _∙_}
 use mathlib.Core.Bool.{Bool, false, cond}
 use mathlib.Core.Logic.{∥∥₁-elim, ∥∥₁-prop}
 use native.Mathlib.Nat.{add-comm, lt-of-lt-of-le}
 use native.Mathlib.Decide.{decLt}
 use native.Mathlib.Omega.{arith}
-use lib.Count.{ones}
+use lib.Count.{ones, ones-cat}
 use lib.Pow.{pow-mono}
 use Rattle.bits.specs.Bit.{bit, bit-none, bit-above}
 use Rattle.bits.specs.Pack.{pack, bit-pack, pack-below}
@@ -41,6 +41,15 @@ members-none = total-same 8 (λ r. cond (bit 0 r) 1 0) (λ r. 0) (λ r h. ap (λ
 pub members-ones : (s : ℕ) → s < 256 → ones s ≡ members s
 unfolding members
 members-ones s h = ones-count 8 s h
+
+-- those of the first three relations, and the others
+pub members-split : (s : ℕ) → s < 256 → members s ≡ members (s / 8) + members (s % 8)
+members-split s h =
+    let parts : s / 8 * 8 + s % 8 ≡ s = omega arith in
+    sym (members-ones s h)
+    ∙ ap ones (sym parts)
+    ∙ ones-cat 3 (s / 8) (s % 8) (omega arith)
+    ∙ ap₂ (λ (x y : ℕ). x + y) (members-ones (s / 8) (omega arith)) (members-ones (s % 8) (omega arith))
 
 -- of the relations that have an attribute
 members-held : (m : ℕ) → m ≤ 8 → (A : Assignment) (a : ℕ) → count m (λ r. A r a) ≡ members (holders m A a)

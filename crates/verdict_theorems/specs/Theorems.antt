@@ -96,18 +96,18 @@ module _ (file : List ℕ) (m n : ℕ) (accepted : acceptance file ≡ Accepted 
         )
 
   -- what typable comes with: no column is blocked, and the witness stands at the front of the schema slice
-  record Typed (order : Order) (work schema : List ℕ) (size count : ℕ) : Type 0 where
+  record SaidTypable (order : Order) (work schema : List ℕ) (size count : ℕ) : Type 0 where
     free : 16 ≤ blockedBy (firstOf order m (expressionAt file k))
     counted : count ≡ membershipsOf (chosenBy (firstOf order m (expressionAt file k)))
     bytes : take size (schemaIn order file k (length work) schema) ≡ witnessBytes m (firstOf order m (expressionAt file k))
 
-  typable-in : (order : Order) (work schema : List ℕ) (size count : ℕ) → answerIn order file k (length work) (length schema) ≡ Typable size count → Typed order work schema size count
+  typable-in : (order : Order) (work schema : List ℕ) (size count : ℕ) → answerIn order file k (length work) (length schema) ≡ Typable size count → SaidTypable order work schema size count
   typable-in order work schema size count said = go (decLt (blockedBy (firstOf order m (expressionAt file k))) 16)
     where
       given : (r : Refusal) → answerIn order file k (length work) (length schema) ≡ Refused r → ⊥
       given r refused = let both = sym said ∙ refused in let z : _≡_ {A = ℕ} 0 1 = cc in omega arith
 
-      go : Dec (blockedBy (firstOf order m (expressionAt file k)) < 16) → Typed order work schema size count
+      go : Dec (blockedBy (firstOf order m (expressionAt file k)) < 16) → SaidTypable order work schema size count
       go (yes h) = absurd (let other = sym said ∙ answer order work schema given ∙ outcome-untypable m (firstOf order m (expressionAt file k)) schema h .0 in let z : _≡_ {A = ℕ} 0 1 = cc in omega arith)
       go (no h) =
           let gives = outcome-typable m (firstOf order m (expressionAt file k)) schema (omega arith) in
@@ -121,8 +121,8 @@ module _ (file : List ℕ) (m n : ℕ) (accepted : acceptance file ≡ Accepted 
 
   witness-in : (order : Order) (work schema : List ℕ) (size count : ℕ) → answerIn order file k (length work) (length schema) ≡ Typable size count → Witness m (expressionAt file k) (take size (schemaIn order file k (length work) schema))
   witness-in order work schema size count said =
-      let typed = typable-in order work schema size count said in
-      rw (typed .bytes) (witness-typed order m few (expressionAt file k) legal (typed .free))
+      let found = typable-in order work schema size count said in
+      rw (found .bytes) (witness-typed order m few (expressionAt file k) legal (found .free))
 
   -- ---- Verdict
 
@@ -146,17 +146,17 @@ module _ (file : List ℕ) (m n : ℕ) (accepted : acceptance file ≡ Accepted 
         → Within m (assignmentOf (w .records)) bound
         → memberships m (assignmentOf (w .records)) bound ≡ count
     verdict-memberships w bound within =
-        let typed = typable-in FewestMembers work schema size count said in
-        let records = witness-records FewestMembers m few (expressionAt file k) legal (typed .free) (take size (verdictSchema file k (length work) schema)) (typed .bytes) w in
+        let found = typable-in FewestMembers work schema size count said in
+        let records = witness-records FewestMembers m few (expressionAt file k) legal (found .free) (take size (verdictSchema file k (length work) schema)) (found .bytes) w in
         ap (λ (ts : List TypeRecord). memberships m (assignmentOf ts) bound) records
-        ∙ witness-memberships m few (expressionAt file k) legal FewestMembers (typed .free) bound (rw records at within)
-        ∙ sym (typed .counted)
+        ∙ witness-memberships m few (expressionAt file k) legal FewestMembers (found .free) bound (rw records at within)
+        ∙ sym (found .counted)
 
     -- no assignment that types the node has fewer
     pub verdict-fewest : (t : Typing m (expressionAt file k)) (bound : ℕ) → Within m (t .assignment) bound → count ≤ memberships m (t .assignment) bound
     verdict-fewest t bound within =
-        let typed = typable-in FewestMembers work schema size count said in
-        rw (typed .counted) (chosen-least m few (expressionAt file k) legal (typed .free) t bound within)
+        let found = typable-in FewestMembers work schema size count said in
+        rw (found .counted) (chosen-least m few (expressionAt file k) legal (found .free) t bound within)
 
   -- ---- the verdict by lowest subsets
 

@@ -1,13 +1,13 @@
-use Prim.Native.Nat.{ℕ, _+_, _-_, _*_, _≤_, _<_}
+use Prim.Native.Nat.{ℕ, _+_, _-_, _*_, _≤_}
 use mathlib.Core.Path.{_≡_, sym, ap, ap₂, _∙_}
 use native.Mathlib.Omega.{arith}
-use lib.Count.{ones}
 use lib.ListN.{getD}
 use Rattle.bits.specs.Total.{total, total-none, total-next}
-use Rattle.types.specs.Memberships.{members, members-most, members-ones}
+use Rattle.types.specs.Memberships.{members, members-ones}
 use Rattle.verdict_answer.specs.VerdictLaws.{memberships-of}
+use Rattle.first_subsets.specs.ByteMembers.{ones-most}
 use borrow.Author.Needs.{needs}
-use Rattle.first_subsets.proofs.count_memberships as fn
+use Rattle.first_subsets.proofs.members.count_memberships as fn
 use fn.Statement.{statement}
 use fn.Tie as tie
 
@@ -17,26 +17,22 @@ Inv subsets count₀ i₀ count i = (i ≤ 16) × ((count ≤ i * 8) × (count �
 abbrev μ : tie.MeasureT-loop
 μ subsets count₀ i₀ count i = 16 - i
 
--- of eight digits at most eight are 1
-few : (s : ℕ) → s < 256 → ones s ≤ 8
-few s h = rw (members-ones s h) (members-most s)
-
 loop-holds : tie.Need-loop-holds Inv μ
 loop-holds c = (omega arith, (omega arith, sym (total-none _)))
 
 cast-count : tie.Need-cast-count Inv μ
-cast-count c = let most = few _ (c.shared-slice-known.given c.before.before.loop.i .fits) in omega arith
+cast-count c = let most = ones-most _ (c.shared-slice-known.given c.before.before.loop.i .fits) in omega arith
 
 add-count : tie.Need-add-count Inv μ
 add-count c =
-    let most = few _ (c.shared-slice-known.given c.before.before.loop.i .fits) in
+    let most = ones-most _ (c.shared-slice-known.given c.before.before.loop.i .fits) in
     let below = c.before.loop-test.taken in
     let small = c.before.before.loop.inv.1.0 in
     omega arith
 
 loop-again : tie.Need-loop-again Inv μ
 loop-again c =
-    let most = few _ (c.shared-slice-known.given c.before.before.loop.i .fits) in
+    let most = ones-most _ (c.shared-slice-known.given c.before.before.loop.i .fits) in
     let below = c.before.loop-test.taken in
     let small = c.before.before.loop.inv.1.0 in (
       omega arith,
