@@ -15,7 +15,7 @@ use Rattle.bits.specs.AllBelow.{allBelow, all-in}
 use Rattle.bits.specs.Lowest.{lowestFrom, Lowest, lowest-is, search-found, search-ended, search-from}
 use Rattle.bits.specs.Rising.{member}
 use Rattle.bits.specs.Truth.{is-true, by-true, by-false, left, right}
-use Rattle.types.specs.Memberships.{members}
+use Rattle.types.specs.Memberships.{members, members-none}
 use Rattle.verdict_answer.specs.First.{fewestIn}
 use Rattle.verdict_answer.specs.FewestLaws.{Fewest, rank, fewest-once, fewest-in}
 
@@ -128,6 +128,18 @@ fewest-first list passes =
     let each = allBelow 256 (λ s. member s list) in
     let parts = right size (ranks && each) (by-true passes) in
     by-parts list (eqb→eq (length list) 256 (left size (ranks && each) (by-true passes))) (left ranks each parts) (is-true each (right ranks each parts))
+
+-- ---- the empty subset is the first of all
+
+pub empty-first : (test : ℕ → Bool) → test 0 ≡ true → 0 ≡ fewestIn test
+empty-first test passes =
+    let none = members-none in
+    fewest-once test 0 (fewestIn test)
+    (record {
+      found = record { upTo = omega arith; passes = λ less. passes; none = λ past. absurd (omega arith) };
+      least = λ s below right. (omega arith, omega arith);
+    })
+    (fewest-in test)
 
 -- ---- where the search begins
 

@@ -14,7 +14,7 @@ ghost use Rattle.first_subsets.specs.SubsetList.{fewestFirst, startsIn};
 ghost use Rattle.admission.specs.Admission.{formulaSize};
 use crate::all_subsets::FEWEST_FIRST;
 use crate::list::STARTS;
-use crate::list::first_listed;
+use crate::list::fewest_allowed;
 use column::allowed_in;
 use stored_columns::read_column;
 use verdict_answer::Order;
@@ -40,7 +40,7 @@ fn first_allowed(column: [u8; 64], order: Order, list: &[u8], starts: &[u16]) ->
     ensures { λ r. ⌜ r ≡ firstIn order (allowedIn column) ⌝ }
 {
     match order {
-        Order::FewestMembers => first_listed(column, list, starts),
+        Order::FewestMembers => fewest_allowed(column, list, starts),
         Order::LowestNumber => lowest_allowed(column),
     }
 }

@@ -12,7 +12,7 @@ pub const STARTS: [u16; 10] = [0, 1, 9, 37, 93, 163, 219, 247, 255, 256];
 
 // The first subset of such a list that a column allows, or 256. It is looked for among those with as many members as
 // the column's subsets have at least.
-pub fn first_listed(column: [u8; 64], list: &[u8], starts: &[u16]) -> u16
+fn first_listed(column: [u8; 64], list: &[u8], starts: &[u16]) -> u16
     requires { ⌜ (fewestFirst (now list) ≡ true) × (startsIn (now list) (now starts) ≡ true) ⌝ }
     ensures { λ r. ⌜ r ≡ fewestIn (allowedIn column) ⌝ }
 {
@@ -25,4 +25,15 @@ pub fn first_listed(column: [u8; 64], list: &[u8], starts: &[u16]) -> u16
         j += 1;
     }
     256
+}
+
+// The same; most columns allow the empty subset, which is the first.
+pub fn fewest_allowed(column: [u8; 64], list: &[u8], starts: &[u16]) -> u16
+    requires { ⌜ (fewestFirst (now list) ≡ true) × (startsIn (now list) (now starts) ≡ true) ⌝ }
+    ensures { λ r. ⌜ r ≡ fewestIn (allowedIn column) ⌝ }
+{
+    if allowed_in(&column, 0) {
+        return 0;
+    }
+    first_listed(column, list, starts)
 }

@@ -4,7 +4,7 @@ use fn.Statement.{statement}
 use fn.Tie as tie
 
 returns : tie.Need-returns
-returns c = rw c.before.enum-told.given.1 c.first-listed.ensures
+returns c = rw c.before.enum-told.given.1 c.fewest-allowed.ensures
 
 returns-2 : tie.Need-returns-2
 returns-2 c = rw c.before.enum-told2.given.1 c.lowest-allowed.ensures
