@@ -3,8 +3,7 @@ use Prim.Native.Nat.{ℕ, zero, suc, _+_, _-_, _≤_, _<_}
 use mathlib.Core.Path.{_≡_, refl, sym, ap, ap₂, _∙_}
 use mathlib.Core.Bool.{Bool, true, false}
 use mathlib.Core.Logic.{⊎-elim}
-use native.Mathlib.Nat.{eq-or-lt-of-le, sub-zero}
-use native.Mathlib.Numerals.{add-one}
+use native.Mathlib.Nat.{eq-or-lt-of-le}
 use native.Mathlib.Omega.{arith}
 
 -- of the numbers from s on, so many, the lowest that passes; if none does, the first after them
@@ -53,14 +52,6 @@ module _ (end s x : ℕ) (test : ℕ → Bool) (resumed : lowestFrom (end - s) s
   search-ended h =
       let none : end - s ≡ 0 = omega arith in
       sym (ap (λ (n : ℕ). lowestFrom n s test) none ∙ lowest-none s test) ∙ resumed
-
--- a search may begin at s where nothing below it passes
-pub search-from : (end s : ℕ) (test : ℕ → Bool) → s ≤ end → ((y : ℕ) → y < s → test y ≡ false) → lowestFrom (end - s) s test ≡ lowestFrom end 0 test
-search-from end zero test most none = ap (λ (n : ℕ). lowestFrom n 0 test) (sub-zero end)
-search-from end (suc s) test most none =
-    let before = search-from end s test (omega arith) (λ y h. none y (omega arith)) in
-    ap₂ (λ (n t : ℕ). lowestFrom n t test) (ap (λ (t : ℕ). end - t) (sym (add-one s))) (sym (add-one s))
-    ∙ search-next end s (lowestFrom end 0 test) test before (omega arith) (none s (omega arith))
 
 -- ---- what was found
 

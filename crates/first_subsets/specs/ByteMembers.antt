@@ -41,16 +41,18 @@ lesser-most a b = go (ltb a b) refl
 pub lesser-one : (r a : ℕ) → r ≡ lesserOf a 1 → r ≤ 1
 lesser-one r a is = rw is (lesser-most a 1 .1)
 
--- none has fewer: antt computes it for every byte and every bit
-byte-test : allBelow 256 (λ x. leb (fewestInByte x) 9 && allBelow 8 (λ t. not (bit x t) || leb (fewestInByte x) (members t))) ≡ true
+-- at most 9, and no subset of three relations whose bit stands in the byte has fewer members
+abbrev fewestRight : ℕ → Bool
+fewestRight x = leb (fewestInByte x) 9 && allBelow 8 (λ t. not (bit x t) || leb (fewestInByte x) (members t))
+
+-- antt computes it for every byte and every bit
+byte-test : allBelow 256 fewestRight ≡ true
 unfolding fewestInByte lesserOf members total bit
 byte-test = refl
 
 module _ (x : ℕ) (h : x < 256) where
   passed : (leb (fewestInByte x) 9 ≡ true) × (allBelow 8 (λ t. not (bit x t) || leb (fewestInByte x) (members t)) ≡ true)
-  passed =
-      and-eq-true-iff (leb (fewestInByte x) 9) (allBelow 8 (λ t. not (bit x t) || leb (fewestInByte x) (members t)))
-      .0 (all-in 256 (λ x. leb (fewestInByte x) 9 && allBelow 8 (λ t. not (bit x t) || leb (fewestInByte x) (members t))) byte-test x h)
+  passed = and-eq-true-iff (leb (fewestInByte x) 9) (allBelow 8 (λ t. not (bit x t) || leb (fewestInByte x) (members t))) .0 (all-in 256 fewestRight byte-test x h)
 
   pub byte-most : fewestInByte x ≤ 9
   byte-most = leb-true (fewestInByte x) 9 (passed .0)

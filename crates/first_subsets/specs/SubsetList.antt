@@ -2,17 +2,19 @@
 -- that a list which passes it follows.
 use Prim.Native.Nat.{ℕ, zero, suc, _+_, _-_, _≤_, _<_}
 use mathlib.Core.Path.{_≡_, refl, sym, ap, _∙_}
-use mathlib.Core.Bool.{Bool, true, false, _&&_, _||_, and-eq-true-iff}
+use mathlib.Core.Bool.{Bool, true, false, cond, _&&_, _||_, and-eq-true-iff}
 use mathlib.Core.List.{List, [], _∷_}
 use mathlib.Core.Logic.{_⊎_, inl, inr, ⊎-elim}
 use native.Mathlib.Decide.{decLt}
 use native.Mathlib.Nat.{le-of-suc-le-suc}
+use native.Mathlib.Numerals.{add-one}
 use native.Mathlib.Omega.{arith}
 use borrow.Author.Tests.{eqb-true, leb-true, ltb-true}
 use lib.Dec.{T, eqb, ltb, leb, ltb→lt, leb→le, eqb→eq}
-use lib.ListN.{length, getD}
+use lib.ListN.{length, getD, drop, drop-of-length-le}
+use lib.Seq.{drop-cons}
 use Rattle.bits.specs.AllBelow.{allBelow, all-in}
-use Rattle.bits.specs.Lowest.{lowestFrom, Lowest, lowest-is, search-found, search-ended, search-from}
+use Rattle.bits.specs.Lowest.{lowestFrom, Lowest, lowest-is}
 use Rattle.bits.specs.Rising.{member}
 use Rattle.bits.specs.Truth.{is-true, by-true, by-false, left, right}
 use Rattle.types.specs.Memberships.{members, members-none}
@@ -30,11 +32,13 @@ risesFrom p (s ∷ list) = ltb s 256 && (leb p (rank s) && risesFrom (rank s + 1
 unfoldable pub fewestFirst : List ℕ → Bool
 fewestFirst list = eqb (length list) 256 && (risesFrom 0 list && allBelow 256 (λ s. member s list))
 
--- where those with n members begin, for n up to 9: the one before has fewer
+-- in such a list all before place p have fewer than n members: the last of them has
+abbrev pub fewerBefore : List ℕ → ℕ → ℕ → Bool
+fewerBefore list n p = leb p 256 && (eqb p 0 || ltb (members (getD list (p - 1) 0)) n)
+
+-- a place for each n up to 9, where those with n members begin
 unfoldable pub startsIn : List ℕ → List ℕ → Bool
-startsIn list starts =
-    eqb (length starts) 10
-    && allBelow 10 (λ n. leb (getD starts n 0) 256 && (eqb (getD starts n 0) 0 || ltb (members (getD list (getD starts n 0 - 1) 0)) n))
+startsIn list starts = eqb (length starts) 10 && allBelow 10 (λ n. fewerBefore list n (getD starts n 0))
 
 -- ---- the rule
 
@@ -129,6 +133,86 @@ fewest-first list passes =
     let parts = right size (ranks && each) (by-true passes) in
     by-parts list (eqb→eq (length list) 256 (left size (ranks && each) (by-true passes))) (left ranks each parts) (is-true each (right ranks each parts))
 
+-- ---- the first of a list that passes a test
+
+-- FORMAT 7.8: 256 where none does
+unfoldable pub firstListed : List ℕ → (ℕ → Bool) → ℕ
+firstListed [] test = 256
+firstListed (s ∷ list) test = cond (test s) s (firstListed list test)
+
+-- from place j on
+module _ (list : List ℕ) (test : ℕ → Bool) (j : ℕ) where
+  listed-at : j < length list → firstListed (drop j list) test ≡ cond (test (getD list j 0)) (getD list j 0) (firstListed (drop (j + 1) list) test)
+  unfolding firstListed
+  listed-at h = ap (λ (l : List ℕ). firstListed l test) (drop-cons list j 0 h ∙ ap (λ (k : ℕ). getD list j 0 ∷ drop k list) (sym (add-one j)))
+
+  pub listed-here : j < length list → test (getD list j 0) ≡ true → firstListed (drop j list) test ≡ getD list j 0
+  listed-here h passes = listed-at h ∙ ap (λ (t : Bool). cond t (getD list j 0) (firstListed (drop (j + 1) list) test)) passes
+
+  pub listed-later : j < length list → test (getD list j 0) ≡ false → firstListed (drop j list) test ≡ firstListed (drop (j + 1) list) test
+  listed-later h fails = listed-at h ∙ ap (λ (t : Bool). cond t (getD list j 0) (firstListed (drop (j + 1) list) test)) fails
+
+  pub listed-none : length list ≤ j → firstListed (drop j list) test ≡ 256
+  unfolding firstListed
+  listed-none past = ap (λ (l : List ℕ). firstListed l test) (drop-of-length-le list past)
+
+-- it may be looked for from place j on where none before passes
+listed-from : (list : List ℕ) (test : ℕ → Bool) (j : ℕ) → j ≤ length list → ((i : ℕ) → i < j → test (getD list i 0) ≡ false) → firstListed (drop j list) test ≡ firstListed list test
+listed-from list test zero most none = refl
+listed-from list test (suc j) most none =
+    ap (λ (k : ℕ). firstListed (drop k list) test) (sym (add-one j))
+    ∙ sym (listed-later list test j (omega arith) (none j (omega arith)))
+    ∙ listed-from list test j (omega arith) (λ i h. none i (omega arith))
+
+-- in a list that follows the rule it is the one with the fewest members, of those the lowest
+module _ (list : List ℕ) (is : FewestFirst list) (test : ℕ → Bool) where
+  -- its place; 256 where there is none
+  abbrev place : ℕ
+  place = lowestFrom 256 0 (λ i. test (getD list i 0))
+
+  found : Lowest 256 0 (λ i. test (getD list i 0)) place
+  found = lowest-is 256 0 (λ i. test (getD list i 0))
+
+  -- one that passes does not come before it
+  after-place : (s : ℕ) → test s ≡ true → (i : ℕ) → i < 256 → getD list i 0 ≡ s → place < 256 → Dec (i < place) → Dec (place < i) → rank (getD list place 0) ≤ rank s
+  after-place s passes i below same some (yes less) d = absurd (by-false (found .before i (omega arith) less) (by-true (ap test same ∙ passes)))
+  after-place s passes i below same some (no h) (yes more) =
+      let low = is .below place some in
+      rw (← same) (⊎-elim (λ fewer. omega arith) (λ both. let members = both .0 in let number = both .1 in omega arith) (is .rises place i more below))
+  after-place s passes i below same some (no h) (no k) =
+      let here : i ≡ place = omega arith in
+      rw (← same, here) (omega arith)
+
+  place-fewest : place < 256 → Fewest test (getD list place 0)
+  place-fewest some =
+      record {
+        found = record { upTo = let low = is .below place some in omega arith; passes = λ less. found .passes some; none = λ past. let low = is .below place some in absurd (omega arith) };
+        least = λ s below passes. let at = is .occurs s below in (is .below place some, after-place s passes (at .0) (at .1 .0) (at .1 .1) some (decLt (at .0) place) (decLt place (at .0)));
+      }
+
+  none-passes : 256 ≤ place → (s : ℕ) → s < 256 → test s ≡ false
+  none-passes past s below =
+      let at = is .occurs s below in
+      let less = at .1 .0 in
+      sym (ap test (at .1 .1)) ∙ found .before (at .0) (omega arith) (omega arith)
+
+  none-fewest : 256 ≤ place → Fewest test 256
+  none-fewest past =
+      record {
+        found = record { upTo = omega arith; passes = λ less. absurd (omega arith); none = λ h. none-passes past };
+        least = λ s below passes. absurd (by-false (none-passes past s below) (by-true passes));
+      }
+
+  pub listed-fewest : firstListed list test ≡ fewestIn test
+  listed-fewest =
+      let size = is .size in
+      let upTo = found .upTo in
+      sym (listed-from list test place (omega arith) (λ i less. found .before i (omega arith) less)) ∙ go size (decLt place 256)
+    where
+      go : length list ≡ 256 → Dec (place < 256) → firstListed (drop place list) test ≡ fewestIn test
+      go size (yes some) = listed-here list test place (omega arith) (found .passes some) ∙ fewest-once test (getD list place 0) (fewestIn test) (place-fewest some) (fewest-in test)
+      go size (no h) = listed-none list test place (omega arith) ∙ fewest-once test 256 (fewestIn test) (none-fewest (omega arith)) (fewest-in test)
+
 -- ---- the empty subset is the first of all
 
 pub empty-first : (test : ℕ → Bool) → test 0 ≡ true → 0 ≡ fewestIn test
@@ -144,24 +228,24 @@ empty-first test passes =
 -- ---- where the search begins
 
 module _ (list starts : List ℕ) (passes : startsIn list starts ≡ true) where
-  pub starts-size : length starts ≡ 10
+  parts : (eqb (length starts) 10 ≡ true) × (allBelow 10 (λ n. fewerBefore list n (getD starts n 0)) ≡ true)
   unfolding startsIn
-  starts-size =
-      eqb-true (length starts) 10
-      (and-eq-true-iff (eqb (length starts) 10) (allBelow 10 (λ n. leb (getD starts n 0) 256 && (eqb (getD starts n 0) 0 || ltb (members (getD list (getD starts n 0 - 1) 0)) n))) .0 passes .0)
+  parts = and-eq-true-iff (eqb (length starts) 10) (allBelow 10 (λ n. fewerBefore list n (getD starts n 0))) .0 passes
 
-  start-test : (n : ℕ) → n < 10 → leb (getD starts n 0) 256 && (eqb (getD starts n 0) 0 || ltb (members (getD list (getD starts n 0 - 1) 0)) n) ≡ true
-  unfolding startsIn
-  start-test n h =
-      all-in 10 (λ n. leb (getD starts n 0) 256 && (eqb (getD starts n 0) 0 || ltb (members (getD list (getD starts n 0 - 1) 0)) n))
-      (and-eq-true-iff (eqb (length starts) 10) (allBelow 10 (λ n. leb (getD starts n 0) 256 && (eqb (getD starts n 0) 0 || ltb (members (getD list (getD starts n 0 - 1) 0)) n))) .0 passes .1) n h
+  pub starts-size : length starts ≡ 10
+  starts-size = eqb-true (length starts) 10 (parts .0)
+
+  start-parts : (n : ℕ) → n < 10 → (leb (getD starts n 0) 256 ≡ true) × (eqb (getD starts n 0) 0 || ltb (members (getD list (getD starts n 0 - 1) 0)) n ≡ true)
+  start-parts n h =
+      and-eq-true-iff (leb (getD starts n 0) 256) (eqb (getD starts n 0) 0 || ltb (members (getD list (getD starts n 0 - 1) 0)) n)
+      .0 (all-in 10 (λ n. fewerBefore list n (getD starts n 0)) (parts .1) n h)
 
   start-most : (n : ℕ) → n < 10 → getD starts n 0 ≤ 256
-  start-most n h = leb-true (getD starts n 0) 256 (and-eq-true-iff (leb (getD starts n 0) 256) (eqb (getD starts n 0) 0 || ltb (members (getD list (getD starts n 0 - 1) 0)) n) .0 (start-test n h) .0)
+  start-most n h = leb-true (getD starts n 0) 256 (start-parts n h .0)
 
   -- those before have fewer members
   before-start : FewestFirst list → (n : ℕ) → n < 10 → (i : ℕ) → i < getD starts n 0 → members (getD list i 0) < n
-  before-start is n h i less = last (eqb (getD starts n 0) 0) refl (and-eq-true-iff (leb (getD starts n 0) 256) (eqb (getD starts n 0) 0 || ltb (members (getD list (getD starts n 0 - 1) 0)) n) .0 (start-test n h) .1)
+  before-start is n h i less = last (eqb (getD starts n 0) 0) refl (start-parts n h .1)
     where
       rest : members (getD list (getD starts n 0 - 1) 0) < n → Dec (i < getD starts n 0 - 1) → members (getD list i 0) < n
       rest fewer (yes earlier) =
@@ -175,16 +259,17 @@ module _ (list starts : List ℕ) (passes : startsIn list starts ≡ true) where
       last true e passed = let none = eqb-true (getD starts n 0) 0 e in absurd (omega arith)
       last false e passed = rest (ltb-true (members (getD list (getD starts n 0 - 1) 0)) n passed) (decLt i (getD starts n 0 - 1))
 
-  -- a search may begin there, if no subset that passes has fewer members
+  -- the first that passes may be looked for from there on, if no subset that passes has fewer members
   pub search-start :
       FewestFirst list
       → (test : ℕ → Bool) (n : ℕ)
       → (n ≤ 9) × ((s : ℕ) → s < 256 → test s ≡ true → n ≤ members s)
-      → (getD starts n 0 ≤ 256) × (lowestFrom (256 - getD starts n 0) (getD starts n 0) (λ i. test (getD list i 0)) ≡ lowestFrom 256 0 (λ i. test (getD list i 0)))
+      → (getD starts n 0 ≤ 256) × (firstListed (drop (getD starts n 0) list) test ≡ fewestIn test)
   search-start is test n least =
       let few = least .0 in
       let most = start-most n (omega arith) in
-      (most, search-from 256 (getD starts n 0) (λ i. test (getD list i 0)) most (λ i less. fails i less (test (getD list i 0)) refl))
+      let size = is .size in
+      (most, listed-from list test (getD starts n 0) (omega arith) (λ i less. fails i less (test (getD list i 0)) refl) ∙ listed-fewest list is test)
     where
       fails : (i : ℕ) → i < getD starts n 0 → (t : Bool) → test (getD list i 0) ≡ t → t ≡ false
       fails i less true e =
@@ -194,52 +279,3 @@ module _ (list starts : List ℕ) (passes : startsIn list starts ≡ true) where
           let more = least .1 (getD list i 0) (is .below i (omega arith)) e in
           absurd (omega arith)
       fails i less false e = refl
-
--- ---- the search through such a list, which stands at place j
-
-module _ (list : List ℕ) (is : FewestFirst list) (test : ℕ → Bool) (j : ℕ) (resumed : lowestFrom (256 - j) j (λ i. test (getD list i 0)) ≡ lowestFrom 256 0 (λ i. test (getD list i 0))) where
-  found : Lowest 256 0 (λ i. test (getD list i 0)) (lowestFrom 256 0 (λ i. test (getD list i 0)))
-  found = lowest-is 256 0 (λ i. test (getD list i 0))
-
-  -- the first that passes is the one with the fewest members, of those the lowest
-  pub list-found : j < 256 → test (getD list j 0) ≡ true → getD list j 0 ≡ fewestIn test
-  list-found h passes = fewest-once test (getD list j 0) (fewestIn test) one (fewest-in test)
-    where
-      at : j ≡ lowestFrom 256 0 (λ i. test (getD list i 0))
-      at = search-found 256 j (lowestFrom 256 0 (λ i. test (getD list i 0))) (λ i. test (getD list i 0)) resumed h passes
-
-      after : (s : ℕ) → s < 256 → test s ≡ true → (i : ℕ) → i < 256 → getD list i 0 ≡ s → Dec (i < j) → Dec (j < i) → rank (getD list j 0) ≤ rank s
-      after s below right i hi same (yes less) d = absurd (by-false (found .before i (omega arith) (rw (← at) less)) (by-true (ap test same ∙ right)))
-      after s below right i hi same (no k) (yes more) =
-          let low = is .below j h in
-          rw (← same) (⊎-elim (λ fewer. omega arith) (λ both. let members = both .0 in let number = both .1 in omega arith) (is .rises j i more hi))
-      after s below right i hi same (no k) (no l) =
-          let here : i ≡ j = omega arith in
-          rw (← same, here) (omega arith)
-
-      one : Fewest test (getD list j 0)
-      one =
-          record {
-            found = record { upTo = let low = is .below j h in omega arith; passes = λ less. passes; none = λ past. let low = is .below j h in absurd (omega arith) };
-            least = λ s below right. let place = is .occurs s below in (is .below j h, after s below right (place .0) (place .1 .0) (place .1 .1) (decLt (place .0) j) (decLt j (place .0)));
-          }
-
-  -- where none passes there is none
-  pub list-ended : 256 ≤ j → 256 ≡ fewestIn test
-  list-ended past = fewest-once test 256 (fewestIn test) none (fewest-in test)
-    where
-      at : j ≡ lowestFrom 256 0 (λ i. test (getD list i 0))
-      at = search-ended 256 j (lowestFrom 256 0 (λ i. test (getD list i 0))) (λ i. test (getD list i 0)) resumed past
-
-      fails : (s : ℕ) → s < 256 → test s ≡ false
-      fails s below =
-          let place = is .occurs s below in
-          let less = place .1 .0 in
-          sym (ap test (place .1 .1)) ∙ found .before (place .0) (omega arith) (rw (← at) (omega arith))
-
-      none : Fewest test 256
-      none =
-          record {
-            found = record { upTo = omega arith; passes = λ less. absurd (omega arith); none = λ past s below. fails s below };
-            least = λ s below right. absurd (by-false (fails s below) (by-true right));
-          }

@@ -9,7 +9,8 @@
 //! The second calls one operation so many times and prints nothing, for a count of
 //! instructions. SIZE is a number of nodes, 7, 8, 16, 32 or 64; 7untypable or 64untypable,
 //! for the verdicts; or one of two settings of 64 nodes and 255 ordinary attributes: 64x255
-//! with three lists, 64x255each with one attribute in each list. BY is engine, reference, words (the hand-written code), copy or copyloop.
+//! with three lists, 64x255each with one attribute in each list. BY is engine, reference,
+//! words (the hand-written code), copy or copyloop.
 
 mod calls;
 mod checks;

@@ -1,17 +1,17 @@
 use Prim.Native.Nat.{_-_, _≤_}
 use mathlib.Core.Path.{_≡_, sym, _∙_}
 use native.Mathlib.Omega.{arith}
-use lib.ListN.{getD}
-use Rattle.bits.specs.Lowest.{lowestFrom, search-next}
+use lib.ListN.{drop}
 use Rattle.column.specs.Column.{allowedIn}
-use Rattle.first_subsets.specs.SubsetList.{fewest-first, starts-size, search-start, list-found, list-ended}
+use Rattle.verdict_answer.specs.First.{fewestIn}
+use Rattle.first_subsets.specs.SubsetList.{fewest-first, starts-size, search-start, firstListed, listed-here, listed-later, listed-none}
 use borrow.Author.Needs.{needs}
 use Rattle.first_subsets.proofs.list.first_listed as fn
 use fn.Statement.{statement}
 use fn.Tie as tie
 
 abbrev Inv : tie.InvT-loop
-Inv list starts column j₀ j = (j ≤ 256) × (lowestFrom (256 - j) j (λ i. allowedIn column (getD list i 0)) ≡ lowestFrom 256 0 (λ i. allowedIn column (getD list i 0)))
+Inv list starts column j₀ j = (j ≤ 256) × (firstListed (drop j list) (allowedIn column) ≡ fewestIn (allowedIn column))
 
 abbrev μ : tie.MeasureT-loop
 μ list starts column j₀ j = 256 - j
@@ -49,23 +49,26 @@ returns : tie.Need-returns Inv μ
 returns c =
     let at-loop = c.before.before.before.before.before in
     let start = at-loop.before.before.before.before.before.before in
-    list-found _ (fewest-first _ start.pre.0) _ _ at-loop.loop.inv.1 c.before.before.before.before.loop-test.taken
-    (sym c.before.allowed-in.ensures ∙ c.if1.taken)
+    let size = fewest-first _ start.pre.0 .size in
+    let below = c.before.before.before.before.loop-test.taken in
+    sym (listed-here start.args.list.now _ at-loop.loop.j (omega arith) (sym c.before.allowed-in.ensures ∙ c.if1.taken)) ∙ at-loop.loop.inv.1
 
 loop-again : tie.Need-loop-again Inv μ
 loop-again c =
     let at-loop = c.before.before.before.before.before in
-    let args = at-loop.before.before.before.before.before.before.args in
+    let start = at-loop.before.before.before.before.before.before in
+    let size = fewest-first _ start.pre.0 .size in
     let below = c.before.before.before.before.loop-test.taken in (
       omega arith,
-      search-next 256 _ _ (λ i. allowedIn args.t1 (getD args.list.now i 0)) at-loop.loop.inv.1 below
-          (sym c.before.allowed-in.ensures ∙ c.if1.left),
+      sym (listed-later start.args.list.now _ at-loop.loop.j (omega arith) (sym c.before.allowed-in.ensures ∙ c.if1.left)) ∙ at-loop.loop.inv.1,
     )
 
 returns-2 : tie.Need-returns-2 Inv μ
 returns-2 c =
     let start = c.before.before.before.before.before.before.before in
-    list-ended _ (fewest-first _ start.pre.0) _ _ c.before.loop.inv.1 c.loop-test.left
+    let size = fewest-first _ start.pre.0 .size in
+    let past = c.loop-test.left in
+    sym (listed-none start.args.list.now _ c.before.loop.j (omega arith)) ∙ c.before.loop.inv.1
 
 pub first-listed-spec : {M : Type 1} → statement M
 first-listed-spec =
