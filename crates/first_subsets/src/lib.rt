@@ -9,7 +9,7 @@ ghost use mathlib.Core.Bool.{true};
 ghost use Prim.Native.Nat.{_+_, _*_, _≤_};
 ghost use lib.ListN.{length};
 ghost use Rattle.column.specs.Column.{allowedIn};
-ghost use Rattle.verdict_answer.specs.First.{lowestIn, firstIn, firstAt, subsetsBy};
+ghost use Rattle.verdict_answer.specs.First.{lowestIn, firstIn, firstAt, blockedAt, subsetsBy};
 ghost use Rattle.first_subsets.specs.SubsetList.{fewestFirst, startsIn};
 ghost use Rattle.admission.specs.Admission.{formulaSize};
 use crate::all_subsets::FEWEST_FIRST;
@@ -70,4 +70,13 @@ pub fn first_subsets(work: &[u8], node: u8, order: Order) -> Subsets
     ensures { λ r. ⌜ r ≡ subsetsBy (firstAt order (now (work .entry)) node) ⌝ }
 {
     first_in_columns(work, node, order, &FEWEST_FIRST, &STARTS)
+}
+
+// The lowest special attribute whose column allows nothing, or 16: the same in either order.
+pub fn blocked_attribute(work: &[u8], node: u8) -> u8
+    requires { ⌜ node * formulaSize + formulaSize ≤ length (now work) ⌝ }
+    ensures { λ r. ⌜ r ≡ blockedAt (now (work .entry)) node ⌝ }
+{
+    let subsets = first_subsets(work, node, Order::FewestMembers);
+    subsets.blocked
 }

@@ -16,8 +16,7 @@ use Rattle.stored_formula.specs.ColumnPlace.{columnAt}
 use Rattle.stored_formula.specs.FormulaBytes.{allowedBit, outputBit, cellColumn}
 use Rattle.stored_formula.specs.FormulaBytesLaws.{output-within}
 use Rattle.stored_formula.specs.NodeColumn.{cell-allowed, cell-output}
-use Rattle.verdict_answer.specs.First.{firstAt, blockedBy}
-use Rattle.verdict_answer.specs.declared.Order.the-variants.{FewestMembers}
+use Rattle.verdict_answer.specs.First.{blockedAt}
 use Rattle.verdict_answer.specs.FirstLaws.{blocked-cells}
 use Rattle.listing_entries.specs.declared.entries.Kind.the-variants.{Variables, Output, Signed}
 use Rattle.text.specs.Characters.{decimal, subsetText, newline}
@@ -64,11 +63,11 @@ module _ (m : ℕ) (e : Expression) where
 -- ---- lines off a work space that holds the columns of expression e at a node
 
 module _ (work : List ℕ) (node m : ℕ) (e : Expression) (columns : (c : ℕ) → c < 16 → columnAt work node c ≡ cellColumn m e c) where
-  blocked-is : someBlocked (blockedBy (firstAt FewestMembers work node)) ≡ isBlocked m e
+  blocked-is : someBlocked (blockedAt work node) ≡ isBlocked m e
   unfolding isBlocked
   blocked-is = ap someBlocked (blocked-cells work node m e columns)
 
-  node-line : nodeText (someBlocked (blockedBy (firstAt FewestMembers work node))) node ≡ nodeLine m e node
+  node-line : nodeText (someBlocked (blockedAt work node)) node ≡ nodeLine m e node
   unfolding nodeText nodeLine
   node-line = ap (λ (b : Bool). (110 ∷ 111 ∷ 100 ∷ 101 ∷ 32 ∷ []) ++ decimal node ++ verdictText b ++ newline) blocked-is
 

@@ -5,8 +5,7 @@ use mathlib.Core.List.{List, [], _∷_, _++_}
 use Rattle.attribute_set.specs.declared.AttrSet.{AttrSet}
 use Rattle.attribute_set.specs.AttrSet.{hasAttribute}
 use Rattle.stored_formula.specs.ColumnPlace.{columnAt}
-use Rattle.verdict_answer.specs.First.{firstAt, blockedBy}
-use Rattle.verdict_answer.specs.declared.Order.the-variants.{FewestMembers}
+use Rattle.verdict_answer.specs.First.{blockedAt}
 use Rattle.listing_entries.specs.declared.entries.Kind.{Kind}
 use Rattle.listing_entries.specs.declared.entries.Kind.the-variants.{Variables, Output, Signed}
 use Rattle.text.specs.Characters.{decimal, newline}
@@ -45,7 +44,7 @@ attributesText work node named = each 15 (λ j. attributeText work node named (j
 -- all lines of a node, off the work space
 unfoldable pub linesText : List ℕ → ℕ → ℕ → AttrSet → List ℕ
 linesText work m node named =
-    nodeText (someBlocked (blockedBy (firstAt FewestMembers work node))) node
+    nodeText (someBlocked (blockedAt work node)) node
     ++ each m (relationText (columnAt work node 0))
     ++ outText (columnAt work node 0)
     ++ attributesText work node named

@@ -53,6 +53,10 @@ blockedBy first = lowestFrom 15 1 (λ i. eqb (first i) 256)
 abbrev pub blockedOf : ℕ → Expression → ℕ
 blockedOf m e = blockedBy (firstOf FewestMembers m e)
 
+-- as read off the work space
+abbrev pub blockedAt : List ℕ → ℕ → ℕ
+blockedAt work k = blockedBy (firstAt FewestMembers work k)
+
 -- FORMAT 7.8: the subset of each special attribute below that one; 0 for any other number
 unfoldable pub chosenBy : (ℕ → ℕ) → List ℕ
 chosenBy first = tab 16 (λ i. cond (ltb i (blockedBy first) && leb 1 i) (first i) 0)

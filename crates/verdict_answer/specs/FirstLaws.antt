@@ -17,7 +17,7 @@ use Rattle.column.specs.Column.{allowedIn}
 use Rattle.stored_formula.specs.ColumnPlace.{columnAt}
 use Rattle.stored_formula.specs.FormulaBytes.{allowedBit, cellColumn}
 use Rattle.stored_formula.specs.NodeColumn.{cell-allowed}
-use Rattle.verdict_answer.specs.First.{firstIn, firstOf, firstAt, blockedBy, blockedOf, chosenBy, subsetsBy}
+use Rattle.verdict_answer.specs.First.{firstIn, firstOf, firstAt, blockedBy, blockedOf, blockedAt, chosenBy, subsetsBy}
 use Rattle.verdict_answer.specs.FewestLaws.{first-found, found-either, first-same}
 use Rattle.verdict_answer.specs.declared.Order.{Order}
 use Rattle.verdict_answer.specs.declared.Order.the-variants.{FewestMembers}
@@ -131,5 +131,5 @@ module _ (work : List ℕ) (k m : ℕ) (e : Expression) (columns : (c : ℕ) →
       ap (λ (column : List ℕ). firstIn order (allowedIn column)) (columns i h)
       ∙ first-same (allowedIn (cellColumn m e i)) (allowedBit m e i) (λ s below. cell-allowed m e i s below) order
 
-  pub blocked-cells : blockedBy (firstAt FewestMembers work k) ≡ blockedOf m e
+  pub blocked-cells : blockedAt work k ≡ blockedOf m e
   blocked-cells = blocked-same (firstAt FewestMembers work k) (firstOf FewestMembers m e) (first-cells FewestMembers)
