@@ -20,7 +20,6 @@ use Rattle.expression_file.specs.ReadFile.{acceptance}
 use Rattle.expression_file.specs.Accepted.{accepted-file}
 use Rattle.node_expression.specs.NodeExpression.{expressionAt, expression-legal}
 use Rattle.stored_formula.specs.Formula.{formulaSpace}
-use Rattle.verdict_answer.specs.declared.Order.the-variants.{FewestMembers}
 use Rattle.verdict_theorems.specs.WitnessLaws.{blocked-untypable, unblocked-typable}
 use Rattle.listing.specs.declared.Listed.the-variants.{Text}
 use Rattle.listing_lines.specs.Text.{isBlocked}
@@ -66,7 +65,7 @@ module _ (file work text : List ℕ) (m n : ℕ) (accepted : acceptance file ≡
   -- the listing says untypable exactly when no assignment types the last node
   pub listing-untypable : Says true (n - 1) (take size (listedText file (length work) text)) ↔ (Typing m (expressionAt file (n - 1)) → ⊥)
   listing-untypable =
-      let right = blocked-untypable FewestMembers m few (expressionAt file (n - 1)) legal in
+      let right = blocked-untypable m few (expressionAt file (n - 1)) legal in
       let blocked = blocked-says m (expressionAt file (n - 1)) in (
         (λ it. right .0 (blocked .0 (found true it))),
         (λ none. said true (blocked .1 (right .1 none))),
@@ -75,6 +74,6 @@ module _ (file work text : List ℕ) (m n : ℕ) (accepted : acceptance file ≡
   -- and typable exactly when one does
   pub listing-typable : Says false (n - 1) (take size (listedText file (length work) text)) ↔ Typing m (expressionAt file (n - 1))
   listing-typable = (
-    (λ it. unblocked-typable FewestMembers m few (expressionAt file (n - 1)) legal (unblocked-says m (expressionAt file (n - 1)) (found false it))),
+    (λ it. unblocked-typable m few (expressionAt file (n - 1)) legal (unblocked-says m (expressionAt file (n - 1)) (found false it))),
     (λ typing. said false (is-false (isBlocked m (expressionAt file (n - 1))) (λ e. listing-untypable .0 (said true e) typing))),
   )

@@ -30,7 +30,7 @@ use Rattle.admission.specs.AdmissionLaws.{sliced-passed, sliced-refused, admitt
 use Rattle.record.specs.Record.{recordOf}
 use Rattle.record.specs.RecordLaws.{record-empty}
 use Rattle.node_expression.specs.NodeExpression.{expressionAt, expression-legal}
-use Rattle.verdict_theorems.specs.WitnessLaws.{Witness, blocked-untypable, witness-typed, witness-records}
+use Rattle.verdict_theorems.specs.WitnessLaws.{Witness, order-untypable, witness-typed, witness-records}
 use Rattle.verdict_theorems.specs.MembershipLaws.{witness-memberships, chosen-least}
 use Rattle.verdict_answer.specs.First.{firstOf, blockedBy, chosenBy}
 use Rattle.verdict_answer.specs.Verdict.{witnessBytes, membershipsOf, outcomeBy, schemaBy, answerIn, schemaIn, verdictAnswer, verdictSchema, withoutCount, lowestAnswer, lowestSchema}
@@ -90,7 +90,7 @@ module _ (file : List ℕ) (m n : ℕ) (accepted : acceptance file ≡ Accepted 
 
     untypable-in : ((a : ℕ) × (answerIn order file k (length work) (length schema) ≡ Untypable a)) ↔ (Typing m (expressionAt file k) → ⊥)
     untypable-in =
-        let right = blocked-untypable order m few (expressionAt file k) legal in (
+        let right = order-untypable order m few (expressionAt file k) legal in (
           (λ said. right .0 (blocked-said (said .0) (said .1))),
           (λ none. (blockedBy (firstOf order m (expressionAt file k)), answer ∙ outcome-untypable m (firstOf order m (expressionAt file k)) schema (right .1 none) .0)),
         )

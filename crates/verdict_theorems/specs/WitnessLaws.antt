@@ -37,11 +37,12 @@ use Rattle.refusal.specs.Several.{severalRead as recordsRead}
 use Rattle.schema.specs.RecordsLaws.{schema-bytes}
 use Rattle.schema.specs.TableLaws.{ReadSchema}
 use Rattle.schema.specs.Image.{IsTable, image-size, image-at, image-records, image-schema}
-use Rattle.verdict_answer.specs.First.{firstOf, blockedBy, chosenBy}
+use Rattle.verdict_answer.specs.First.{firstOf, blockedBy, blockedOf, chosenBy}
 use Rattle.verdict_answer.specs.FewestLaws.{Found, first-found}
 use Rattle.verdict_answer.specs.FirstLaws.{blocked-lowest, chosen-none, chosen-special}
 use Rattle.verdict_answer.specs.Verdict.{witnessRecords, witnessOf}
 use Rattle.verdict_answer.specs.declared.Order.{Order}
+use Rattle.verdict_answer.specs.declared.Order.the-variants.{FewestMembers}
 use Rattle.verdict_answer.specs.VerdictLaws.{witness-bytes}
 
 -- these are bytes, they are read as a schema of m relations without a refusal, and the rules derive a type of e under
@@ -186,8 +187,8 @@ module _ (order : Order) (m : ℕ) (few : m ≤ 8) (e : Expression) (legal : Leg
         cc
 
     -- an assignment that types the expression
-    pub unblocked-typable : Theorem.Typing m e
-    unblocked-typable =
+    order-typable : Theorem.Typing m e
+    order-typable =
         record {
           assignment = chosen choice;
           types = choice-types (cellFormula m e) choice;
@@ -206,12 +207,21 @@ module _ (order : Order) (m : ℕ) (few : m ≤ 8) (e : Expression) (legal : Leg
       ∙ Theorem.typed-fits e (cellFormula m e) legal is-formula (t .assignment) (t .type) .0 (t .typed) a .allowed
 
   -- a special column allows nothing exactly where no assignment types the expression
-  pub blocked-untypable : (blockedBy (firstOf order m e) < 16) ↔ (Theorem.Typing m e → ⊥)
-  blocked-untypable = (
+  pub order-untypable : (blockedBy (firstOf order m e) < 16) ↔ (Theorem.Typing m e → ⊥)
+  order-untypable = (
     (λ h. Theorem.verdict e (cellFormula m e) legal is-formula .0 (blocks h)),
     (λ none. go none (decLt (blockedBy (firstOf order m e)) 16)),
   )
     where
       go : (Theorem.Typing m e → ⊥) → Dec (blockedBy (firstOf order m e) < 16) → blockedBy (firstOf order m e) < 16
       go none (yes h) = h
-      go none (no h) = absurd (none (unblocked-typable (omega arith)))
+      go none (no h) = absurd (none (order-typable (omega arith)))
+
+-- ---- the same of the attribute that both verdicts and the listing name
+
+module _ (m : ℕ) (few : m ≤ 8) (e : Expression) (legal : Legal m e) where
+  pub unblocked-typable : 16 ≤ blockedOf m e → Theorem.Typing m e
+  unblocked-typable none = order-typable FewestMembers m few e legal none
+
+  pub blocked-untypable : (blockedOf m e < 16) ↔ (Theorem.Typing m e → ⊥)
+  blocked-untypable = order-untypable FewestMembers m few e legal
