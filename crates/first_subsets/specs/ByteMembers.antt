@@ -1,16 +1,16 @@
 -- The members of the subsets that a column allows, byte by byte: byte h of the allowed plane is of the subsets whose
 -- relations from 3 on are h, and its bit t of the one whose first three are t.
-use Prim.Native.Nat.{ℕ, _+_, _-_, _*_, _/_, _%_, _≤_, _<_}
+use Prim.Native.Nat.{ℕ, _+_, _-_, _*_, _/_, _%_, _≤_, _<_, min}
 use mathlib.Core.Path.{_≡_, refl, sym, ap, _∙_}
-use mathlib.Core.Bool.{Bool, true, false, cond, not, _&&_, _||_, and-eq-true-iff}
+use mathlib.Core.Bool.{Bool, true, not, _&&_, _||_, and-eq-true-iff}
 use mathlib.Core.List.{List}
 use native.Mathlib.Decide.{decLt}
 use native.Mathlib.Omega.{arith}
 use lib.Bits.{bitAnd}
 use lib.Count.{ones}
-use lib.Dec.{eqb, ltb, leb}
+use lib.Dec.{eqb, leb}
 use lib.ListN.{getD}
-use borrow.Author.Tests.{ne-eqb, leb-true, ltb-true, ltb-false}
+use borrow.Author.Tests.{ne-eqb, leb-true}
 use Rattle.bits.specs.AllBelow.{allBelow, all-in}
 use Rattle.bits.specs.Bit.{bit}
 use Rattle.bits.specs.Total.{total}
@@ -18,28 +18,13 @@ use Rattle.types.specs.Memberships.{members, members-most, members-ones, member
 use Rattle.column.specs.Column.{allowedIn}
 use Rattle.column.specs.ColumnLaws.{allowed-bit}
 
--- the lesser of two numbers
-unfoldable pub lesserOf : ℕ → ℕ → ℕ
-lesserOf a b = cond (ltb a b) a b
-
 -- the fewest members of a subset of three relations whose bit stands in a byte; 9 if none does
 unfoldable pub fewestInByte : ℕ → ℕ
-fewestInByte x = 9 - lesserOf x 1 * 6 - lesserOf (bitAnd x 127) 1 - lesserOf (bitAnd x 23) 1 - x % 2
+fewestInByte x = 9 - min x 1 * 6 - min (bitAnd x 127) 1 - min (bitAnd x 23) 1 - x % 2
 
 -- of eight digits at most eight are 1
 pub ones-most : (s : ℕ) → s < 256 → ones s ≤ 8
 ones-most s h = rw (members-ones s h) (members-most s)
-
-pub lesser-most : (a b : ℕ) → (lesserOf a b ≤ a) × (lesserOf a b ≤ b)
-unfolding lesserOf
-lesser-most a b = go (ltb a b) refl
-  where
-    go : (t : Bool) → ltb a b ≡ t → (cond t a b ≤ a) × (cond t a b ≤ b)
-    go true e = let less = ltb-true a b e in (omega arith, omega arith)
-    go false e = let more = ltb-false a b e in (omega arith, omega arith)
-
-pub lesser-one : (r a : ℕ) → r ≡ lesserOf a 1 → r ≤ 1
-lesser-one r a is = rw is (lesser-most a 1 .1)
 
 -- at most 9, and no subset of three relations whose bit stands in the byte has fewer members
 abbrev fewestRight : ℕ → Bool
@@ -47,7 +32,7 @@ fewestRight x = leb (fewestInByte x) 9 && allBelow 8 (λ t. not (bit x t) || leb
 
 -- antt computes it for every byte and every bit
 byte-test : allBelow 256 fewestRight ≡ true
-unfolding fewestInByte lesserOf members total bit
+unfolding fewestInByte members total bit
 byte-test = refl
 
 module _ (x : ℕ) (h : x < 256) where
@@ -86,21 +71,16 @@ pub record FewestBelow (column : List ℕ) (i n : ℕ) : Type 0 where
 pub fewest-none : (column : List ℕ) → FewestBelow column 0 9
 fewest-none column = record { few = omega arith; least = λ h t below. absurd (omega arith) }
 
-pub fewest-next : (column : List ℕ) (i n : ℕ) → FewestBelow column i n → i < 256 → getD column i 0 < 256 → FewestBelow column (i + 1) (lesserOf n (ones i + fewestInByte (getD column i 0)))
+pub fewest-next : (column : List ℕ) (i n : ℕ) → FewestBelow column i n → i < 256 → getD column i 0 < 256 → FewestBelow column (i + 1) (min n (ones i + fewestInByte (getD column i 0)))
 fewest-next column i n before small byte =
-    let most = lesser-most n (ones i + fewestInByte (getD column i 0)) in
     let few = before .few in
-    record { few = let most = most .0 in omega arith; least = λ h t below bits stands. each h t bits stands (decLt h i) below }
+    record { few = omega arith; least = λ h t below bits stands. each h t bits stands (decLt h i) below }
   where
-    each : (h t : ℕ) → t < 8 → bit (getD column h 0) t ≡ true → Dec (h < i) → h < i + 1 → lesserOf n (ones i + fewestInByte (getD column i 0)) ≤ members h + members t
-    each h t bits stands (yes earlier) below =
-        let least = before .least h t earlier bits stands in
-        let most = lesser-most n (ones i + fewestInByte (getD column i 0)) .0 in
-        omega arith
+    each : (h t : ℕ) → t < 8 → bit (getD column h 0) t ≡ true → Dec (h < i) → h < i + 1 → min n (ones i + fewestInByte (getD column i 0)) ≤ members h + members t
+    each h t bits stands (yes earlier) below = let least = before .least h t earlier bits stands in omega arith
     each h t bits stands (no later) below =
         let here : h ≡ i = omega arith in
         let least = byte-least (getD column i 0) byte t bits (rw here at stands) in
-        let most = lesser-most n (ones i + fewestInByte (getD column i 0)) .1 in
         let same = members-ones i small in
         rw here (omega arith)
 

@@ -1,17 +1,14 @@
 // Members of subsets: the fewest in a column, and all together.
 ghost use mathlib.Core.Path.{_≡_};
-ghost use Prim.Native.Nat.{_≤_};
+ghost use Prim.Native.Nat.{_≤_, min};
 ghost use lib.ListN.{length};
 ghost use Rattle.verdict_answer.specs.Verdict.{membershipsOf};
-ghost use Rattle.first_subsets.specs.ByteMembers.{fewestInByte, lesserOf, NoneFewer};
+ghost use Rattle.first_subsets.specs.ByteMembers.{fewestInByte, NoneFewer};
 
 fn lesser(a: u8, b: u8) -> u8
-    ensures { λ r. ⌜ r ≡ lesserOf a b ⌝ }
+    ensures { λ r. ⌜ r ≡ min a b ⌝ }
 {
-    if a < b {
-        return a;
-    }
-    b
+    if a < b { a } else { b }
 }
 
 // The fewest members of a subset of three relations whose bit stands in the byte; 9 if none stands. Of the eight bits

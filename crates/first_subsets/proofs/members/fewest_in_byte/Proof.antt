@@ -1,35 +1,24 @@
 use native.Mathlib.Omega.{arith}
-use Rattle.first_subsets.specs.ByteMembers.{fewestInByte, lesser-one}
+use Rattle.first_subsets.specs.ByteMembers.{fewestInByte}
 use borrow.Author.Needs.{needs}
 use Rattle.first_subsets.proofs.members.fewest_in_byte as fn
 use fn.Statement.{statement}
 use fn.Tie as tie
 
 mul-result : tie.Need-mul-result
-mul-result c = let one = lesser-one _ _ c.lesser.ensures in omega arith
+mul-result c = omega (arith, c.lesser.ensures)
 
 sub-result : tie.Need-sub-result
-sub-result c = let one = lesser-one _ _ c.lesser.ensures in omega arith
+sub-result c = omega (arith, c.lesser.ensures)
 
 sub-result-2 : tie.Need-sub-result-2
-sub-result-2 c =
-    let one = lesser-one _ _ c.before.lesser.ensures in
-    let two = lesser-one _ _ c.lesser2.ensures in
-    omega arith
+sub-result-2 c = omega (arith, c.before.lesser.ensures, c.lesser2.ensures)
 
 sub-result-3 : tie.Need-sub-result-3
-sub-result-3 c =
-    let one = lesser-one _ _ c.before.before.lesser.ensures in
-    let two = lesser-one _ _ c.before.lesser2.ensures in
-    let three = lesser-one _ _ c.lesser3.ensures in
-    omega arith
+sub-result-3 c = omega (arith, c.before.before.lesser.ensures, c.before.lesser2.ensures, c.lesser3.ensures)
 
 sub-result-4 : tie.Need-sub-result-4
-sub-result-4 c =
-    let one = lesser-one _ _ c.before.before.lesser.ensures in
-    let two = lesser-one _ _ c.before.lesser2.ensures in
-    let three = lesser-one _ _ c.lesser3.ensures in
-    omega arith
+sub-result-4 c = omega (arith, c.before.before.lesser.ensures, c.before.lesser2.ensures, c.lesser3.ensures)
 
 returns : tie.Need-returns
 unfolding fewestInByte
