@@ -24,16 +24,18 @@ extern "C" {
 
 /* The version of this header and of the archive, and as one number: 10,000 major + 100 minor + patch. */
 #define TYPE_FORMULA_VERSION_MAJOR 0
-#define TYPE_FORMULA_VERSION_MINOR 2
+#define TYPE_FORMULA_VERSION_MINOR 3
 #define TYPE_FORMULA_VERSION_PATCH 0
-#define TYPE_FORMULA_VERSION 200
+#define TYPE_FORMULA_VERSION 300
 
 /* The most relations of an expression file. */
 #define TYPE_FORMULA_MOST_RELATIONS 8
 /* The most nodes of an expression file. */
 #define TYPE_FORMULA_MOST_NODES 64
-/* No accepted expression file has more bytes than this. */
+/* The least length of a result slice for an expression file; no accepted one is longer. */
 #define TYPE_FORMULA_LONGEST_FILE 322
+/* The most bytes of a query's text. */
+#define TYPE_FORMULA_LONGEST_QUERY 512
 /* The bytes of work space that a node's formula takes. */
 #define TYPE_FORMULA_FORMULA_SIZE 1024
 /* The bytes of work space that are enough for every file: one formula for each of the most nodes. */
@@ -76,7 +78,10 @@ enum type_formula_refusal {
     TYPE_FORMULA_NODE_NUMBER = 11,
     /* The work space has fewer than 1,024 n bytes. */
     TYPE_FORMULA_WORK_SPACE = 12,
-    /* A result slice has fewer than 513 (output record), 4,104 (schema) or 812 bytes (instantiation). */
+    /*
+     * A result slice has fewer than 322 (expression file), 513 (output record), 4,104 (schema) or 812
+     * bytes (instantiation).
+     */
     TYPE_FORMULA_RESULT_SLICE = 13,
     /* The schema or instantiation ends before its last record or list does. */
     TYPE_FORMULA_INPUT_TRUNCATED = 14,
@@ -93,7 +98,13 @@ enum type_formula_refusal {
     /* A bit stands in the instantiation's plane that is no type variable of the node. */
     TYPE_FORMULA_TYPE_VARIABLE = 20,
     /* The subset given to a special attribute is not allowed in its column. */
-    TYPE_FORMULA_SPECIAL_SUBSET = 21
+    TYPE_FORMULA_SPECIAL_SUBSET = 21,
+    /* The text is no query: it is not in the language. */
+    TYPE_FORMULA_QUERY_SYNTAX = 22,
+    /* The text has more than 512 bytes. */
+    TYPE_FORMULA_QUERY_LENGTH = 23,
+    /* The query has more than 64 nodes. */
+    TYPE_FORMULA_QUERY_NODES = 24
 };
 
 /*
@@ -166,6 +177,16 @@ uint8_t type_formula_recover(const uint8_t *file, size_t file_len, size_t node, 
                              size_t instantiation_len, size_t *value);
 
 /*
+ * Parse a query: the expression file of a query that is typed as text, in a file of so many relations.
+ * Answers 0, writes the file to the file slice and its length to the size; or answers a refusal, and
+ * slice and size stay. The refusals in the order of their tests: 2, 13, 23, 22, 24, then 7 and 9, of
+ * which the leftmost in the text. It takes up to 160,000 bytes of stack, for a text of 512 opening
+ * parentheses: about 300 for each operand that has begun.
+ */
+uint8_t type_formula_parse_query(uint8_t relations, const uint8_t *text, size_t text_len, uint8_t *file,
+                                 size_t file_len, size_t *size);
+
+/*
  * What an answer says, as text in English. For a number that is no refusal, 0 and 255 among them, it
  * is "no refusal".
  */
@@ -197,8 +218,8 @@ static inline const char *type_formula_refusal_text(int answer)
     case TYPE_FORMULA_WORK_SPACE:
         return "the work space has fewer than 1,024 bytes for each node (FORMAT 7.2)";
     case TYPE_FORMULA_RESULT_SLICE:
-        return "a result slice has fewer than 513 bytes (output record), 4,104 (schema) or 812 "
-               "(instantiation) (FORMAT 9.8, 9.9, 9.11)";
+        return "a result slice has fewer than 322 bytes (expression file), 513 (output record), "
+               "4,104 (schema) or 812 (instantiation) (FORMAT 9.1, 9.8, 9.9, 9.11)";
     case TYPE_FORMULA_INPUT_TRUNCATED:
         return "the schema or instantiation ends before its last record or list does (FORMAT 8.4)";
     case TYPE_FORMULA_COUNT_ZERO:
@@ -216,6 +237,12 @@ static inline const char *type_formula_refusal_text(int answer)
         return "a bit of the instantiation's plane is no type variable of the node (FORMAT 6.3)";
     case TYPE_FORMULA_SPECIAL_SUBSET:
         return "the subset given to a special attribute is not allowed in its column (FORMAT 6.3)";
+    case TYPE_FORMULA_QUERY_SYNTAX:
+        return "the text is no query: not in the language (FORMAT 11.1)";
+    case TYPE_FORMULA_QUERY_LENGTH:
+        return "the text has more than 512 bytes (FORMAT 9.14)";
+    case TYPE_FORMULA_QUERY_NODES:
+        return "the query has more than 64 nodes (FORMAT 9.3)";
     default:
         return "no refusal";
     }

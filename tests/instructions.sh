@@ -1,11 +1,12 @@
 #!/bin/sh
 # Prints the instructions of one call of each operation and its alternatives as a markdown
-# table, and those of the engine and of the hand-written code as nodes double. Sizes are those
-# of the benchmark: a number of nodes, so many with an untypable last node, or 64 nodes with 255
-# ordinary attributes in three lists (64x255) or with one in each list (64x255each). Each is
-# counted by callgrind for two numbers of calls; the difference divided by that of the calls
-# leaves out what comes before them. A copy by one repeated instruction counts as an instruction
-# for each byte.
+# table, and those of the engine and of the hand-written code as nodes double and as the text of
+# a query doubles. Sizes are those of the benchmark: a number of nodes, so many with an untypable
+# last node, or 64 nodes with 255 ordinary attributes in three lists (64x255) or with one in each
+# list (64x255each); of a query a number of bytes, E1 (24), 63 prefixes (191deep), or lists of 15
+# attributes (512lists). Each is counted by callgrind for two numbers of calls; the difference
+# divided by that of the calls leaves out what comes before them. A copy by one repeated
+# instruction counts as an instruction for each byte.
 set -eu
 cd "$(dirname "$0")"
 few=5 many=25
@@ -30,6 +31,7 @@ sizes() {
     case $1 in
         formula) echo 7 64 ;;
         verdict | lowestverdict) echo 7 7untypable 64 64untypable ;;
+        parsequery) echo 24 191deep 512lists 512 ;;
         *) echo 7 64 64x255 64x255each ;;
     esac
 }
@@ -37,7 +39,7 @@ sizes() {
 echo "| Operation | size | engine | other implementation | hand-written | copy |" \
     "copy by a 64-bit loop |"
 echo "|---|---|---|---|---|---|---|"
-for operation in formula verdict lowestverdict typing apply recover; do
+for operation in formula verdict lowestverdict typing apply recover parsequery; do
     for size in $(sizes $operation); do
         row="| $operation | $size |"
         for by in engine reference words copy copyloop; do
@@ -47,19 +49,26 @@ for operation in formula verdict lowestverdict typing apply recover; do
     done
 done
 
-echo
-head="| n |" line="|---|"
-for operation in formula verdict typing apply recover; do
-    head="$head $operation, engine | $operation, hand-written |" line="$line---|---|"
-done
-echo "$head"
-echo "$line"
-for size in 8 16 32 64; do
-    row="| $size |"
-    for operation in formula verdict typing apply recover; do
-        for by in engine words; do
-            row="$row $(per_call $operation $size $by) |"
-        done
+# A table of the engine and of the hand-written code, given what doubles, the sizes and the
+# operations.
+doubling() {
+    head="| $1 |" line="|---|"
+    for operation in $3; do
+        head="$head $operation, engine | $operation, hand-written |" line="$line---|---|"
     done
-    echo "$row"
-done
+    echo
+    echo "$head"
+    echo "$line"
+    for size in $2; do
+        row="| $size |"
+        for operation in $3; do
+            for by in engine words; do
+                row="$row $(per_call "$operation" "$size" $by) |"
+            done
+        done
+        echo "$row"
+    done
+}
+
+doubling n "8 16 32 64" "formula verdict typing apply recover"
+doubling "bytes of text" "32 64 128 256 512" parsequery

@@ -138,4 +138,18 @@ extern "C" {
         instantiation_len: usize,
         value: *mut usize,
     ) -> u8;
+
+    /// Parse a query: the expression file of a query that is typed as text, in a file of so many
+    /// relations. Answers 0, writes the file to the file slice and its length to the size; or
+    /// answers a refusal, and slice and size stay. The refusals in the order of their tests: 2, 13,
+    /// 23, 22, 24, then 7 and 9, of which the leftmost in the text. It takes up to 160,000 bytes of
+    /// stack, for a text of 512 opening parentheses: about 300 for each operand that has begun.
+    pub fn type_formula_parse_query(
+        relations: u8,
+        text: *const u8,
+        text_len: usize,
+        file: *mut u8,
+        file_len: usize,
+        size: *mut usize,
+    ) -> u8;
 }

@@ -19,10 +19,12 @@
 //! | [`typing`] | a file, a node, a schema | the output [`TypeRecord`], or untyped |
 //! | [`apply`] | a file, a node, an instantiation | its [`Schema`] and output [`TypeRecord`] |
 //! | [`recover`] | a file, a node, a schema | its [`Instantiation`], or untyped |
+//! | [`parse_query`] | a query typed as text | its file, as an [`Expression`] |
 //!
 //! Results are views of the part that was written of a lent slice: each gives its bytes, its parts
 //! and its text. Inputs are built by [`ExpressionBuilder`], [`SchemaBuilder`] and
-//! [`InstantiationBuilder`], or are bytes of any origin.
+//! [`InstantiationBuilder`], or are bytes of any origin; a file is also what [`parse_query`] makes
+//! of a query such as `S[2,3]((N[1>2]r0+r1)*r2)`.
 //!
 //! # A whole use
 //!
@@ -128,13 +130,13 @@ mod views;
 pub use builders::{ExpressionBuilder, InstantiationBuilder, SchemaBuilder};
 pub use node::{BinaryOp, Node, SetOp};
 pub use operations::{
-    accept, apply, formula, lowest_verdict, read_node, record, recover, typing, verdict,
-    Application, LowestVerdict, Recovery, Typing, Verdict,
+    accept, apply, formula, lowest_verdict, parse_query, read_node, record, recover, typing,
+    verdict, Application, LowestVerdict, Recovery, Typing, Verdict,
 };
 pub use refusal::{Refusal, UnknownRefusal};
 pub use sizes::{
-    FORMULA_SIZE, INSTANTIATION_SIZE, LONGEST_FILE, MOST_NODES, MOST_RELATIONS, OUTPUT_SIZE,
-    SCHEMA_SIZE, WORK_SIZE,
+    FORMULA_SIZE, INSTANTIATION_SIZE, LONGEST_FILE, LONGEST_QUERY, MOST_NODES, MOST_RELATIONS,
+    OUTPUT_SIZE, SCHEMA_SIZE, WORK_SIZE,
 };
 pub use views::{
     Expression, Formula, Formulas, Instantiation, List, Lists, Nodes, Records, Schema, TypeRecord,

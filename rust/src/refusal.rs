@@ -33,8 +33,8 @@ pub enum Refusal {
     NodeNumber = 11,
     /// The work space has fewer than 1,024 n bytes.
     WorkSpace = 12,
-    /// A result slice has fewer than 513 (output record), 4,104 (schema) or 812 bytes
-    /// (instantiation).
+    /// A result slice has fewer than 322 (expression file), 513 (output record), 4,104 (schema) or
+    /// 812 bytes (instantiation).
     ResultSlice = 13,
     /// The schema or instantiation ends before its last record or list does.
     InputTruncated = 14,
@@ -52,10 +52,16 @@ pub enum Refusal {
     TypeVariable = 20,
     /// The subset given to a special attribute is not allowed in its column.
     SpecialSubset = 21,
+    /// The text is no query: it is not in the language.
+    QuerySyntax = 22,
+    /// The text has more than 512 bytes.
+    QueryLength = 23,
+    /// The query has more than 64 nodes.
+    QueryNodes = 24,
 }
 
 /// Each refusal with its text, by number from 1. `include/type_formula.h` has the same texts.
-const TEXTS: [(Refusal, &str); 21] = [
+const TEXTS: [(Refusal, &str); 24] = [
     (
         Refusal::HeaderTruncated,
         "the file has fewer than two bytes (FORMAT 1.1)",
@@ -106,8 +112,8 @@ const TEXTS: [(Refusal, &str); 21] = [
     ),
     (
         Refusal::ResultSlice,
-        "a result slice has fewer than 513 bytes (output record), 4,104 (schema) \
-         or 812 (instantiation) (FORMAT 9.8, 9.9, 9.11)",
+        "a result slice has fewer than 322 bytes (expression file), 513 (output record), \
+         4,104 (schema) or 812 (instantiation) (FORMAT 9.1, 9.8, 9.9, 9.11)",
     ),
     (
         Refusal::InputTruncated,
@@ -139,10 +145,22 @@ const TEXTS: [(Refusal, &str); 21] = [
         Refusal::SpecialSubset,
         "the subset given to a special attribute is not allowed in its column (FORMAT 6.3)",
     ),
+    (
+        Refusal::QuerySyntax,
+        "the text is no query: not in the language (FORMAT 11.1)",
+    ),
+    (
+        Refusal::QueryLength,
+        "the text has more than 512 bytes (FORMAT 9.14)",
+    ),
+    (
+        Refusal::QueryNodes,
+        "the query has more than 64 nodes (FORMAT 9.3)",
+    ),
 ];
 
 impl Refusal {
-    /// The number, 1 to 21.
+    /// The number, 1 to 24.
     ///
     /// ```
     /// use type_formula::Refusal;
@@ -191,7 +209,7 @@ impl Error for UnknownRefusal {}
 /// ```
 /// use type_formula::{Refusal, UnknownRefusal};
 ///
-/// assert_eq!(Refusal::try_from(21), Ok(Refusal::SpecialSubset));
+/// assert_eq!(Refusal::try_from(24), Ok(Refusal::QueryNodes));
 /// assert_eq!(Refusal::try_from(0), Err(UnknownRefusal(0)));
 /// ```
 impl TryFrom<u8> for Refusal {
@@ -222,7 +240,7 @@ mod tests {
 
     #[test]
     fn other_numbers_are_no_refusals() {
-        for number in [0].into_iter().chain(22..=255) {
+        for number in [0].into_iter().chain(25..=255) {
             assert_eq!(Refusal::try_from(number), Err(UnknownRefusal(number)));
         }
     }

@@ -6,8 +6,11 @@ pub const MOST_RELATIONS: usize = 8;
 /// The most nodes of an expression file.
 pub const MOST_NODES: usize = 64;
 
-/// No accepted expression file has more bytes than this.
+/// The least length of a result slice for an expression file; no accepted one is longer.
 pub const LONGEST_FILE: usize = 322;
+
+/// The most bytes of a query's text.
+pub const LONGEST_QUERY: usize = 512;
 
 /// The bytes of work space that a node's formula takes.
 pub const FORMULA_SIZE: usize = 1_024;

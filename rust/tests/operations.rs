@@ -6,6 +6,8 @@ use type_formula::*;
 
 /// E1, selection {2,3} of (renaming 1 into 2 of r0, union r1) join r2.
 const E1: &[u8] = include_bytes!("../../examples/e1");
+/// E1 as text.
+const E1_TEXT: &str = "S[2,3]((N[1>2]r0+r1)*r2)";
 /// The witness of E1.
 const FEWEST: [u8; 6] = [2, 0, 4, 0, 8, 0];
 /// E2, the witness of E1 by lowest subsets.
@@ -183,6 +185,57 @@ fn recover_writes_the_instantiation() {
     let wanted = Instantiation::read(&INSTANTIATION).expect("an instantiation");
     assert_eq!(given, Ok(Recovery::Recovered(wanted)));
     assert_stays(&result[INSTANTIATION.len()..]);
+}
+
+#[test]
+fn parse_query_writes_the_file() {
+    let mut file = [BEFORE; LONGEST_FILE + 1];
+    let given = parse_query(3, E1_TEXT, &mut file).expect("a query");
+    assert_eq!(given.bytes(), E1);
+    assert_eq!(accept(E1), Ok(given));
+    assert_stays(&file[E1.len()..]);
+}
+
+#[test]
+fn parse_query_takes_text_and_bytes() {
+    let mut file = [BEFORE; LONGEST_FILE];
+    let mut parsed =
+        |bytes: &[u8]| parse_query(3, bytes, &mut file).map(|query| query.node_count());
+    assert_eq!(parsed(E1_TEXT.as_bytes()), Ok(7));
+    assert_eq!(parsed(b"r0\xff"), Err(Refusal::QuerySyntax));
+    let owned = String::from(E1_TEXT);
+    assert!(parse_query(3, &owned, &mut file).is_ok());
+    assert!(parse_query(3, owned.into_bytes(), &mut file).is_ok());
+}
+
+#[test]
+fn parse_query_gives_the_first_refusal_and_writes_nothing() {
+    let mut file = [BEFORE; LONGEST_FILE];
+    let mut refused = |relations, text: &str, length: usize, refusal| {
+        let given = parse_query(relations, text, &mut file[..length]);
+        assert_eq!(given, Err(refusal), "{text}");
+    };
+    let (long, nodes) = (
+        "r".repeat(LONGEST_QUERY + 1),
+        "P[]".repeat(MOST_NODES) + "r9",
+    );
+    let enough = LONGEST_FILE;
+    refused(0, &long, 0, Refusal::RelationCount);
+    refused(9, &long, 0, Refusal::RelationCount);
+    refused(3, &long, enough - 1, Refusal::ResultSlice);
+    refused(3, &long, enough, Refusal::QueryLength);
+    refused(3, &long[1..], enough, Refusal::QuerySyntax);
+    for text in [
+        "", " r0", "r0 ", "r10", "(r0)", "(r0+r1", "S[1,1]r0", "S[01]r0",
+    ] {
+        refused(3, text, enough, Refusal::QuerySyntax);
+    }
+    refused(3, &nodes, enough, Refusal::QueryNodes);
+    refused(3, &nodes[3..], enough, Refusal::RelationNumber);
+    refused(3, "(r3+D[0]r0)", enough, Refusal::RelationNumber);
+    refused(3, "D[0]r3", enough, Refusal::Attribute);
+    refused(3, "N[15>16]r0", enough, Refusal::Attribute);
+    assert_stays(&file);
 }
 
 #[test]

@@ -3,7 +3,7 @@
 use crate::engine::{self, Lengths};
 use crate::examples::to_hexadecimal;
 use crate::input::Input;
-use crate::reference::FORMULA_LENGTH;
+use crate::reference::{FILE_LENGTH, FORMULA_LENGTH};
 use crate::slice_lengths::{least_for_apply, least_for_recover};
 
 /// Apply: schema and output record.
@@ -41,6 +41,18 @@ pub fn recovered(input: &Input, node: usize, schema: &[u8]) -> Vec<u8> {
     assert_eq!(answer, 0, "{}", to_hexadecimal(schema));
     result.truncate(value);
     result
+}
+
+/// Parsing a query: the file, or the refusal.
+pub fn parsed(relations: u8, text: &[u8]) -> Result<Vec<u8>, u8> {
+    let (mut file, mut size) = (vec![0x55; FILE_LENGTH], 0);
+    match engine::parse_query(relations, text, &mut file, &mut size) {
+        0 => {
+            file.truncate(size);
+            Ok(file)
+        }
+        refusal => Err(refusal),
+    }
 }
 
 /// The formulas of the file as Formula stores them.

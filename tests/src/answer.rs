@@ -1,6 +1,6 @@
 //! Operations, their answers as numbers, and counts of them.
 
-use crate::reference::{Apply, File, Recover, Typing, Verdict};
+use crate::reference::{Apply, File, ParseQuery, Recover, Typing, Verdict};
 
 /// An operation of the engine.
 #[derive(Clone, Copy, Debug, PartialEq, Eq)]
@@ -14,10 +14,11 @@ pub enum Operation {
     Typing,
     Apply,
     Recover,
+    ParseQuery,
 }
 
 /// All operations, each at the place of its number.
-pub const OPERATIONS: [Operation; 9] = [
+pub const OPERATIONS: [Operation; 10] = [
     Operation::Accept,
     Operation::Record,
     Operation::ReadNode,
@@ -27,6 +28,7 @@ pub const OPERATIONS: [Operation; 9] = [
     Operation::Typing,
     Operation::Apply,
     Operation::Recover,
+    Operation::ParseQuery,
 ];
 
 impl Operation {
@@ -41,6 +43,7 @@ impl Operation {
             Operation::Typing => "Typing",
             Operation::Apply => "Apply",
             Operation::Recover => "Recover",
+            Operation::ParseQuery => "Parse a query",
         }
     }
 }
@@ -48,7 +51,7 @@ impl Operation {
 /// The number for a result.
 pub const RESULT: u8 = 0;
 /// The greatest refusal number.
-pub const GREATEST_REFUSAL: u8 = 21;
+pub const GREATEST_REFUSAL: u8 = 24;
 /// The number for untyped and for untypable.
 pub const NO_TYPE: u8 = 255;
 
@@ -109,17 +112,29 @@ impl Answer for Recover {
     }
 }
 
+impl Answer for ParseQuery {
+    fn number(&self) -> u8 {
+        match *self {
+            ParseQuery::Parsed { .. } => RESULT,
+            ParseQuery::Refused { number } => number,
+        }
+    }
+}
+
+/// How many answers there are: a result, each refusal, and untyped or untypable.
+const ANSWERS: usize = GREATEST_REFUSAL as usize + 2;
+
 /// How often each operation gave each answer.
 #[derive(Clone, Debug, Default)]
 pub struct Counts {
-    /// By operation: at 0 results, at 1 to 21 refusals, at 22 untyped or untypable.
-    answers: [[u64; 23]; OPERATIONS.len()],
+    /// By operation: at 0 results, then the refusals by number, and last untyped or untypable.
+    answers: [[u64; ANSWERS]; OPERATIONS.len()],
 }
 
 /// The place of an answer in the counts.
 fn place(answer: u8) -> usize {
     match answer {
-        NO_TYPE => usize::from(GREATEST_REFUSAL) + 1,
+        NO_TYPE => ANSWERS - 1,
         other => usize::from(other),
     }
 }

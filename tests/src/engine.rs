@@ -5,8 +5,8 @@
 
 use type_formula::c::{
     type_formula_accept, type_formula_apply, type_formula_formula, type_formula_lowest_verdict,
-    type_formula_read_node, type_formula_record, type_formula_recover, type_formula_typing,
-    type_formula_verdict,
+    type_formula_parse_query, type_formula_read_node, type_formula_record, type_formula_recover,
+    type_formula_typing, type_formula_verdict,
 };
 pub use type_formula::c::{UNTYPABLE, UNTYPED};
 
@@ -192,6 +192,23 @@ pub fn recover(
             instantiation.as_mut_ptr(),
             instantiation.len(),
             value,
+        )
+    }
+}
+
+/// Parse a query: 0 if the text is a query, and then writes its expression file and the
+/// length; else the number of the first refusal, and slice and size stay.
+#[inline]
+pub fn parse_query(relations: u8, text: &[u8], file: &mut [u8], size: &mut usize) -> u8 {
+    // SAFETY: pointers and lengths are those of slices; file and size are writable.
+    unsafe {
+        type_formula_parse_query(
+            relations,
+            text.as_ptr(),
+            text.len(),
+            file.as_mut_ptr(),
+            file.len(),
+            size,
         )
     }
 }

@@ -1,4 +1,4 @@
-//! The engine compared with another implementation of document 01.
+//! The engine compared with another implementation of documents 01 and 02.
 
 /// Calls of the engine alone.
 pub mod alone;
@@ -27,13 +27,19 @@ pub mod paired_calls;
 pub mod programs;
 /// The pseudorandom number generator, and bytes.
 pub mod pseudorandom;
+/// Queries typed as text with their answers.
+pub mod query_examples;
+/// Queries as trees, with the texts and the files that a walk over the tree gives.
+pub mod query_trees;
 /// Random attributes and assignments.
 pub mod random_assignments;
 /// Random nodes and expression files.
 pub mod random_expressions;
 /// Random instantiations, alone and with files.
 pub mod random_instantiations;
-/// The other implementation, written from document 01.
+/// Random queries and texts.
+pub mod random_queries;
+/// The other implementation, written from documents 01 and 02.
 pub mod reference;
 /// Calls of the reference alone.
 pub mod reference_calls;

@@ -1,6 +1,7 @@
 //! Runs of the programs that the repository's build writes.
 
 use std::env;
+use std::ffi::OsStr;
 use std::io::{ErrorKind, Write};
 use std::path::PathBuf;
 use std::process::{Command, Stdio};
@@ -21,8 +22,19 @@ fn path_of(name: &str) -> PathBuf {
 /// Runs a program on these bytes as its standard input and gives what it writes to standard
 /// output. The program may end before it has read all.
 pub fn run(name: &str, input: &[u8]) -> Vec<u8> {
+    run_on(name, &[], input)
+}
+
+/// Runs a program with these arguments, without standard input, and gives what it writes to
+/// standard output.
+pub fn run_with(name: &str, arguments: &[&OsStr]) -> Vec<u8> {
+    run_on(name, arguments, &[])
+}
+
+fn run_on(name: &str, arguments: &[&OsStr], input: &[u8]) -> Vec<u8> {
     let path = path_of(name);
     let mut program = Command::new(&path)
+        .args(arguments)
         .stdin(Stdio::piped())
         .stdout(Stdio::piped())
         .spawn()

@@ -4,9 +4,9 @@ use std::fmt::Debug;
 
 use crate::pseudorandom::Random;
 use crate::reference::{
-    apply, infer, recover, typing, Apply, Inferred, Recover, Typing, BYTES_END_EARLY,
-    BYTES_LEFT_OVER, FORMULA_LENGTH, INSTANTIATION_LENGTH, OUTPUT_LENGTH, SCHEMA_LENGTH,
-    STANDING_BIT_NO_TYPE_VARIABLE,
+    apply, infer, parse_query, recover, typing, Apply, Inferred, ParseQuery, Recover, Typing,
+    BYTES_END_EARLY, BYTES_LEFT_OVER, FILE_LENGTH, FORMULA_LENGTH, INSTANTIATION_LENGTH,
+    OUTPUT_LENGTH, SCHEMA_LENGTH, STANDING_BIT_NO_TYPE_VARIABLE,
 };
 use crate::typing_examples::Answer;
 
@@ -128,6 +128,24 @@ pub fn typing_with(file: &[u8], node: usize, schema: &[u8], out_length: usize) -
 /// Typing with a result slice that is long enough: the output record, none if untyped.
 pub fn typing_of(file: &[u8], node: usize, schema: &[u8]) -> Option<Vec<u8>> {
     typing_with(file, node, schema, OUTPUT_LENGTH).expect("not refused")
+}
+
+/// Parsing a query with a file slice of this length: the file, or the refusal. Asserts that
+/// all other bytes stay.
+pub fn parse_with(relations: u8, text: &[u8], file_length: usize) -> Result<Vec<u8>, u8> {
+    let mut file = vec![FILL; file_length];
+    match parse_query(relations, text, &mut file) {
+        ParseQuery::Parsed { length } => Ok(written(file, length)),
+        ParseQuery::Refused { number } => {
+            assert!(is_untouched(&file));
+            Err(number)
+        }
+    }
+}
+
+/// Parsing a query with a file slice that is long enough.
+pub fn parse(relations: u8, text: &[u8]) -> Result<Vec<u8>, u8> {
+    parse_with(relations, text, FILE_LENGTH)
 }
 
 /// Asserts that every proper prefix of the bytes ends early, and that with bytes after them

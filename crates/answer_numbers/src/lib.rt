@@ -8,8 +8,10 @@ ghost use Rattle.verdict_answer.specs.Numbers.{outcomeNumber, outcomeValue, out
 ghost use Rattle.typing_answer.specs.Numbers.{answerNumber, answerValue};
 ghost use Rattle.apply_answer.specs.Numbers.{applicationNumber, applicationSchema, applicationOutput};
 ghost use Rattle.recover_answer.specs.Numbers.{recoveryNumber, recoveryValue};
+ghost use Rattle.query_answer.specs.Numbers.{parsingNumber, parsingSize};
 use apply_answer::Application;
 use expression_file::Acceptance;
+use query_answer::Parsing;
 use recover_answer::Recovery;
 use typing_answer::Answer;
 use verdict_answer::Outcome;
@@ -104,5 +106,19 @@ pub fn write_recovery(recovery: Recovery, value: &mut usize) -> u8
         }
         Recovery::Untyped => 255,
         Recovery::Refused(r) => r.number(),
+    }
+}
+
+// 0 with the expression file's length, or the refusal's number.
+pub fn write_parsing(parsing: Parsing, size: &mut usize) -> u8
+    ensures { λ r. ⌜ r ≡ parsingNumber parsing ⌝ }
+    ensures { λ _. ⌜ now (size .exit) ≡ parsingSize parsing (now (size .entry)) ⌝ }
+{
+    match parsing {
+        Parsing::Written(length) => {
+            *size = length;
+            0
+        }
+        Parsing::Refused(r) => r.number(),
     }
 }

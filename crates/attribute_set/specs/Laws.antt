@@ -43,6 +43,11 @@ pub has-set : (bits a : ℕ) → hasAttribute (setOf bits) a ≡ bit bits a
 unfolding hasAttribute setOf
 has-set bits a = refl
 
+-- a set is that of its bits
+pub set-bits : (s : AttrSet) → setOf (bitsOf s) ≡ s
+unfolding setOf
+set-bits s = refl
+
 -- adding `a` makes `a` a member and changes nothing else
 pub has-with : (s : AttrSet) (a b : ℕ) → hasAttribute (withAttribute s a) b ≡ special a && eqb a b || hasAttribute s b
 unfolding hasAttribute withAttribute setOf

@@ -1,2 +1,3 @@
 pub mod AttrSet
 pub mod Laws
+pub mod Listed

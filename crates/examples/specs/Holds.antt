@@ -3,6 +3,7 @@ use Prim.Native.Nat.{ℕ, zero, suc, _+_, _-_, _*_, _^_, _≤_, _<_}
 use mathlib.Core.Path.{_≡_, refl, sym, ap, ap₂, _∙_}
 use mathlib.Core.Bool.{Bool, true, false, cond, _&&_}
 use mathlib.Core.List.{List, [], _∷_}
+use native.Mathlib.Nat.{le-refl}
 use native.Mathlib.Omega.{arith}
 use lib.Dec.{T, eqb, ltb, leb, eqb→eq, ltb→lt, leb→le}
 use lib.ListN.{length, getD}
@@ -44,6 +45,18 @@ use Rattle.table_types.specs.Output.{typedIn, outputMap, outputList}
 use Rattle.typing_answer.specs.Typing.{typedAnswer, tableAnswer, typedOut, tableOut, typingAnswer, typingOut}
 use Rattle.typing_answer.specs.TypingLaws.{typing-records}
 use Rattle.typing_answer.specs.declared.Answer.the-variants.{Typed, Untyped}
+use Rattle.attribute_set.specs.AttrSet.{withAttribute}
+use Rattle.attribute_set.specs.Listed.{withAttributes}
+use Rattle.expression_file.specs.Walk.{longestFile}
+use Rattle.expression_file.specs.WrittenFile.{nodesBytes, fileOf}
+use Rattle.query_language.specs.Parsed.{andThen, provided}
+use Rattle.query_language.specs.Parse.{isDigit, numberOf as numberValue, numberAt, endedNumber, itemsWith, itemsWithin, itemsAt, listAt, setAt, renamingAt, projectingOutAt, prefixAt}
+use Rattle.query_language.specs.Parse.{signOf, signAt, relationAt, pairWith, prefixedWith, operandWith, operandWithin, operandAt, parseQuery}
+use Rattle.query_answer.specs.declared.Parsing.the-variants.{Written as FileWritten}
+use Rattle.query_answer.specs.QueryNodes.{nodesFrom, queryFile}
+use Rattle.query_answer.specs.Faults.{attributeFaults, faultsOf}
+use Rattle.query_answer.specs.ParseQuery.{Judgement, refused as queryRefused, accepted as queryAccepted, judged, judgement, parseAnswer, parseFile}
+use Rattle.query_answer.specs.ParseLaws.{answer-accepted, judge-any}
 use Rattle.examples.specs.Cases.{Column, Typing, Case, table}
 
 -- ---- what is compared
@@ -92,9 +105,21 @@ abbrev pub TypingsHold : Case → List Typing → List ℕ → Type 0
 TypingsHold x [] out = Unit
 TypingsHold x (y ∷ ys) out = TypingHolds x y out × TypingsHold x ys out
 
--- what holds of a case: its counts, its columns, its verdicts and its typings
+-- what parsing does with a text over the relations of the case, in a slice that is long enough: the answer, and the
+-- slice with the case's file
+pub record TextHolds (x : Case) (text : List ℕ) (slice : List ℕ) : Type 0 where
+  pub answer : parseAnswer (x .relations) text (length slice) ≡ FileWritten (length (x .file))
+  pub file : parseFile (x .relations) text slice ≡ over (x .file) slice
+
+-- each of the texts is parsed to the file
+abbrev pub TextsHold : Case → List (List ℕ) → List ℕ → Type 0
+TextsHold x [] slice = Unit
+TextsHold x (t ∷ ts) slice = TextHolds x t slice × TextsHold x ts slice
+
+-- what holds of a case: its counts, its texts, its columns, its verdicts and its typings
 pub record Holds (x : Case) : Type 0 where
   pub accepted : acceptance (x .file) ≡ Accepted (x .relations) (x .nodes)
+  pub texts : (slice : List ℕ) → longestFile ≤ length slice → TextsHold x (x .texts) slice
   pub columns : AllHold (x .relations) (lastOf x) (x .columns)
   pub verdict : (work schema : List ℕ) → x .nodes * formulaSize ≤ length work → schemaSize ≤ length schema → VerdictHolds x work schema
   pub lowest : (work schema : List ℕ) → x .nodes * formulaSize ≤ length work → schemaSize ≤ length schema → LowestHolds x work schema
@@ -113,6 +138,16 @@ same (x ∷ xs) (y ∷ ys) = eqb x y && same xs ys
 accepts : Acceptance → ℕ → ℕ → Bool
 accepts (Accepted m n) m′ n′ = eqb m m′ && eqb n n′
 accepts (Refused r) m′ n′ = false
+
+-- a query is parsed to this file
+judgedPasses : ℕ → List ℕ → Judgement → Bool
+judgedPasses m file (queryRefused r) = false
+judgedPasses m file (queryAccepted q) = same (queryFile m q) file
+
+-- the same of each text
+textsPass : ℕ → List ℕ → List (List ℕ) → Bool
+textsPass m file [] = true
+textsPass m file (t ∷ ts) = judgedPasses m file (judgement m t longestFile) && textsPass m file ts
 
 -- each column of the case has its subsets
 columnsPass : ℕ → Expression → List Column → Bool
@@ -158,7 +193,8 @@ typingsPass m e (y ∷ ys) = recordsPass (readRecords m (y .schema)) e y && typi
 -- everything that the case says
 passes : Case → Bool
 passes x =
-    accepts (acceptance (x .file)) (x .relations) (x .nodes)
+    textsPass (x .relations) (x .file) (x .texts)
+    && accepts (acceptance (x .file)) (x .relations) (x .nodes)
     && columnsPass (x .relations) (lastOf x) (x .columns)
     && eqb (blockedOf (x .relations) (lastOf x)) (x .blocked)
     && (orderPasses FewestMembers x (x .witness) (x .memberships) && orderPasses LowestNumber x (x .lowest) (lowestMemberships x))
@@ -183,6 +219,22 @@ accepts-is : (a : Acceptance) (m n : ℕ) → T (accepts a m n) → a ≡ Accept
 unfolding accepts
 accepts-is (Accepted m′ n′) m n t = ap₂ Accepted (eqb→eq m′ m (left (eqb m′ m) (eqb n′ n) t)) (eqb→eq n′ n (right (eqb m′ m) (eqb n′ n) t))
 accepts-is (Refused r) m n t = absurd t
+
+text-holds : (x : Case) (text slice : List ℕ) → longestFile ≤ length slice → (j : Judgement) → judgement (x .relations) text longestFile ≡ j → T (judgedPasses (x .relations) (x .file) j) → TextHolds x text slice
+unfolding judgedPasses
+text-holds x text slice room (queryRefused r) e t = absurd t
+text-holds x text slice room (queryAccepted q) e t =
+    let is = same-is (queryFile (x .relations) q) (x .file) t in
+    let given = answer-accepted (x .relations) text slice q (judge-any (x .relations) text (length slice) longestFile room (le-refl longestFile) ∙ e) in
+    record { answer = sym (given .answer) ∙ ap (λ (file : List ℕ). FileWritten (length file)) is; file = sym (given .slice) ∙ ap (λ (file : List ℕ). over file slice) is }
+
+texts-hold : (x : Case) (ts : List (List ℕ)) (slice : List ℕ) → longestFile ≤ length slice → T (textsPass (x .relations) (x .file) ts) → TextsHold x ts slice
+unfolding textsPass
+texts-hold x [] slice room t = tt
+texts-hold x (text ∷ ts) slice room t =
+    let here = judgedPasses (x .relations) (x .file) (judgement (x .relations) text longestFile) in
+    let rest = textsPass (x .relations) (x .file) ts in
+    (text-holds x text slice room (judgement (x .relations) text longestFile) refl (left here rest t), texts-hold x ts slice room (right here rest t))
 
 columns-hold : (m : ℕ) (e : Expression) (cs : List Column) → T (columnsPass m e cs) → AllHold m e cs
 unfolding columnsPass
@@ -287,6 +339,7 @@ typings-hold x (y ∷ ys) out goes t =
 case-holds : (x : Case) → T (passes x) → Holds x
 unfolding passes
 case-holds x t =
+    let w = textsPass (x .relations) (x .file) (x .texts) in
     let a = accepts (acceptance (x .file)) (x .relations) (x .nodes) in
     let c = columnsPass (x .relations) (lastOf x) (x .columns) in
     let b = eqb (blockedOf (x .relations) (lastOf x)) (x .blocked) in
@@ -294,17 +347,19 @@ case-holds x t =
     let l = orderPasses LowestNumber x (x .lowest) (lowestMemberships x) in
     let n = ltb 0 (x .nodes) in
     let y = typingsPass (x .relations) (lastOf x) (x .typings) in
-    let upToN = left (a && c && b && (f && l) && n) y t in
-    let upToW = left (a && c && b && (f && l)) n upToN in
-    let witnesses = right (a && c && b) (f && l) upToW in
-    let upToB = left (a && c && b) (f && l) upToW in
-    let upToC = left (a && c) b upToB in
-    let accepted = accepts-is (acceptance (x .file)) (x .relations) (x .nodes) (left a c upToC) in
-    let blocked = eqb→eq (blockedOf (x .relations) (lastOf x)) (x .blocked) (right (a && c) b upToB) in
-    let some = ltb→lt 0 (x .nodes) (right (a && c && b && (f && l)) n upToN) in
+    let upToN = left (w && a && c && b && (f && l) && n) y t in
+    let upToW = left (w && a && c && b && (f && l)) n upToN in
+    let witnesses = right (w && a && c && b) (f && l) upToW in
+    let upToB = left (w && a && c && b) (f && l) upToW in
+    let upToC = left (w && a && c) b upToB in
+    let upToA = left (w && a) c upToC in
+    let accepted = accepts-is (acceptance (x .file)) (x .relations) (x .nodes) (right w a upToA) in
+    let blocked = eqb→eq (blockedOf (x .relations) (lastOf x)) (x .blocked) (right (w && a && c) b upToB) in
+    let some = ltb→lt 0 (x .nodes) (right (w && a && c && b && (f && l)) n upToN) in
     record {
       accepted = accepted;
-      columns = columns-hold (x .relations) (lastOf x) (x .columns) (right a c upToC);
+      texts = λ slice room. texts-hold x (x .texts) slice room (left w a upToA);
+      columns = columns-hold (x .relations) (lastOf x) (x .columns) (right (w && a) c upToC);
       verdict = λ work schema space slice. let holds = order-holds FewestMembers x (x .witness) (x .memberships) accepted blocked (left f l witnesses) some work schema space slice in record { answer = holds .0; slice = holds .1 };
       lowest =
           λ work schema space slice. let holds = order-holds LowestNumber x (x .lowest) (lowestMemberships x) accepted blocked (right f l witnesses) some work schema space slice in
@@ -313,12 +368,12 @@ case-holds x t =
           λ out slice. typings-hold x (x .typings) out
           (sliced-passes (asked (x .file) (x .nodes - 1)) (length out) outputSize
           (asked-passes (x .file) (x .nodes - 1) accepted (omega arith)) slice)
-          (right (a && c && b && (f && l) && n) y t);
+          (right (w && a && c && b && (f && l) && n) y t);
     }
 
 -- a case that is none, for a place past the table
 abbrev pub none : Case
-none = record { file = []; relations = 0; nodes = 0; columns = []; blocked = 0; witness = []; memberships = 0; lowest = []; typings = [] }
+none = record { file = []; texts = []; relations = 0; nodes = 0; columns = []; blocked = 0; witness = []; memberships = 0; lowest = []; typings = [] }
 
 each-holds : (xs : List Case) → T (every xs) → (i : ℕ) → i < length xs → Holds (getD xs i none)
 unfolding every
@@ -328,9 +383,12 @@ each-holds (x ∷ xs) t (suc i) h = each-holds xs (right (passes x) (every xs) t
 
 -- the theorem: every case of the table holds; antt computes the test
 pub examples-hold : (i : ℕ) → i < length table → Holds (getD table i none)
-unfolding every passes same accepts columnsPass witnessPasses orderPasses lowestMemberships outputPasses recordsPass typingsPass readRecords readRecord readList readFrom
+unfolding every passes same accepts textsPass judgedPasses columnsPass witnessPasses orderPasses lowestMemberships outputPasses recordsPass typingsPass readRecords readRecord readList readFrom
     recordSize recordAt listed word entriesOf mapsOf enter typedIn outputMap recordBytes passing lowestWith fewestIn members total membershipsOf blockedBy
     chosenBy witnessBytes schemaBytes recordsOf mapsFrom mapOf pack tab bit lowestFrom allowedBit outputBit expressionAt earlier
     acceptance parse header readNodes readNode checkNode checkFields sizeOf nodeOf refuse inRange special hasAttribute setOf binaryOf
     setOpOf placedAt nodeEntries table
+    judgement judged parseQuery operandAt operandWithin operandWith relationAt pairWith prefixedWith signAt signOf prefixAt setAt
+    renamingAt projectingOutAt listAt itemsAt itemsWithin itemsWith endedNumber numberAt numberValue isDigit andThen provided
+    faultsOf attributeFaults nodesFrom fileOf nodesBytes withAttributes withAttribute
 examples-hold = each-holds table tt

@@ -1,3 +1,4 @@
 pub mod Cases
 pub mod Holds
+pub mod RefusedQueries
 pub mod Universal

@@ -3,3 +3,4 @@ pub mod Accepted
 pub mod Walk
 pub mod Enough
 pub mod Numbers
+pub mod WrittenFile

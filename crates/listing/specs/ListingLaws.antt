@@ -92,10 +92,10 @@ Outcome file work text r work′ text′ =
 
 -- after each outcome of the two tests
 module _ {A : Type 0} (space size : ℕ) (stop : Refusal → A) (go : A) where
-  checked-work : space < 65536 → checked space size stop go ≡ stop WorkSpace
+  pub checked-work : space < 65536 → checked space size stop go ≡ stop WorkSpace
   checked-work h = refuse-stops stop (ltb space 65536) WorkSpace (refuse stop (ltb size 32768) ResultSlice go) (lt-ltb space 65536 h)
 
-  checked-text : 65536 ≤ space → size < 32768 → checked space size stop go ≡ stop ResultSlice
+  pub checked-text : 65536 ≤ space → size < 32768 → checked space size stop go ≡ stop ResultSlice
   checked-text h k =
       refuse-passes stop (ltb space 65536) WorkSpace (refuse stop (ltb size 32768) ResultSlice go) (le-ltb space 65536 h)
       ∙ refuse-stops stop (ltb size 32768) ResultSlice go (lt-ltb size 32768 k)
@@ -104,6 +104,21 @@ module _ {A : Type 0} (space size : ℕ) (stop : Refusal → A) (go : A) where
   checked-goes h k =
       refuse-passes stop (ltb space 65536) WorkSpace (refuse stop (ltb size 32768) ResultSlice go) h
       ∙ refuse-passes stop (ltb size 32768) ResultSlice go k
+
+  pub checked-both : 65536 ≤ space → 32768 ≤ size → checked space size stop go ≡ go
+  checked-both h k = checked-goes (le-ltb space 65536 h) (le-ltb size 32768 k)
+
+-- where both slices are long enough: the text, and the work space as Formula leaves it
+pub listed-goes :
+    (file work text : List ℕ)
+    → 65536 ≤ length work
+    → 32768 ≤ length text
+    → (listedAnswer file (length work) (length text) ≡ Text (length (textOf file)))
+    × (listedText file (length work) text ≡ over (textOf file) text)
+    × (listedSpace file work (length text) ≡ formulaSpace file work)
+unfolding listedAnswer listedText listedSpace
+listed-goes file work text h k =
+    (checked-both (length work) (length text) Refused _ h k, checked-both (length work) (length text) (λ r. text) _ h k, checked-both (length work) (length text) (λ r. work) _ h k)
 
 module _ (file work text : List ℕ) where
   pub listed-work : length work < 65536 → Outcome file work text (Refused WorkSpace) work text
@@ -129,16 +144,16 @@ module _ (file work text : List ℕ) where
 -- ---- slices in which a file is listed
 
 -- both tests are passed, and n is the text's length
-pub record ListedIn (file : List ℕ) (space size n : ℕ) : Type 0 where
+pub record ListedIn (bytes : List ℕ) (space size n : ℕ) : Type 0 where
   pub enough : ltb space 65536 ≡ false
   pub room : ltb size 32768 ≡ false
-  pub size-is : length (textOf file) ≡ n
+  pub size-is : length bytes ≡ n
 
-pub listed-in : (file : List ℕ) (space size n : ℕ) → listedAnswer file space size ≡ Text n → ListedIn file space size n
-unfolding listedAnswer
-listed-in file space size n e =
-    let work = refuse-past Refused (ltb space 65536) WorkSpace (refuse Refused (ltb size 32768) ResultSlice (Text (length (textOf file)))) (never WorkSpace) e in
-    let text = refuse-past Refused (ltb size 32768) ResultSlice (Text (length (textOf file))) (never ResultSlice) (work .1) in
+-- the same of any text
+checked-in : (bytes : List ℕ) (space size n : ℕ) → checked space size Refused (Text (length bytes)) ≡ Text n → ListedIn bytes space size n
+checked-in bytes space size n e =
+    let work = refuse-past Refused (ltb space 65536) WorkSpace (refuse Refused (ltb size 32768) ResultSlice (Text (length bytes))) (never WorkSpace) e in
+    let text = refuse-past Refused (ltb size 32768) ResultSlice (Text (length bytes)) (never ResultSlice) (work .1) in
     record { enough = work .0; room = text .0; size-is = sized (text .1) }
   where
     never : (r : Refusal) → Refused r ≡ Text n → ⊥
@@ -147,20 +162,34 @@ listed-in file space size n e =
     sized : {a b : ℕ} → Text a ≡ Text b → a ≡ b
     sized q = cc
 
--- the text slice holds the text, and after it what it held
-pub listed-over : (file : List ℕ) (space : ℕ) (text : List ℕ) (n : ℕ) → listedAnswer file space (length text) ≡ Text n → listedText file space text ≡ over (textOf file) text
-unfolding listedText
-listed-over file space text n e =
-    let listed = listed-in file space (length text) n e in
-    checked-goes space (length text) (λ r. text) (over (textOf file) text) (listed .enough) (listed .room)
+-- it fits its slice
+pub checked-fits :
+    (bytes : List ℕ) (space : ℕ) (text text′ : List ℕ) (n : ℕ)
+    → text′ ≡ checked space (length text) (λ r. text) (over bytes text)
+    → checked space (length text) Refused (Text (length bytes)) ≡ Text n
+    → n ≤ length text′
+checked-fits bytes space text text′ n t e =
+    let listed = checked-in bytes space (length text) n e in
+    let goes = checked-goes space (length text) (λ r. text) (over bytes text) (listed .enough) (listed .room) in
+    let is = listed .size-is in
+    let whole = ap length (t ∙ goes ∙ over-with bytes text) ∙ length-append bytes (drop (length bytes) text) in
+    omega arith
+
+-- of the text of a file
+pub listed-in : (file : List ℕ) (space size n : ℕ) → listedAnswer file space size ≡ Text n → ListedIn (textOf file) space size n
+unfolding listedAnswer
+listed-in file space size n e = checked-in (textOf file) space size n e
 
 -- its first n bytes are the text
 pub listed-whole : (file : List ℕ) (space : ℕ) (text : List ℕ) (n : ℕ) → listedAnswer file space (length text) ≡ Text n → take n (listedText file space text) ≡ textOf file
-listed-whole file space text n e = rw (listed-over file space text n e, ← listed-in file space (length text) n e .size-is) (take-over (textOf file) text)
+unfolding listedText
+listed-whole file space text n e =
+    let listed = listed-in file space (length text) n e in
+    ap (take n) (checked-goes space (length text) (λ r. text) (over (textOf file) text) (listed .enough) (listed .room))
+    ∙ ap (λ (k : ℕ). take k (over (textOf file) text)) (sym (listed .size-is))
+    ∙ take-over (textOf file) text
 
 -- the text fits its slice
 pub listed-fits : (file : List ℕ) (space : ℕ) (text text′ : List ℕ) (n : ℕ) → text′ ≡ listedText file space text → listedAnswer file space (length text) ≡ Text n → n ≤ length text′
-listed-fits file space text text′ n t e =
-    let is = listed-in file space (length text) n e .size-is in
-    let whole = ap length (t ∙ listed-over file space text n e ∙ over-with (textOf file) text) ∙ length-append (textOf file) (drop (length (textOf file)) text) in
-    omega arith
+unfolding listedAnswer listedText
+listed-fits file space text text′ n t e = checked-fits (textOf file) space text text′ n t e

@@ -22,8 +22,8 @@ pub enum Listed {
     Refused(Refusal),
 }
 
-// The one line of a refused file (FORMAT 7.17).
-fn write_refused(text: &mut [u8], refusal: Refusal) -> usize
+// The one line of a refused file, or of a refused query (FORMAT 7.17, 7.24).
+pub fn write_refused(text: &mut [u8], refusal: Refusal) -> usize
     requires { ⌜ 11 ≤ length (now text) ⌝ }
     ensures { λ r. ⌜ Wrote 0 ((114 ∷ 101 ∷ 102 ∷ 117 ∷ 115 ∷ 101 ∷ 100 ∷ 32 ∷ []) ++ decimal (numberOf refusal) ++ newline) (now (text .entry)) (now (text .exit)) r ⌝ }
 {

@@ -4,3 +4,4 @@ pub mod Legal
 pub mod Reading
 pub mod NodeSequence
 pub mod Enough
+pub mod NodeBytes

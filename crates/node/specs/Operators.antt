@@ -19,3 +19,15 @@ binaryOf code = cond (eqb code 1) Union (cond (eqb code 2) Difference (cond (eqb
 -- FORMAT 1.4: the operator of a code of map 26
 unfoldable pub setOpOf : ℕ → SetOp
 setOpOf code = cond (eqb code 5) Selection Projection
+
+-- FORMAT 1.4: the code of an operator of map 14
+abbrev pub binaryCode : BinaryOp → ℕ
+binaryCode Union = 1
+binaryCode Difference = 2
+binaryCode Join = 3
+binaryCode Product = 4
+
+-- FORMAT 1.4: the code of an operator of map 26
+abbrev pub setCode : SetOp → ℕ
+setCode Selection = 5
+setCode Projection = 6

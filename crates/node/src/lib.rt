@@ -9,5 +9,7 @@ pub use nodes::Decoding;
 pub use nodes::Node;
 pub use nodes::Reading;
 pub use nodes::SetOp;
+pub use nodes::binary_code;
 pub use nodes::binary_operator;
+pub use nodes::set_code;
 pub use nodes::set_operator;

@@ -1,6 +1,6 @@
 // Nodes of an expression, operators by their codes (FORMAT 1.4), and what reading a node gives.
 ghost use mathlib.Core.Path.{_≡_};
-ghost use Rattle.node.specs.Operators.{binaryOf, setOpOf};
+ghost use Rattle.node.specs.Operators.{binaryOf, setOpOf, binaryCode, setCode};
 use attribute_set::AttrSet;
 use refusal::Refusal;
 
@@ -51,6 +51,28 @@ pub fn set_operator(code: u8) -> SetOp
     match code {
         5 => SetOp::Selection,
         _ => SetOp::Projection,
+    }
+}
+
+// The code of an operator of map 14.
+pub fn binary_code(op: BinaryOp) -> u8
+    ensures { λ r. ⌜ r ≡ binaryCode op ⌝ }
+{
+    match op {
+        BinaryOp::Union => 1,
+        BinaryOp::Difference => 2,
+        BinaryOp::Join => 3,
+        BinaryOp::Product => 4,
+    }
+}
+
+// The code of an operator of map 26.
+pub fn set_code(op: SetOp) -> u8
+    ensures { λ r. ⌜ r ≡ setCode op ⌝ }
+{
+    match op {
+        SetOp::Selection => 5,
+        SetOp::Projection => 6,
     }
 }
 

@@ -4,24 +4,9 @@ use Rattle.attribute_set.specs.AttrSet.{bitsOf}
 use Rattle.refusal.specs.Number.{numberOf}
 use Rattle.node.specs.declared.nodes.Reading.{Reading}
 use Rattle.node.specs.declared.nodes.Reading.the-variants.{Read, Refused}
-use Rattle.node.specs.declared.nodes.BinaryOp.{BinaryOp}
-use Rattle.node.specs.declared.nodes.BinaryOp.the-variants.{Union, Difference, Join, Product}
-use Rattle.node.specs.declared.nodes.SetOp.{SetOp}
-use Rattle.node.specs.declared.nodes.SetOp.the-variants.{Selection, Projection}
 use Rattle.node.specs.declared.nodes.Node.{Node}
 use Rattle.node.specs.declared.nodes.Node.the-variants.{Relation, Binary, WithSet, Renaming, ProjectingOut}
-
--- FORMAT 1.4: the code of an operator of map 14
-abbrev pub binaryNumber : BinaryOp → ℕ
-binaryNumber Union = 1
-binaryNumber Difference = 2
-binaryNumber Join = 3
-binaryNumber Product = 4
-
--- FORMAT 1.4: the code of an operator of map 26
-abbrev pub setNumber : SetOp → ℕ
-setNumber Selection = 5
-setNumber Projection = 6
+use Rattle.node.specs.Operators.{binaryCode, setCode}
 
 -- five bytes, low first
 unfoldable pub wordOf : ℕ → ℕ → ℕ → ℕ → ℕ → ℕ
@@ -30,8 +15,8 @@ wordOf a b c d e = a + b * 256 + c * 65536 + d * 16777216 + e * 4294967296
 -- FORMAT 7.19: a node's map and its fields in bit order
 unfoldable pub nodeWord : Node → ℕ
 nodeWord (Relation r) = wordOf 1 r 0 0 0
-nodeWord (Binary op l r) = wordOf 14 l r (binaryNumber op) 0
-nodeWord (WithSet op e s) = wordOf 26 e (setNumber op) (bitsOf s % 256) (bitsOf s / 256)
+nodeWord (Binary op l r) = wordOf 14 l r (binaryCode op) 0
+nodeWord (WithSet op e s) = wordOf 26 e (setCode op) (bitsOf s % 256) (bitsOf s / 256)
 nodeWord (Renaming e old new) = wordOf 98 e old new 0
 nodeWord (ProjectingOut e old) = wordOf 34 e old 0 0
 

@@ -1,32 +1,10 @@
 // A node in a machine word: its map and its fields in bit order, a byte each (FORMAT 7.19).
 ghost use mathlib.Core.Path.{_≡_};
 ghost use Prim.Native.Nat.{_<_, _^_};
-ghost use Rattle.node_word.specs.NodeWord.{binaryNumber, setNumber, wordOf, nodeWord, readWord};
-use node::BinaryOp;
+ghost use Rattle.node_word.specs.NodeWord.{wordOf, nodeWord, readWord};
 use node::Node;
-use node::SetOp;
-
-// The code of an operator of map 14.
-fn binary_number(op: BinaryOp) -> u8
-    ensures { λ r. ⌜ r ≡ binaryNumber op ⌝ }
-{
-    match op {
-        BinaryOp::Union => 1,
-        BinaryOp::Difference => 2,
-        BinaryOp::Join => 3,
-        BinaryOp::Product => 4,
-    }
-}
-
-// The code of an operator of map 26.
-fn set_number(op: SetOp) -> u8
-    ensures { λ r. ⌜ r ≡ setNumber op ⌝ }
-{
-    match op {
-        SetOp::Selection => 5,
-        SetOp::Projection => 6,
-    }
-}
+use node::binary_code;
+use node::set_code;
 
 // Five bytes, low first.
 fn word(a: u8, b: u8, c: u8, d: u8, e: u8) -> u64
@@ -43,13 +21,13 @@ fn node_word(node: Node) -> u64
 {
     match node {
         Node::Relation(relation) => word(1, relation, 0, 0, 0),
-        Node::Binary(op, left, right) => word(14, left, right, binary_number(op), 0),
+        Node::Binary(op, left, right) => word(14, left, right, binary_code(op), 0),
         Node::WithSet(op, operand, set) => {
             let bits = set.to_bits();
             word(
                 26,
                 operand,
-                set_number(op),
+                set_code(op),
                 (bits % 256) as u8,
                 (bits / 256) as u8,
             )

@@ -7,7 +7,7 @@ use lib.ListN.{getD}
 use Rattle.refusal.specs.declared.Refusal.{Refusal}
 use Rattle.refusal.specs.declared.Refusal.the-variants.{HeaderTruncated, RelationCount, NodeCount, NodeTruncated, NodeMap, OperatorCode, RelationNumber, Operand, Attribute, NodesFollowed}
 use Rattle.refusal.specs.declared.Refusal.the-variants.{NodeNumber, WorkSpace, ResultSlice, InputTruncated, CountZero, ListedAttribute, InputFollowed, TooManyAttributes, RepeatedAttribute}
-use Rattle.refusal.specs.declared.Refusal.the-variants.{TypeVariable, SpecialSubset}
+use Rattle.refusal.specs.declared.Refusal.the-variants.{TypeVariable, SpecialSubset, QuerySyntax, QueryLength, QueryNodes}
 
 -- FORMAT 8.1: the number of each name
 abbrev pub numberOf : Refusal → ℕ
@@ -32,13 +32,16 @@ numberOf TooManyAttributes = 18
 numberOf RepeatedAttribute = 19
 numberOf TypeVariable = 20
 numberOf SpecialSubset = 21
+numberOf QuerySyntax = 22
+numberOf QueryLength = 23
+numberOf QueryNodes = 24
 
 -- the table's rows, first to last
 table : List Refusal
 table =
     HeaderTruncated ∷ RelationCount ∷ NodeCount ∷ NodeTruncated ∷ NodeMap ∷ OperatorCode ∷ RelationNumber ∷ Operand ∷ Attribute ∷
     NodesFollowed ∷ NodeNumber ∷ WorkSpace ∷ ResultSlice ∷ InputTruncated ∷ CountZero ∷ ListedAttribute ∷ InputFollowed ∷
-    TooManyAttributes ∷ RepeatedAttribute ∷ TypeVariable ∷ SpecialSubset ∷ []
+    TooManyAttributes ∷ RepeatedAttribute ∷ TypeVariable ∷ SpecialSubset ∷ QuerySyntax ∷ QueryLength ∷ QueryNodes ∷ []
 
 -- the refusal with a number
 row : ℕ → Refusal
@@ -67,13 +70,16 @@ number-row TooManyAttributes = refl
 number-row RepeatedAttribute = refl
 number-row TypeVariable = refl
 number-row SpecialSubset = refl
+number-row QuerySyntax = refl
+number-row QueryLength = refl
+number-row QueryNodes = refl
 
 -- no two refusals have one number
 pub number-once : (a b : Refusal) → numberOf a ≡ numberOf b → a ≡ b
 number-once a b e = sym (number-row a) ∙ ap row e ∙ number-row b
 
--- they are 1 to 21
-number-range : (r : Refusal) → (1 ≤ numberOf r) × (numberOf r ≤ 21)
+-- they are 1 to 24
+number-range : (r : Refusal) → (1 ≤ numberOf r) × (numberOf r ≤ 24)
 number-range HeaderTruncated = (lit≤ tt, lit≤ tt)
 number-range RelationCount = (lit≤ tt, lit≤ tt)
 number-range NodeCount = (lit≤ tt, lit≤ tt)
@@ -95,10 +101,13 @@ number-range TooManyAttributes = (lit≤ tt, lit≤ tt)
 number-range RepeatedAttribute = (lit≤ tt, lit≤ tt)
 number-range TypeVariable = (lit≤ tt, lit≤ tt)
 number-range SpecialSubset = (lit≤ tt, lit≤ tt)
+number-range QuerySyntax = (lit≤ tt, lit≤ tt)
+number-range QueryLength = (lit≤ tt, lit≤ tt)
+number-range QueryNodes = (lit≤ tt, lit≤ tt)
 
 -- 0 is no refusal's number
 pub number-positive : (r : Refusal) → 1 ≤ numberOf r
 number-positive r = number-range r .0
 
-pub number-most : (r : Refusal) → numberOf r ≤ 21
+pub number-most : (r : Refusal) → numberOf r ≤ 24
 number-most r = number-range r .1

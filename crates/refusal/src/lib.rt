@@ -45,6 +45,12 @@ pub enum Refusal {
     TypeVariable,
     // a special attribute's subset is not allowed in its column
     SpecialSubset,
+    // a text is no query
+    QuerySyntax,
+    // a query's text has more than 512 bytes
+    QueryLength,
+    // a query has more than 64 nodes
+    QueryNodes,
 }
 
 impl Refusal {
@@ -74,6 +80,9 @@ impl Refusal {
             Refusal::RepeatedAttribute => 19,
             Refusal::TypeVariable => 20,
             Refusal::SpecialSubset => 21,
+            Refusal::QuerySyntax => 22,
+            Refusal::QueryLength => 23,
+            Refusal::QueryNodes => 24,
         }
     }
 }

@@ -2,6 +2,7 @@
 // pointer and then a length.
 mod formulas;
 mod instantiations;
+mod queries;
 mod schemas;
 
 ghost use mathlib.Core.Path.{_≡_};

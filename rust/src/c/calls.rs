@@ -3,8 +3,8 @@
 
 use super::{
     type_formula_accept, type_formula_apply, type_formula_formula, type_formula_lowest_verdict,
-    type_formula_read_node, type_formula_record, type_formula_recover, type_formula_typing,
-    type_formula_verdict,
+    type_formula_parse_query, type_formula_read_node, type_formula_record, type_formula_recover,
+    type_formula_typing, type_formula_verdict,
 };
 
 /// The lengths that Apply writes.
@@ -146,6 +146,20 @@ pub fn recover(
             instantiation.as_mut_ptr(),
             instantiation.len(),
             value,
+        )
+    }
+}
+
+pub fn parse_query(relations: u8, text: &[u8], file: &mut [u8], size: &mut usize) -> u8 {
+    // SAFETY: as in `accept`.
+    unsafe {
+        type_formula_parse_query(
+            relations,
+            text.as_ptr(),
+            text.len(),
+            file.as_mut_ptr(),
+            file.len(),
+            size,
         )
     }
 }

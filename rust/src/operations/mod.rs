@@ -3,9 +3,11 @@
 mod files;
 mod formulas;
 mod instantiations;
+mod queries;
 mod schemas;
 
 pub use files::{accept, read_node, record};
 pub use formulas::{formula, lowest_verdict, verdict, LowestVerdict, Verdict};
 pub use instantiations::{apply, recover, Application, Recovery};
+pub use queries::parse_query;
 pub use schemas::{typing, Typing};

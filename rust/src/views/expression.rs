@@ -4,8 +4,8 @@ use core::fmt::{self, Display, Formatter};
 
 use crate::{read_node, Node};
 
-/// An accepted expression file (FORMAT, section 1), which [`accept`](crate::accept) gives. Its text
-/// has a line for each node.
+/// An accepted expression file (FORMAT, section 1), which [`accept`](crate::accept) and
+/// [`parse_query`](crate::parse_query) give. Its text has a line for each node.
 ///
 /// ```
 /// use type_formula::{accept, Refusal};
@@ -27,7 +27,7 @@ pub struct Expression<'a> {
 }
 
 impl<'a> Expression<'a> {
-    /// The view of bytes that an operation accepted.
+    /// The view of bytes that an operation accepted or wrote as an expression file.
     pub(crate) fn of_accepted(bytes: &'a [u8]) -> Self {
         Expression { bytes }
     }

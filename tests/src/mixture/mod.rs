@@ -3,16 +3,18 @@
 
 mod files;
 mod instantiations;
+mod queries;
 mod schemas;
 
 use std::rc::Rc;
 
 use self::files::Files;
+use self::queries::Queries;
 use crate::answer::{Answer, Operation, OPERATIONS};
 use crate::input::Input;
 use crate::paired_calls::{Difference, PairedCalls};
 use crate::pseudorandom::Random;
-use crate::reference::{read_file, Order, OUTPUT_LENGTH, SCHEMA_LENGTH};
+use crate::reference::{read_file, Order, FILE_LENGTH, OUTPUT_LENGTH, SCHEMA_LENGTH};
 use crate::slice_lengths::{least_for_apply, least_for_recover};
 
 /// The seed of what fills lent slices.
@@ -22,6 +24,7 @@ const NOISE_SEED: u64 = 110;
 pub struct Mixture {
     calls: PairedCalls,
     files: Files,
+    queries: Queries,
     /// How many accepted files of m 8 and n 64 had their formulas inferred or were typed.
     pub greatest: u64,
 }
@@ -62,6 +65,7 @@ impl Mixture {
         Mixture {
             calls: PairedCalls::new(NOISE_SEED),
             files: Files::new(),
+            queries: Queries::new(),
             greatest: 0,
         }
     }
@@ -81,6 +85,7 @@ impl Mixture {
             Operation::Typing => self.typing(&mut random),
             Operation::Apply => self.apply(&mut random),
             Operation::Recover => self.recover(&mut random),
+            Operation::ParseQuery => self.parse_query(&mut random),
         }
     }
 
@@ -159,6 +164,17 @@ impl Mixture {
         let (input, node, schema) = self.with_schema(random);
         let lengths = lengths(random, least_for_recover(&input));
         number(self.calls.recover(&input, node, &schema, lengths))
+    }
+
+    /// A number of relations and a text that is often a query.
+    pub fn query(&mut self, random: &mut Random) -> (u8, Vec<u8>) {
+        self.queries.query(random)
+    }
+
+    fn parse_query(&mut self, random: &mut Random) -> Result<u8, Difference> {
+        let (relations, text) = self.query(random);
+        let [length] = lengths(random, [FILE_LENGTH]);
+        number(self.calls.parse_query(relations, &text, length))
     }
 }
 

@@ -4,6 +4,7 @@
 mod files;
 mod formulas;
 mod instantiations;
+mod queries;
 mod typing;
 
 use std::fmt::Debug;
@@ -26,6 +27,7 @@ pub struct PairedCalls {
     schema: Lent,
     out: Lent,
     instantiation: Lent,
+    file: Lent,
 }
 
 impl PairedCalls {
@@ -40,6 +42,7 @@ impl PairedCalls {
             schema: Lent::default(),
             out: Lent::default(),
             instantiation: Lent::default(),
+            file: Lent::default(),
         }
     }
 

@@ -24,6 +24,9 @@ pub const TOO_MANY_ORDINARY_ATTRIBUTES: u8 = 18;
 pub const ATTRIBUTE_IN_TWO_LISTS: u8 = 19;
 pub const STANDING_BIT_NO_TYPE_VARIABLE: u8 = 20;
 pub const SUBSET_NOT_ALLOWED: u8 = 21;
+pub const TEXT_NOT_IN_LANGUAGE: u8 = 22;
+pub const TEXT_TOO_LONG: u8 = 23;
+pub const TOO_MANY_NODES: u8 = 24;
 
 /// The five legal bit maps of a node.
 pub const RELATION_MAP: u8 = 1;

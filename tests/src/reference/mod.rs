@@ -1,10 +1,11 @@
-//! The other implementation, written plainly from document 01.
+//! The other implementation, written plainly from documents 01 and 02.
 
 mod apply;
 mod expression;
 mod formula;
 mod instantiation;
 mod listing;
+mod query;
 mod recover;
 mod rules;
 mod schema;
@@ -20,7 +21,8 @@ pub use expression::{
     NODE_NOT_BELOW_COUNT, OPERAND_NOT_EARLIER, PAIR_MAP, PROJECTING_OUT_MAP,
     RELATION_COUNT_OUTSIDE_RANGE, RELATION_MAP, RELATION_NOT_BELOW_COUNT, RENAMING_MAP,
     RESULT_SLICE_TOO_SHORT, SET_MAP, STANDING_BIT_NO_TYPE_VARIABLE, SUBSET_NOT_ALLOWED,
-    TOO_MANY_ORDINARY_ATTRIBUTES, WORK_SPACE_TOO_SHORT,
+    TEXT_NOT_IN_LANGUAGE, TEXT_TOO_LONG, TOO_MANY_NODES, TOO_MANY_ORDINARY_ATTRIBUTES,
+    WORK_SPACE_TOO_SHORT,
 };
 pub use formula::{
     allowed_subsets, formula, formulas, infer, is_allowed, is_output, type_variables, Formula,
@@ -28,6 +30,7 @@ pub use formula::{
 };
 pub use instantiation::{encode_instantiation, read_instantiation, Instantiation, LISTS_START};
 pub use listing::listing;
+pub use query::{parse_query, ParseQuery, FILE_LENGTH, LONGEST_TEXT};
 pub use recover::{recover, Recover, INSTANTIATION_LENGTH};
 pub use rules::{assignment_of, holders, type_of, Type};
 pub use schema::{encode_record, encode_schema, read_schema};

@@ -4,6 +4,7 @@
 mod files;
 mod formulas;
 mod instantiations;
+mod queries;
 mod typing;
 
 pub use formulas::FAR_TOO_LONG;
@@ -12,7 +13,7 @@ use crate::answer::{Answer, Counts, Operation, NO_TYPE, RESULT};
 use crate::input::Input;
 use crate::paired_calls::{Difference, PairedCalls};
 use crate::pseudorandom::Random;
-use crate::reference::{Apply, File, Order, Recover, Typing, Verdict};
+use crate::reference::{Apply, File, Order, ParseQuery, Recover, Typing, Verdict};
 
 /// The calls of a test and the counts of their answers.
 pub struct TestRun {
@@ -98,6 +99,11 @@ impl TestRun {
     ) -> Recover {
         let compared = self.calls.recover(input, node, schema, lengths);
         self.made(Operation::Recover, compared)
+    }
+
+    pub fn parse_query(&mut self, relations: u8, text: &[u8], length: usize) -> ParseQuery {
+        let compared = self.calls.parse_query(relations, text, length);
+        self.made(Operation::ParseQuery, compared)
     }
 
     /// Asserts that the operation gave each of these answers at least so often.

@@ -6,7 +6,9 @@ use std::path::{Path, PathBuf};
 use std::process::{Command, Output};
 
 use type_formula::{c, Refusal};
+use type_formula_tests::examples::{e1, to_hexadecimal};
 use type_formula_tests::formula_examples::formula_examples;
+use type_formula_tests::query_examples::E1_TEXT;
 
 const HEADER: &str = include_str!("../../../include/type_formula.h");
 const C: [&str; 2] = ["gcc", "-std=c99"];
@@ -116,6 +118,7 @@ fn constants_of_crate() -> Vec<(String, usize)> {
         ("MOST_RELATIONS", type_formula::MOST_RELATIONS),
         ("MOST_NODES", type_formula::MOST_NODES),
         ("LONGEST_FILE", type_formula::LONGEST_FILE),
+        ("LONGEST_QUERY", type_formula::LONGEST_QUERY),
         ("FORMULA_SIZE", type_formula::FORMULA_SIZE),
         ("WORK_SIZE", type_formula::WORK_SIZE),
         ("OUTPUT_SIZE", type_formula::OUTPUT_SIZE),
@@ -175,7 +178,7 @@ fn the_header_has_the_constants_of_the_crate() {
     let wanted: BTreeSet<String> = wanted
         .map(|(name, value)| format!("{name} {value}"))
         .collect();
-    assert_eq!(wanted.len(), 35);
+    assert_eq!(wanted.len(), 39);
     assert_eq!(given, wanted);
 }
 
@@ -201,6 +204,51 @@ fn the_header_has_the_texts_of_the_crate() {
         Err(_) => format!("{number} no refusal\n"),
     });
     assert_eq!(printed, wanted.collect::<String>());
+}
+
+/// Prints the bytes of the file of each query, or what its refusal says.
+const QUERIES: &str = "\
+#include <stdio.h>
+#include <string.h>
+#include \"type_formula.h\"
+
+int main(int count, char **arguments)
+{
+    uint8_t file[TYPE_FORMULA_LONGEST_FILE];
+    size_t size, i;
+    int place;
+    for (place = 1; place < count; place++) {
+        const char *text = arguments[place];
+        uint8_t answer = type_formula_parse_query(3, (const uint8_t *)text, strlen(text), file,
+                                                  sizeof file, &size);
+        if (answer != 0) {
+            printf(\"refused %d: %s\\n\", answer, type_formula_refusal_text(answer));
+            continue;
+        }
+        for (i = 0; i < size; i++)
+            printf(\"%02x%c\", file[i], i + 1 < size ? ' ' : '\\n');
+    }
+    return 0;
+}
+";
+
+#[test]
+fn queries_are_parsed_from_c() {
+    let program = compile_text(C, QUERIES, "queries.c");
+    let long = "r".repeat(type_formula::LONGEST_QUERY + 1);
+    let nodes = "P[]".repeat(type_formula::MOST_NODES) + "r0";
+    let texts = [E1_TEXT, "S[2,1]r0", &long, &nodes, "r3", "D[0]r0"];
+    let printed = text(run(&program, &texts.map(Path::new)), 0);
+    let refusals = [
+        Refusal::QuerySyntax,
+        Refusal::QueryLength,
+        Refusal::QueryNodes,
+        Refusal::RelationNumber,
+        Refusal::Attribute,
+    ];
+    let refused = |refusal: Refusal| format!("refused {}: {refusal}\n", refusal.number());
+    let wanted = to_hexadecimal(&e1().bytes) + "\n";
+    assert_eq!(printed, wanted + &refusals.map(refused).concat());
 }
 
 /// The header twice, and a call, so that the name is looked up as one of C.

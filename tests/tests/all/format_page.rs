@@ -1,9 +1,10 @@
 //! The page `docs/FORMAT.md` against the engine and the crate: the examples of section 10, with
-//! their files, texts, columns and verdicts, and the clauses that the refusals' texts name.
+//! their files, queries, texts, columns and verdicts, and the clauses that the refusals' texts
+//! name.
 
 use type_formula::{
-    accept, formula, lowest_verdict, verdict, Formula, LowestVerdict, Refusal, Verdict,
-    SCHEMA_SIZE, WORK_SIZE,
+    accept, formula, lowest_verdict, parse_query, verdict, Expression, Formula, LowestVerdict,
+    Refusal, Verdict, LONGEST_FILE, SCHEMA_SIZE, WORK_SIZE,
 };
 use type_formula_tests::examples::{e1, from_hexadecimal};
 
@@ -12,6 +13,7 @@ const FORMAT: &str = include_str!("../../../docs/FORMAT.md");
 /// The clauses of section 10, each from its number on.
 fn clauses() -> Vec<&'static str> {
     let (_, section) = FORMAT.split_once("\n## 10 ").expect("section 10");
+    let section = section.split("\n## ").next().expect("a section");
     section.split("\n- **10.").skip(1).collect()
 }
 
@@ -96,9 +98,21 @@ fn assert_verdicts(clause: &str, file: &[u8], node: usize) -> usize {
     2
 }
 
+/// Asserts that the query that a clause names is that of its file; gives how many there are.
+fn assert_query(clause: &str, wanted: &[u8]) -> usize {
+    let Some(text) = between(clause, "Query: `", &['`']).next() else {
+        return 0;
+    };
+    let mut file = [0; LONGEST_FILE];
+    let given = parse_query(wanted[0], text, &mut file);
+    assert_eq!(given.map(Expression::bytes), Ok(wanted), "{clause}");
+    1
+}
+
 #[test]
 fn the_examples_of_the_format_are_what_the_engine_gives() {
     let (mut files, mut texts, mut columns, mut verdicts) = (0, 0, 0, 0);
+    let mut queries = 0;
     for clause in clauses() {
         let Some(file) = bytes_after(clause, "File:") else {
             continue;
@@ -112,11 +126,14 @@ fn the_examples_of_the_format_are_what_the_engine_gives() {
             assert_eq!(formula.to_string(), text);
             texts += 1;
         }
+        queries += assert_query(clause, &file);
         columns += assert_columns(clause, formula);
         verdicts += assert_verdicts(clause, &file, node);
     }
-    println!("{files} files, {texts} texts, {columns} columns, {verdicts} verdicts");
+    println!("{files} files, {queries} queries, {texts} texts, {columns} columns");
+    println!("{verdicts} verdicts");
     assert!(files >= 8 && texts >= 2 && columns >= 40 && verdicts >= 16);
+    assert!(queries >= 6, "{queries} queries");
 }
 
 #[test]
@@ -133,7 +150,7 @@ fn named_clauses(text: &str) -> impl Iterator<Item = &str> {
 
 #[test]
 fn refusals_have_their_names_in_the_format_and_name_its_clauses() {
-    for number in 1..=21 {
+    for number in 1..=24 {
         let refusal = Refusal::try_from(number).expect("a refusal");
         let row = format!("\n| {number} | `{refusal:?}` |");
         assert!(FORMAT.contains(&row), "{row}");

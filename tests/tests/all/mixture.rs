@@ -6,7 +6,7 @@ use type_formula_tests::answer::{
 use type_formula_tests::mixture::{operation_of, Mixture};
 
 /// How many inputs are compared.
-const INPUTS: u64 = 45_000;
+const INPUTS: u64 = 50_000;
 
 /// The refusals that an operation can give.
 fn refusals(operation: Operation) -> Vec<u8> {
@@ -18,8 +18,9 @@ fn refusals(operation: Operation) -> Vec<u8> {
         Operation::Formula => refusal <= 10 || refusal == 12,
         Operation::Verdict | Operation::LowestVerdict => refusal <= 13,
         Operation::Typing => refusal <= 18 && refusal != 12,
-        Operation::Apply => true,
+        Operation::Apply => refusal <= 21,
         Operation::Recover => refusal <= 18,
+        Operation::ParseQuery => matches!(refusal, 2 | 7 | 9 | 13 | 22..),
     };
     all.filter(can_give).collect()
 }

@@ -2,9 +2,9 @@
 //! on the same inputs the same answers, and the same bytes in every slice.
 
 use type_formula::{
-    accept, apply, formula, lowest_verdict, read_node, record, recover, typing, verdict, BinaryOp,
-    LowestVerdict, Node, Recovery, Refusal, SetOp, Typing, Verdict, INSTANTIATION_SIZE,
-    OUTPUT_SIZE, SCHEMA_SIZE, WORK_SIZE,
+    accept, apply, formula, lowest_verdict, parse_query, read_node, record, recover, typing,
+    verdict, BinaryOp, LowestVerdict, Node, Recovery, Refusal, SetOp, Typing, Verdict,
+    INSTANTIATION_SIZE, LONGEST_FILE, OUTPUT_SIZE, SCHEMA_SIZE, WORK_SIZE,
 };
 use type_formula_tests::engine::{self, Found, Lengths, UNTYPABLE, UNTYPED};
 use type_formula_tests::examples::to_hexadecimal;
@@ -107,7 +107,7 @@ fn work_space(random: &mut Random) -> Vec<u8> {
 struct Counts {
     results: usize,
     without: usize,
-    refusals: [usize; 22],
+    refusals: [usize; 25],
 }
 
 impl Counts {
@@ -117,7 +117,7 @@ impl Counts {
         let mut counts = Counts {
             results: 0,
             without: 0,
-            refusals: [0; 22],
+            refusals: [0; 25],
         };
         for _ in 0..INPUTS {
             let input = Input::new(&mut random);
@@ -420,4 +420,29 @@ fn recover_is_as_in_c() {
     });
     assert!(counts.without > 0);
     counts.assert_met(&[4, 5, 10, 11, 12, 13, 14, 15, 16, 17]);
+}
+
+#[test]
+fn parse_query_is_as_in_c() {
+    let counts = Counts::of(10, |random, _| {
+        let relations = random.between(0, 9);
+        let mut text = random.any_query(relations.clamp(1, 8)).text().into_bytes();
+        for _ in 0..random.below(2) {
+            random.disturb_text(&mut text);
+        }
+        let mut file = slice(random, LONGEST_FILE);
+        let (mut wanted_file, mut size) = (file.clone(), 0);
+        let answer = engine::parse_query(relations, &text, &mut wanted_file, &mut size);
+        let wanted = match answer {
+            0 => Ok(&wanted_file[..size]),
+            number => Err(refusal(number)),
+        };
+        let given = parse_query(relations, &text, &mut file);
+        let given = given.map(|query| query.bytes());
+        let text = String::from_utf8_lossy(&text);
+        assert_eq!(given, wanted, "{text}");
+        assert!(file == wanted_file, "{text}");
+        answer
+    });
+    counts.assert_met(&[2, 7, 9, 13, 22, 23, 24]);
 }

@@ -2,9 +2,9 @@
 
 use std::hint::black_box;
 
-use type_formula_tests::answer::{Answer, NO_TYPE, RESULT};
+use type_formula_tests::answer::Answer;
 use type_formula_tests::engine::{self, Found, Lengths};
-use type_formula_tests::reference::{self, Apply, Recover, Typing, Verdict};
+use type_formula_tests::reference::{self, Apply, ParseQuery, Recover, Typing, Verdict};
 
 use crate::settings::Setting;
 use crate::slices::{Paged, Parts, Slices};
@@ -18,16 +18,33 @@ pub enum Operation {
     Typing,
     Apply,
     Recover,
+    ParseQuery,
 }
 
-pub const OPERATIONS: [Operation; 6] = [
+/// All operations; parsing a query is the last.
+pub const OPERATIONS: [Operation; 7] = [
     Operation::Formula,
     Operation::Verdict,
     Operation::LowestVerdict,
     Operation::Typing,
     Operation::Apply,
     Operation::Recover,
+    Operation::ParseQuery,
 ];
+
+impl Operation {
+    pub fn name(self) -> &'static str {
+        match self {
+            Operation::Formula => "Formula",
+            Operation::Verdict => "Verdict",
+            Operation::LowestVerdict => "Verdict by lowest subsets",
+            Operation::Typing => "Typing",
+            Operation::Apply => "Apply",
+            Operation::Recover => "Recover",
+            Operation::ParseQuery => "Parse a query",
+        }
+    }
+}
 
 /// What makes a call: the engine, the reference, the code written by hand for speed, or a
 /// copy of the bytes that they write, by the C library or by a loop over 64-bit words.
@@ -169,6 +186,25 @@ fn recover(
     [recover.number().into(), length, 0]
 }
 
+fn parse_query_by_engine(of: &Setting, slices: Parts) -> [usize; 3] {
+    let (text, mut size) = (black_box(&of.text), 0);
+    let answer = engine::parse_query(of.file[0], text, slices.file, &mut size);
+    [answer.into(), size, 0]
+}
+
+fn parse_query(
+    by: impl Fn(u8, &[u8], &mut [u8]) -> ParseQuery,
+    of: &Setting,
+    slices: Parts,
+) -> [usize; 3] {
+    let parsed = by(of.file[0], black_box(&of.text), slices.file);
+    let length = match parsed {
+        ParseQuery::Parsed { length } => length,
+        ParseQuery::Refused { .. } => 0,
+    };
+    [parsed.number().into(), length, 0]
+}
+
 /// The call by an implementation; none for a copy.
 fn one_call(operation: Operation, by: By) -> Option<OneCall> {
     let call: OneCall = match (operation, by) {
@@ -194,13 +230,20 @@ fn one_call(operation: Operation, by: By) -> Option<OneCall> {
         (Operation::Recover, By::Engine) => recover_by_engine,
         (Operation::Recover, By::Reference) => |of, slices| recover(reference::recover, of, slices),
         (Operation::Recover, By::Words) => |of, slices| recover(words::recover, of, slices),
+        (Operation::ParseQuery, By::Engine) => parse_query_by_engine,
+        (Operation::ParseQuery, By::Reference) => {
+            |of, slices| parse_query(reference::parse_query, of, slices)
+        }
+        (Operation::ParseQuery, By::Words) => {
+            |of, slices| parse_query(words::parse_query, of, slices)
+        }
         _ => return None,
     };
     Some(call)
 }
 
 /// The length of the copy beside an operation: the bytes that it writes, the formulas among
-/// them; for Typing those of the schema, which it reads, too.
+/// them; for Typing those of the schema and for a query those of its text, which they read, too.
 fn copied_length(operation: Operation, setting: &Setting) -> usize {
     let (work, schema) = (setting.work_length(), setting.schema.len());
     match operation {
@@ -208,6 +251,7 @@ fn copied_length(operation: Operation, setting: &Setting) -> usize {
         Operation::Typing => schema + setting.output_length,
         Operation::Apply => work + schema + setting.output_length,
         Operation::Recover => work + setting.instantiation.len(),
+        Operation::ParseQuery => setting.text.len() + setting.file.len(),
     }
 }
 
@@ -248,8 +292,8 @@ pub fn call(operation: Operation, by: By, setting: &Setting) -> Option<Call<'_>>
     }))
 }
 
-/// Asserts that all implementations of the operation give the same answers and bytes: a
-/// result, or untypable where the setting is so.
+/// Asserts that all implementations of the operation give the same answers and bytes: those
+/// of the setting.
 pub fn check(operation: Operation, setting: &Setting) {
     let after = |by| {
         let mut slices = Slices::new();
@@ -257,13 +301,9 @@ pub fn check(operation: Operation, setting: &Setting) {
         Some((slices.answer, slices.bytes().to_vec()))
     };
     let wanted = after(By::Reference).expect("has every operation");
-    let answer = match setting.is_typable() {
-        true => RESULT,
-        false => NO_TYPE,
-    };
     assert_eq!(
         wanted.0[0],
-        answer.into(),
+        setting.answer().into(),
         "{operation:?}, {}",
         setting.name
     );

@@ -1,5 +1,5 @@
 //! The hand-written code compared with the reference on random inputs: valid, damaged,
-//! truncated and extended files, schemas and instantiations, and slices of any length.
+//! truncated and extended files, schemas, instantiations and queries, and slices of any length.
 
 use std::fmt::Debug;
 
@@ -7,7 +7,7 @@ use type_formula_tests::answer::{Answer, Counts, Operation, GREATEST_REFUSAL, NO
 use type_formula_tests::lent::Lent;
 use type_formula_tests::mixture::{lengths, Mixture};
 use type_formula_tests::pseudorandom::Random;
-use type_formula_tests::reference::{self, OUTPUT_LENGTH, SCHEMA_LENGTH};
+use type_formula_tests::reference::{self, FILE_LENGTH, OUTPUT_LENGTH, SCHEMA_LENGTH};
 use type_formula_tests::slice_lengths::{least_for_apply, least_for_recover};
 
 use crate::words;
@@ -117,6 +117,17 @@ impl Checks {
             |[work, result]| words::recover(file, node, &schema, work, result),
         );
     }
+
+    fn parse_query(&mut self) {
+        let (relations, text) = self.mixture.query(&mut self.random);
+        let lengths = lengths(&mut self.random, [FILE_LENGTH]);
+        self.compare(
+            Operation::ParseQuery,
+            lengths,
+            |[file]| reference::parse_query(relations, &text, file),
+            |[file]| words::parse_query(relations, &text, file),
+        );
+    }
 }
 
 /// Asserts that the hand-written code answers as the reference does and leaves the same
@@ -128,6 +139,7 @@ pub fn check_words() {
         checks.typing();
         checks.apply();
         checks.recover();
+        checks.parse_query();
     }
     for answer in (RESULT..=GREATEST_REFUSAL).chain([NO_TYPE]) {
         assert!(checks.counts.of_all(answer) > 0, "no answer {answer}");

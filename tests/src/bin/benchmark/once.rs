@@ -2,8 +2,8 @@
 
 use crate::calls::{call, By, Operation, ALL, OPERATIONS};
 use crate::settings::{
-    e1_with_10_columns, of_attributes, of_nodes, untypable_of_64_nodes, untypable_of_7_nodes,
-    Lists, Setting,
+    e1_query, e1_with_10_columns, of_attributes, of_nodes, query_of_length, query_of_lists,
+    query_of_prefixes, untypable_of_64_nodes, untypable_of_7_nodes, Lists, Setting,
 };
 use crate::slices::Slices;
 
@@ -21,6 +21,17 @@ fn setting(size: &str) -> Option<Setting> {
     })
 }
 
+/// The query of so many bytes; E1 has 24. Or one of 63 prefixes, or of lists.
+fn query(size: &str) -> Option<Setting> {
+    Some(match size {
+        "24" => e1_query(),
+        "32" | "64" | "128" | "256" | "512" => query_of_length(size.parse().ok()?),
+        "191deep" => query_of_prefixes(),
+        "512lists" => query_of_lists(),
+        _ => return None,
+    })
+}
+
 /// Calls the operation `count` times; nothing if an argument is not understood or there is
 /// no such call.
 pub fn run(operation: &str, size: &str, count: &str, by: &str) -> Option<()> {
@@ -28,7 +39,11 @@ pub fn run(operation: &str, size: &str, count: &str, by: &str) -> Option<()> {
     let is_by = |each: &By| format!("{each:?}").eq_ignore_ascii_case(by);
     let operation = OPERATIONS.into_iter().find(is_operation)?;
     let by = ALL.into_iter().find(is_by)?;
-    let (setting, count): (_, u64) = (setting(size)?, count.parse().ok()?);
+    let setting = match operation {
+        Operation::ParseQuery => query(size)?,
+        _ => setting(size)?,
+    };
+    let count: u64 = count.parse().ok()?;
     let (call, mut slices) = (call(operation, by, &setting)?, Slices::new());
     (0..count).for_each(|_| call(&mut slices));
     Some(())

@@ -1,20 +1,25 @@
-//! Files, schemas and instantiations that are measured.
+//! Files, schemas, instantiations and queries that are measured.
 
 use std::collections::HashSet;
 use std::mem::discriminant;
 
+use type_formula_tests::answer::{NO_TYPE, RESULT};
 use type_formula_tests::examples::{e1, e10_nodes, e1_nodes, join_of_eight};
 use type_formula_tests::pseudorandom::Random;
+use type_formula_tests::query_examples::nested;
+use type_formula_tests::query_trees::{relation, Query};
 use type_formula_tests::reference::{
     assignment_of, encode_file, encode_schema, infer, recover, typing, untypable_attribute,
     witness, Node, Order, Recover, Typing, FORMULA_LENGTH, INSTANTIATION_LENGTH, OUTPUT_LENGTH,
 };
 
 /// A file with a schema that types its last node, and the instantiation whose image the
-/// schema is; both are empty where the last node is untypable.
+/// schema is; both are empty where the last node is untypable, and of a query.
 pub struct Setting {
     pub name: String,
     pub file: Vec<u8>,
+    /// The text of a query, whose file it then is; else empty.
+    pub text: Vec<u8>,
     pub last: usize,
     pub schema: Vec<u8>,
     pub instantiation: Vec<u8>,
@@ -28,6 +33,7 @@ impl Setting {
             name: name.into(),
             last: usize::from(file[1]) - 1,
             file,
+            text: Vec::new(),
             schema,
             instantiation: Vec::new(),
             output_length: 0,
@@ -56,14 +62,33 @@ impl Setting {
             name: name.into(),
             last,
             file,
+            text: Vec::new(),
             schema: Vec::new(),
             instantiation: Vec::new(),
             output_length: 0,
         }
     }
 
-    pub fn is_typable(&self) -> bool {
-        !self.schema.is_empty()
+    /// A query for 1 to 8 relations.
+    fn query(kind: &str, relations: u8, query: &Query) -> Self {
+        let (text, count) = (query.text(), query.node_count());
+        Setting {
+            name: format!("{} bytes, n {count}{kind}", text.len()),
+            last: count - 1,
+            file: query.answer(relations).expect("a query"),
+            text: text.into_bytes(),
+            schema: Vec::new(),
+            instantiation: Vec::new(),
+            output_length: 0,
+        }
+    }
+
+    /// What the operations answer: untypable where there is neither a schema nor a text.
+    pub fn answer(&self) -> u8 {
+        match self.schema.is_empty() && self.text.is_empty() {
+            true => NO_TYPE,
+            false => RESULT,
+        }
     }
 
     pub fn work_length(&self) -> usize {
@@ -238,4 +263,41 @@ pub fn of_attributes(nodes: usize, ordinary: u32, lists: Lists) -> Setting {
     let count = nodes.len();
     let name = format!("n {count}, m 8, {ordinary} ordinary attributes, {lists}");
     Setting::new(name, encode_file(8, &nodes), encode_schema(&schema))
+}
+
+/// E1 as text.
+pub fn e1_query() -> Setting {
+    let united = relation(0).renaming(1, 2).pair('+', relation(1));
+    let query = united.pair('*', relation(2)).with_set('S', [2, 3]);
+    Setting::query(" (E1)", 3, &query)
+}
+
+/// A query of 32 bytes for each four nodes: joins of selections of renamed relations.
+pub fn query_of_length(length: u32) -> Setting {
+    let selected = |round: u32, list: [u8; 8]| {
+        let relation = relation(round as u8 % 8);
+        relation.renaming(10, 11).with_set('S', list)
+    };
+    let mut query = selected(0, [1, 2, 3, 4, 5, 6, 8, 9]).projecting_out(9);
+    for round in 1..length / 32 {
+        query = query.pair('*', selected(round, [1, 2, 3, 4, 5, 6, 7, 10]));
+    }
+    assert_eq!(query.text().len(), length as usize, "32 bytes each round");
+    Setting::query("", 8, &query)
+}
+
+/// A query of 512 bytes, most of which are lists.
+pub fn query_of_lists() -> Setting {
+    let mut query = relation(0).renaming(1, 2);
+    query = query.projecting_out(10).projecting_out(11);
+    for _ in 0..13 {
+        query = query.with_set('S', 1..=15);
+    }
+    assert_eq!(query.text().len(), 512);
+    Setting::query(", lists of 15", 8, &query)
+}
+
+/// 63 prefixes, one within the other.
+pub fn query_of_prefixes() -> Setting {
+    Setting::query(", 63 deep", 8, &nested(63))
 }

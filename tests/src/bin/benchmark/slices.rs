@@ -1,13 +1,14 @@
 //! The slices that every call uses again.
 
 use type_formula_tests::reference::{
-    FORMULA_LENGTH, INSTANTIATION_LENGTH, OUTPUT_LENGTH, SCHEMA_LENGTH,
+    FILE_LENGTH, FORMULA_LENGTH, INSTANTIATION_LENGTH, OUTPUT_LENGTH, SCHEMA_LENGTH,
 };
 
 /// The greatest length of a work space.
 const WORK_LENGTH: usize = 64 * FORMULA_LENGTH;
 /// The length of all slices together.
-const LENGTH: usize = WORK_LENGTH + SCHEMA_LENGTH + OUTPUT_LENGTH + INSTANTIATION_LENGTH;
+const LENGTH: usize =
+    WORK_LENGTH + SCHEMA_LENGTH + OUTPUT_LENGTH + INSTANTIATION_LENGTH + FILE_LENGTH;
 const PAGE: usize = 4_096;
 
 /// Bytes that begin at a page.
@@ -51,6 +52,7 @@ pub struct Parts<'a> {
     pub schema: &'a mut [u8],
     pub out: &'a mut [u8],
     pub instantiation: &'a mut [u8],
+    pub file: &'a mut [u8],
 }
 
 impl Slices {
@@ -70,12 +72,14 @@ impl Slices {
     pub fn parts(&mut self, work_length: usize) -> Parts<'_> {
         let (work, rest) = self.bytes().split_at_mut(WORK_LENGTH);
         let (schema, rest) = rest.split_at_mut(SCHEMA_LENGTH);
-        let (out, instantiation) = rest.split_at_mut(OUTPUT_LENGTH);
+        let (out, rest) = rest.split_at_mut(OUTPUT_LENGTH);
+        let (instantiation, file) = rest.split_at_mut(INSTANTIATION_LENGTH);
         Parts {
             work: &mut work[..work_length],
             schema,
             out,
             instantiation,
+            file,
         }
     }
 }

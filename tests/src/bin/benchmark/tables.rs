@@ -4,8 +4,9 @@ use crate::calls::{call, check, By, Call, Operation, ALL, OPERATIONS};
 use crate::checks::check_words;
 use crate::measure::{medians, BATCHES};
 use crate::settings::{
-    e1_with_10_columns, of_attributes, of_nodes, random_of_64_nodes, untypable_of_64_nodes,
-    untypable_of_7_nodes, Lists, Setting,
+    e1_query, e1_with_10_columns, of_attributes, of_nodes, query_of_length, query_of_lists,
+    query_of_prefixes, random_of_64_nodes, untypable_of_64_nodes, untypable_of_7_nodes, Lists,
+    Setting,
 };
 
 /// Prints a row of a markdown table.
@@ -52,16 +53,21 @@ fn print_comparisons() {
         "copy by a 64-bit loop",
     ];
     print_head(title, &names.map(String::from));
+    let (of_file, of_query) = (&OPERATIONS[..6], &OPERATIONS[6..]);
     for (setting, operations) in [
-        (e1_with_10_columns(), &OPERATIONS[..]),
-        (untypable_of_7_nodes(), &OPERATIONS[1..3]),
-        (random_of_64_nodes(), &OPERATIONS[..3]),
-        (untypable_of_64_nodes(), &OPERATIONS[1..3]),
-        (of_attributes(64, 255, Lists::Three), &OPERATIONS[3..]),
-        (of_attributes(64, 255, Lists::OneInEach), &OPERATIONS[3..]),
+        (e1_with_10_columns(), of_file),
+        (untypable_of_7_nodes(), &of_file[1..3]),
+        (random_of_64_nodes(), &of_file[..3]),
+        (untypable_of_64_nodes(), &of_file[1..3]),
+        (of_attributes(64, 255, Lists::Three), &of_file[3..]),
+        (of_attributes(64, 255, Lists::OneInEach), &of_file[3..]),
+        (e1_query(), of_query),
+        (query_of_prefixes(), of_query),
+        (query_of_lists(), of_query),
+        (query_of_length(512), of_query),
     ] {
         for &operation in operations {
-            let front = vec![format!("{operation:?}"), setting.name.clone()];
+            let front = vec![operation.name().to_string(), setting.name.clone()];
             print_row(&[front, compared(operation, &setting)].concat());
         }
     }
@@ -107,7 +113,8 @@ fn both<'a>(operations: &[Operation], settings: &'a [Setting]) -> Vec<Column<'a>
     let mut columns: Vec<Column> = Vec::new();
     for &operation in operations {
         for (name, by) in [("engine", By::Engine), ("hand-written", By::Words)] {
-            columns.push((format!("{operation:?}, {name}"), (operation, by), settings));
+            let name = format!("{}, {name}", operation.name());
+            columns.push((name, (operation, by), settings));
         }
     }
     columns
@@ -125,7 +132,7 @@ fn print_nodes() {
     print_doubling(title, ("n", &counts), &columns);
     let title = "As nodes double, m 8 and 15 ordinary attributes: nanoseconds, and in brackets \
                  the ratio to the row before.";
-    print_doubling(title, ("n", &counts), &both(&OPERATIONS[3..], &settings));
+    print_doubling(title, ("n", &counts), &both(&OPERATIONS[3..6], &settings));
 }
 
 /// The engine and the hand-written code as attributes double, for so many nodes.
@@ -140,9 +147,21 @@ fn print_attributes(nodes: usize) {
             "As ordinary attributes double, n {nodes}, m 8, {name}: nanoseconds, and in \
              brackets the ratio to the row before."
         );
-        let columns = both(&OPERATIONS[3..], &settings);
+        let columns = both(&OPERATIONS[3..6], &settings);
         print_doubling(&title, ("Ordinary attributes", &counts), &columns);
     }
+}
+
+/// The engine, the hand-written code and a copy as the text of a query doubles.
+fn print_texts() {
+    let counts = [32, 64, 128, 256, 512];
+    let settings = counts.map(query_of_length);
+    let mut columns = both(&OPERATIONS[6..], &settings);
+    let copy = (Operation::ParseQuery, By::Copy);
+    columns.push(("copy of text and file".into(), copy, &settings));
+    let title = "As the text of a query doubles, 8 bytes a node: nanoseconds, and in brackets the \
+                 ratio to the row before.";
+    print_doubling(title, ("Bytes", &counts), &columns);
 }
 
 pub fn print_all() {
@@ -155,4 +174,5 @@ pub fn print_all() {
     print_nodes();
     print_attributes(7);
     print_attributes(64);
+    print_texts();
 }

@@ -11,12 +11,12 @@ returns c = (c.word.ensures.0 ∙ ap nodeWord (sym c.before.before.node.given.1)
 
 returns-2 : tie.Need-returns-2
 unfolding nodeWord
-returns-2 c = (simp (c.word2.ensures.0, c.before.binary-number.ensures, c.before.before.before.node2.given.1), c.word2.ensures.1)
+returns-2 c = (simp (c.word2.ensures.0, c.before.binary-code.ensures, c.before.before.before.node2.given.1), c.word2.ensures.1)
 
 returns-3 : tie.Need-returns-3
 unfolding nodeWord
 returns-3 c = (
-  simp (c.word3.ensures.0, c.before.set-number.ensures, c.before.before.to-bits.ensures, c.before.before.before.before.node3.given.1),
+  simp (c.word3.ensures.0, c.before.set-code.ensures, c.before.before.to-bits.ensures, c.before.before.before.before.node3.given.1),
   c.word3.ensures.1,
 )
 

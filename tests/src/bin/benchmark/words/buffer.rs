@@ -36,6 +36,14 @@ impl<'a, T: Copy> Buffer<'a, T> {
         self.length += 1;
     }
 
+    /// The last value, which is taken off.
+    #[inline(always)]
+    pub fn pop(&mut self) -> Option<T> {
+        let value = *self.last()?;
+        self.length -= 1;
+        Some(value)
+    }
+
     #[inline(always)]
     pub fn extend(&mut self, values: &[T]) {
         self.room[self.length..][..values.len()].write_copy_of_slice(values);

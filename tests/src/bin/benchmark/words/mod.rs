@@ -1,11 +1,12 @@
-//! Formula, both verdicts, Typing, Apply and Recover written by hand for speed: without an
-//! allocation, on 64-bit words, compiled for every x86-64 machine.
+//! Formula, both verdicts, Typing, Apply, Recover and parsing a query written by hand for speed:
+//! without an allocation, on 64-bit words, compiled for every x86-64 machine.
 
 mod apply;
 mod buffer;
 mod columns;
 mod instantiation;
 mod lists;
+mod query;
 mod reader;
 mod recover;
 mod schema;
@@ -14,6 +15,7 @@ mod sort;
 mod typing;
 
 pub use apply::apply;
+pub use query::parse_query;
 pub use recover::recover;
 pub use typing::typing;
 

@@ -1,0 +1,5 @@
+pub mod QueryNodes
+pub mod Faults
+pub mod ParseQuery
+pub mod ParseLaws
+pub mod Numbers

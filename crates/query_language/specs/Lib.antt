@@ -1,0 +1,12 @@
+pub mod Query
+pub mod Parsed
+pub mod Places
+pub mod Parse
+pub mod NumberLaws
+pub mod ListLaws
+pub mod PrefixLaws
+pub mod OperandLaws
+pub mod Steps
+pub mod Language
+pub mod Sizes
+pub mod Parts

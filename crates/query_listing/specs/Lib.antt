@@ -1,0 +1,2 @@
+pub mod QueryListing
+pub mod QueryListingLaws

@@ -1,0 +1,4 @@
+pub mod Meaning
+pub mod QueryExpressions
+pub mod MeaningOnce
+pub mod Theorems
