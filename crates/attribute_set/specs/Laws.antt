@@ -43,6 +43,10 @@ pub has-set : (bits a : ℕ) → hasAttribute (setOf bits) a ≡ bit bits a
 unfolding hasAttribute setOf
 has-set bits a = refl
 
+pub bits-set : (bits : ℕ) → bitsOf (setOf bits) ≡ bits
+unfolding setOf
+bits-set bits = refl
+
 -- a set is that of its bits
 pub set-bits : (s : AttrSet) → setOf (bitsOf s) ≡ s
 unfolding setOf

@@ -1,6 +1,9 @@
 //! The engine against the reference: queries with several errors at once, and at the limits of
 //! length, depth and number of nodes.
 
+use std::thread;
+
+use type_formula_tests::alone::parsed;
 use type_formula_tests::answer::{Answer, Operation};
 use type_formula_tests::pseudorandom::Random;
 use type_formula_tests::query_examples::{
@@ -280,6 +283,16 @@ fn queries_of_every_depth() {
     }
     run.assert_given(Operation::ParseQuery, [0, 22, 23, 24], 100);
     run.finish("queries by depth", 3_000);
+}
+
+/// The stack that the header names is enough for the text that takes the most; the rest is for the
+/// thread itself.
+#[test]
+fn the_deepest_text_needs_no_more_stack_than_the_header_says() {
+    let answer = || parsed(1, &[b'('; LONGEST_TEXT]);
+    let thread = thread::Builder::new().stack_size(160_000 + 16_384);
+    let given = thread.spawn(answer).expect("a thread").join();
+    assert_eq!(given.expect("it ends"), Err(22));
 }
 
 /// Random queries of 60 to 70 nodes: up to 64 a result, then 24, unless they are too long.
