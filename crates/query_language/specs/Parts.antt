@@ -114,6 +114,16 @@ pub record Earlier (x y : Part) : Type 0 where
   pub ends : x .end ≤ y .end
   pub inner : x .end ≡ y .end → y .start < x .start
 
+-- of two parts at most one is earlier, so that the numbers of nodes follow from the places
+pub earlier-once : (x y : Part) → Earlier x y → Earlier y x → ⊥
+earlier-once x y a b =
+    let up = a .ends in
+    let down = b .ends in
+    let same : x .end ≡ y .end = omega arith in
+    let first = a .inner same in
+    let other = b .inner (sym same) in
+    omega arith
+
 -- each before all that follow it
 unfoldable pub Ordered : List Part → Type 0
 Ordered [] = Unit {0}

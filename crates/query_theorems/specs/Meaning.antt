@@ -1,7 +1,7 @@
 -- What a query means (FORMAT 11.9): the expression that its tree is.
 use Prim.Native.Nat.{ℕ}
 use mathlib.Core.Path.{_≡_, refl, ap, fun-ext, _∙_}
-use mathlib.Core.Bool.{Bool, true, false, _&&_}
+use mathlib.Core.Bool.{Bool, true, false, _&&_, and-true, and-false}
 use mathlib.Core.List.{List}
 use Rattle.bits.specs.Rising.{member}
 use Rattle.attribute_set.specs.AttrSet.{special, emptySet}
@@ -34,17 +34,9 @@ meaning (prefixed p q) = prefixMeaning p (meaning q)
 list-named : (ns : List ℕ) → allSpecial ns ≡ true → named (withAttributes emptySet ns) ≡ listed ns
 list-named ns e = fun-ext (λ a. ap (λ (t : Bool). special a && t) (has-listed ns a e) ∙ go a (member a ns) refl)
   where
-    and-true : (t : Bool) → t && true ≡ t
-    and-true true = refl
-    and-true false = refl
-
-    and-none : (t : Bool) → t && false ≡ false
-    and-none true = refl
-    and-none false = refl
-
     go : (a : ℕ) (t : Bool) → member a ns ≡ t → special a && t ≡ t
     go a true i = and-true (special a) ∙ member-special ns a e i
-    go a false i = and-none (special a)
+    go a false i = and-false (special a)
 
 pub prefix-meaning : (p : Prefix) (k : ℕ) (operand : ℕ → Expression) → allSpecial (prefixAttributes p) ≡ true → ofNode (prefixNode p k) operand ≡ prefixMeaning p (operand k)
 prefix-meaning (withList op ns) k operand e = ap (λ (s : Attrs). withSet (setOperatorOf op) s (operand k)) (list-named ns e)

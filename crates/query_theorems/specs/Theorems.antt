@@ -205,7 +205,8 @@ module _ (text : List ℕ) (q : Query) (l : InLanguage text q) where
   part-stands i h = let count = parts-count 0 q in each-at (StandsIn text) (partsFrom 0 q) (wholePart 0 q) (parts-stand text 0 q [] (l .text-is)) i (omega arith)
 
   -- of two parts the one with the lower number ends first, or both end together and it lies within the other: nodes are
-  -- numbered as their text ends, operands before the node that uses them, left before right
+  -- numbered as their text ends, operands before the node that uses them, left before right. It never holds both ways
+  -- (earlier-once, crate query_language, Parts), so that the places alone give the numbers
   pub parts-numbered : (i j : ℕ) → i < j → j < nodeCount q → Earlier (getD (partsFrom 0 q) i (wholePart 0 q)) (getD (partsFrom 0 q) j (wholePart 0 q))
   parts-numbered i j h k = let count = parts-count 0 q in ordered-at (partsFrom 0 q) (wholePart 0 q) (parts-ordered 0 q) i j h (omega arith)
 
