@@ -124,17 +124,17 @@ pub bit-low : (n x j : ℕ) → j < n → bit (x % 2 ^ n) j ≡ bit x j
 bit-low n x j h =
     ap (λ (y : ℕ). bit y j) (sym (and-mask x n)) ∙ bit-and x (2 ^ n - 1) j ∙ ap (λ (b : Bool). bit x j && b) (bit-ones n j h) ∙ and-true (bit x j)
 
--- the complement of a byte
-pub bit-not : (x j : ℕ) → x < 256 → j < 8 → bit (255 - x) j ≡ not (bit x j)
-bit-not x j hx hj =
-    let complement : 255 - x ≡ bitXor x 255 =
-    let sum = xor-add-and x 255 in
-    let mask = and-mask x 8 in
-    let low = mod-eq-of-lt {m = 256} hx in
+-- the complement of a number of w bits
+pub bit-not : (w x j : ℕ) → x < 2 ^ w → j < w → bit (2 ^ w - 1 - x) j ≡ not (bit x j)
+bit-not w x j hx hj =
+    let complement : 2 ^ w - 1 - x ≡ bitXor x (2 ^ w - 1) =
+    let sum = xor-add-and x (2 ^ w - 1) in
+    let mask = and-mask x w in
+    let low = mod-eq-of-lt {m = 2 ^ w} hx in
     omega arith
     in
-    ap (λ (y : ℕ). bit y j) complement ∙ bit-xor x 255 j ∙ ones (bit x j)
+    ap (λ (y : ℕ). bit y j) complement ∙ bit-xor x (2 ^ w - 1) j ∙ ones (bit x j)
   where
-    ones : (b : Bool) → differs b (bit 255 j) ≡ not b
-    ones true = ap not (bit-ones 8 j hj)
-    ones false = bit-ones 8 j hj
+    ones : (b : Bool) → differs b (bit (2 ^ w - 1) j) ≡ not b
+    ones true = ap not (bit-ones w j hj)
+    ones false = bit-ones w j hj

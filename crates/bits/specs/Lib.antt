@@ -1,5 +1,6 @@
 pub mod Bit
 pub mod Pack
+pub mod Bitwise
 pub mod Range
 pub mod Part
 pub mod Tab

@@ -72,9 +72,13 @@ pack-same (suc n) f g e =
 pub pack-bits : (n x : ℕ) → x < 2 ^ n → pack n (bit x) ≡ x
 pack-bits n x h = bits-once n (pack n (bit x)) x (pack-below n (bit x)) h (λ j below. bit-pack n (bit x) j below)
 
+-- a number of n bits with these bits
+pub pack-is : (n x : ℕ) (f : ℕ → Bool) → x < 2 ^ n → ((j : ℕ) → j < n → bit x j ≡ f j) → x ≡ pack n f
+pack-is n x f h e = bits-once n x (pack n f) h (pack-below n f) (λ j below. e j below ∙ sym (bit-pack n f j below))
+
 -- a byte with these bits
 pub byte-is : (x : ℕ) (f : ℕ → Bool) → x < 256 → ((j : ℕ) → j < 8 → bit x j ≡ f j) → x ≡ pack 8 f
-byte-is x f h e = bits-once 8 x (pack 8 f) h (pack-below 8 f) (λ j below. e j below ∙ sym (bit-pack 8 f j below))
+byte-is = pack-is 8
 
 -- eight times one bit
 pub byte-same : (b : Bool) → pack 8 (λ j. b) ≡ cond b 255 0

@@ -96,6 +96,16 @@ plain-combined c left right = plain-column _ _ ∙ planes-same 2 _ _ at ∙ step
     at zero s hp hs = rw (plain-allowed left s, plain-output left s, plain-allowed right s, plain-output right s)
     at (suc p) s hp hs = rw (plain-allowed left s, plain-output left s, plain-allowed right s, plain-output right s)
 
+-- what stands in the column of an operator of two operands, whatever bytes the operands' columns have
+module _ (c : Combination) (left right : List ℕ) (s : ℕ) (h : s < 256) where
+  pub combined-allowed : allowedIn (combinedColumn c left right) s ≡ combinedAllowed c (allowedIn left s) (outputIn left s) (allowedIn right s) (outputIn right s)
+  unfolding combinedColumn
+  combined-allowed = allowed-in _ _ s h
+
+  pub combined-output : outputIn (combinedColumn c left right) s ≡ combinedOutput c (allowedIn left s) (outputIn left s) (allowedIn right s) (outputIn right s)
+  unfolding combinedColumn
+  combined-output = output-in _ _ s h
+
 -- ---- a loop over 32 bytes that writes both planes
 
 pub filling-both :

@@ -12,6 +12,7 @@ pub use columns::unary_column;
 pub use steps::Bytes;
 pub use steps::Combination;
 pub use steps::Unary;
+pub use steps::agreeing_bytes;
 pub use steps::combined_bytes;
 pub use steps::projecting_out_step;
 pub use steps::set_step;

@@ -1,6 +1,8 @@
 // One byte of a plane, eight subsets at a time: what an operator makes of its operands' bytes (FORMAT 3.11).
 ghost use mathlib.Core.Path.{_≡_};
-ghost use Rattle.bits.specs.Bit.{bit};
+ghost use mathlib.Core.Bool.{not, _&&_};
+ghost use Prim.Native.Nat.{ℕ, _<_};
+ghost use Rattle.bits.specs.Bit.{bit, differs};
 ghost use Rattle.bits.specs.Pack.{pack};
 ghost use Rattle.column.specs.Steps.{setStep, projectingOutStep, introducingStep, unaryAllowed, unaryOutput};
 ghost use Rattle.column.specs.StepLaws.{MadeBy};
@@ -98,19 +100,27 @@ pub fn unary_bytes(u: Unary, allowed: u8, output: u8) -> Bytes
     }
 }
 
+// The agreement of two operands (FORMAT 3.13), the step of union and difference, for any four bytes: at each bit allowed
+// where both operands allow and their outputs agree, output where that and the left output stand.
+pub fn agreeing_bytes(left: Bytes, right: Bytes) -> Bytes
+    ensures { λ r. ⌜ ((i : ℕ) → i < 8 → bit (r .allowed) i ≡ bit (left .allowed) i && bit (right .allowed) i && not (differs (bit (left .output) i) (bit (right .output) i))) ⌝ }
+    ensures { λ r. ⌜ ((i : ℕ) → i < 8 → bit (r .output) i ≡ bit (r .allowed) i && bit (left .output) i) ⌝ }
+{
+    let both = left.allowed & right.allowed;
+    let allowed = both & !(left.output ^ right.output);
+    Bytes {
+        allowed,
+        output: allowed & left.output,
+    }
+}
+
 // What an operator of two operands makes of its operands' bytes.
 pub fn combined_bytes(c: Combination, left: Bytes, right: Bytes) -> Bytes
     ensures { λ r. ⌜ MadeBy c (left .allowed) (left .output) (right .allowed) (right .output) (r .allowed) (r .output) ⌝ }
 {
     let both = left.allowed & right.allowed;
     match c {
-        Combination::Agreeing => {
-            let allowed = both & !(left.output ^ right.output);
-            Bytes {
-                allowed,
-                output: allowed & left.output,
-            }
-        }
+        Combination::Agreeing => agreeing_bytes(left, right),
         Combination::Merging => Bytes {
             allowed: both,
             output: both & (left.output | right.output),

@@ -9,4 +9,5 @@ pub mod FormulaBytesLaws
 pub mod Formula
 pub mod FormulaLaws
 pub mod StoredFormula
+pub mod UnionColumns
 pub mod Theorems

@@ -5,24 +5,26 @@ use mathlib.Core.Path.{_≡_, sym, ap, _∙_}
 use mathlib.Core.Logic.{_↔_}
 use mathlib.Core.Bool.{true, false}
 use mathlib.Core.List.{List}
-use native.Mathlib.Nat.{lt-of-lt-of-le}
+use native.Mathlib.Nat.{lt-of-lt-of-le, lt-trans}
 use lib.ListN.{length}
 use lib.Pow.{pow-mono}
 use Rattle.bits.specs.Tab.{over}
 use Rattle.types.specs.Types.{Attrs, IsType, Assignment, IsAssignment}
+use Rattle.algebra.specs.Expression.{Expression}
 use Rattle.algebra.specs.Rules.{Typed}
 use Rattle.principal.specs.Formula.{Formula, Fits}
 use Rattle.principal.specs.Instantiation.{Instantiation, InImage, HasImage, HasOutput}
 use Rattle.principal.specs.Principal as Theorem
 use Rattle.expression_file.specs.declared.files.Acceptance.the-variants.{Accepted}
-use Rattle.expression_file.specs.ReadFile.{acceptance}
+use Rattle.expression_file.specs.ReadFile.{nodeAt, acceptance}
 use Rattle.expression_file.specs.Accepted.{accepted-file}
+use Rattle.expression_file.specs.Walk.{nodes-legal}
 use Rattle.column.specs.Column.{allowedIn, outputIn}
 use Rattle.stored_formula.specs.ColumnPlace.{columnAt}
-use Rattle.node_expression.specs.NodeExpression.{expressionAt, expression-legal}
-use Rattle.stored_formula.specs.FormulaBytes.{allowedBit, outputBit, formulasOf}
+use Rattle.node_expression.specs.NodeExpression.{expressionAt, expression-is, expression-legal}
+use Rattle.stored_formula.specs.FormulaBytes.{allowedBit, outputBit, cellColumn, formulasOf}
 use Rattle.stored_formula.specs.FormulaBytesLaws.{stored-column, allowed-is, allowed-above, output-is, output-within}
-use Rattle.stored_formula.specs.NodeColumn.{cell-allowed, cell-output}
+use Rattle.stored_formula.specs.NodeColumn.{nodeColumns, cell-allowed, cell-output, node-cells}
 use Rattle.admission.specs.Admission.{formulaSize}
 
 -- FORMAT 3.12: the formula of node k that stands in a work space, for m relations
@@ -47,6 +49,15 @@ module _ (file : List ℕ) (m n : ℕ) (accepted : acceptance file ≡ Accepted 
 
   pub stored-output : (c s : ℕ) → c < 16 → s < 256 → outputIn (columnAt filled k c) s ≡ outputBit m (expressionAt file k) c s
   stored-output c s hc hs = ap (λ (l : List ℕ). outputIn l s) (stored-column file work m n enough k c node hc) ∙ cell-output m (expressionAt file k) c s hs
+
+  -- FORMAT 3.11: column c is what the node's operator makes of its operands' columns, as they stand there
+  pub stored-node : (c : ℕ) → c < 16 → columnAt filled k c ≡ nodeColumns (2 ^ m) (nodeAt file k) filled c
+  stored-node c hc =
+      let legal = nodes-legal file m n accepted k node in
+      stored-column file work m n enough k c node hc
+      ∙ ap (λ (e : Expression). cellColumn m e c) (expression-is file m k legal)
+      ∙ sym (node-cells m k c (nodeAt file k) (λ l. columnAt filled l c) (expressionAt file) hc legal
+      (λ l below. stored-column file work m n enough l c (lt-trans below node) hc))
 
   -- FORMAT 3.8: bits from 2^m up are clear
   pub stored-above : (c s : ℕ) → c < 16 → 2 ^ m ≤ s → s < 256 → allowedIn (columnAt filled k c) s ≡ false

@@ -96,6 +96,26 @@ pub fn formulas(file: &File) -> Vec<Formula> {
     formulas
 }
 
+/// A byte of allowed bits, and the byte of output bits that goes with it.
+pub type Pair = [u8; 2];
+
+/// The pair of a node with the operands 0 and 1, from the pairs of these at the same place of the
+/// same column, bit by bit. Where a subset is not allowed, its output bit says nothing.
+pub fn pair_over(node: &Node, column: usize, operands: [Pair; 2]) -> Pair {
+    let mut made = [0; 2];
+    for place in 0..8 {
+        let at = |pair: Pair| bit(&pair, place).then(|| bit(&pair[1..], place));
+        let followed = follow_node(node, column, 0, &operands.map(at));
+        if followed.is_some() {
+            set_bit(&mut made, place);
+        }
+        if followed == Some(true) {
+            set_bit(&mut made[1..], place);
+        }
+    }
+    made
+}
+
 /// Whether s is allowed in the column.
 pub fn is_allowed(formula: &Formula, column: usize, s: usize) -> bool {
     bit(&formula[column * COLUMN_LENGTH..], s)

@@ -25,8 +25,8 @@ pub use expression::{
     WORK_SPACE_TOO_SHORT,
 };
 pub use formula::{
-    allowed_subsets, formula, formulas, infer, is_allowed, is_output, type_variables, Formula,
-    Inferred, COLUMNS, COLUMN_LENGTH, FORMULA_LENGTH, OUTPUT_START,
+    allowed_subsets, formula, formulas, infer, is_allowed, is_output, pair_over, type_variables,
+    Formula, Inferred, Pair, COLUMNS, COLUMN_LENGTH, FORMULA_LENGTH, OUTPUT_START,
 };
 pub use instantiation::{encode_instantiation, read_instantiation, Instantiation, LISTS_START};
 pub use listing::listing;

@@ -1,5 +1,6 @@
 //! All tests of the engine, in one program, so that they are built once and run beside each other.
 
+mod agreement_program;
 mod c_example;
 mod command_folder;
 mod damaged_instantiations;
