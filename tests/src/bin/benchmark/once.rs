@@ -3,18 +3,21 @@
 use crate::calls::{call, By, Operation, ALL, OPERATIONS};
 use crate::settings::{
     e1_query, e1_with_10_columns, of_attributes, of_nodes, query_of_length, query_of_lists,
-    query_of_prefixes, untypable_of_64_nodes, untypable_of_7_nodes, Lists, Setting,
+    query_of_prefixes, unions_of_eight, unions_of_one, untypable_of_64_nodes, untypable_of_7_nodes,
+    Lists, Setting,
 };
 use crate::slices::Slices;
 
-/// The setting with so many nodes, with so many and no type, or with 64 nodes and 255
-/// ordinary attributes.
+/// The setting with so many nodes, with so many and no type, with 64 nodes of which most are
+/// unions, or with 64 nodes and 255 ordinary attributes.
 fn setting(size: &str) -> Option<Setting> {
     Some(match size {
         "7" => e1_with_10_columns(),
         "8" | "16" | "32" | "64" => of_nodes(size.parse().ok()?),
         "7untypable" => untypable_of_7_nodes(),
         "64untypable" => untypable_of_64_nodes(),
+        "64unionsofeight" => unions_of_eight(),
+        "64unionsofone" => unions_of_one(),
         "64x255" => of_attributes(64, 255, Lists::Three),
         "64x255each" => of_attributes(64, 255, Lists::OneInEach),
         _ => return None,

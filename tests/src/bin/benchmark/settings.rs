@@ -148,6 +148,36 @@ pub fn random_of_64_nodes() -> Setting {
     }
 }
 
+/// Eight relations, then 56 unions and differences.
+fn nodes_of_unions(relation: impl Fn(u8) -> u8) -> Vec<Node> {
+    let relations = (0..8).map(|number| Node::Relation {
+        relation: relation(number),
+    });
+    let pairs = (8..64).map(|number| {
+        let (left, right) = (number - 1, number % 8);
+        match number % 2 {
+            0 => Node::Union { left, right },
+            _ => Node::Difference { left, right },
+        }
+    });
+    relations.chain(pairs).collect()
+}
+
+/// Unions and differences of eight relations: the columns of their operands agree in few bits.
+/// The last node is typed where no relation has an attribute.
+pub fn unions_of_eight() -> Setting {
+    let file = encode_file(8, &nodes_of_unions(|number| number));
+    let schema = encode_schema(&assignment_of(8, []));
+    Setting::new("n 64, m 8, unions of r0 to r7", file, schema)
+}
+
+/// Unions and differences of one relation: the columns of their operands agree in every bit.
+pub fn unions_of_one() -> Setting {
+    let file = encode_file(8, &nodes_of_unions(|_| 0));
+    let schema = encode_schema(&assignment_of(8, []));
+    Setting::new("n 64, m 8, unions of r0", file, schema)
+}
+
 /// Seven nodes, from the given number on, over the node `before`, which has attribute 1 and
 /// not 2; the last of them has the same type. The node `relation` has attribute 1 and no
 /// attribute that `before` lacks.

@@ -5,8 +5,8 @@ use crate::checks::check_words;
 use crate::measure::{medians, BATCHES};
 use crate::settings::{
     e1_query, e1_with_10_columns, of_attributes, of_nodes, query_of_length, query_of_lists,
-    query_of_prefixes, random_of_64_nodes, untypable_of_64_nodes, untypable_of_7_nodes, Lists,
-    Setting,
+    query_of_prefixes, random_of_64_nodes, unions_of_eight, unions_of_one, untypable_of_64_nodes,
+    untypable_of_7_nodes, Lists, Setting,
 };
 
 /// Prints a row of a markdown table.
@@ -58,6 +58,8 @@ fn print_comparisons() {
         (e1_with_10_columns(), of_file),
         (untypable_of_7_nodes(), &of_file[1..3]),
         (random_of_64_nodes(), &of_file[..3]),
+        (unions_of_eight(), &of_file[..1]),
+        (unions_of_one(), &of_file[..1]),
         (untypable_of_64_nodes(), &of_file[1..3]),
         (of_attributes(64, 255, Lists::Three), &of_file[3..]),
         (of_attributes(64, 255, Lists::OneInEach), &of_file[3..]),
