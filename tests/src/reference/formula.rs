@@ -101,13 +101,14 @@ pub fn formulas(file: &File) -> Vec<Formula> {
 /// A byte of allowed bits, and the byte of output bits that goes with it.
 pub type Pair = [u8; 2];
 
-/// The pair of a node with the operands 0 and 1, from the pairs of these at the same place of the
-/// same column, bit by bit. Where a subset is not allowed, its output bit says nothing.
-pub fn pair_over(node: &Node, column: usize, operands: [Pair; 2]) -> Pair {
+/// The pair of a node with two operands, the nodes 0 and 1, from the pairs of these, bit by bit:
+/// neither the column nor the subset matters to such a node. Where a subset is not allowed, its
+/// output bit says nothing.
+pub fn pair_over(node: &Node, operands: [Pair; 2]) -> Pair {
     let mut made = [0; 2];
     for place in 0..8 {
         let at = |pair: Pair| bit(&pair, place).then(|| bit(&pair[1..], place));
-        let followed = follow_node(node, column, 0, &operands.map(at));
+        let followed = follow_node(node, 0, 0, &operands.map(at));
         if followed.is_some() {
             set_bit(&mut made, place);
         }

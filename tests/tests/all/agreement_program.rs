@@ -14,6 +14,11 @@ use type_formula_tests::reference::{
 /// The allowed and the output byte of the left operand, then those of the right one.
 type Group = [u8; 4];
 
+/// Any four bytes.
+fn any_group(random: &mut Random) -> Group {
+    (random.word() as u32).to_le_bytes()
+}
+
 /// The groups that the program takes at most.
 const MOST: usize = 16_384;
 
@@ -40,7 +45,7 @@ fn compare(groups: &[Group]) {
         let [left_allowed, left_output, right_allowed, right_output] = *group;
         let operands = [[left_allowed, left_output], [right_allowed, right_output]];
         for operator in &OPERATORS {
-            let wanted = pair_over(operator, 0, operands);
+            let wanted = pair_over(operator, operands);
             assert_eq!(given, wanted, "{group:02x?}, {operator:?}");
         }
     }
@@ -86,9 +91,9 @@ fn all_combinations_at_every_place_among_other_bits() {
     let mut random = Random::new(330);
     let mut groups = Vec::new();
     for round in 0..64 {
-        let others: Group = match round {
+        let others = match round {
             0 => [0xff; 4],
-            _ => random.word().to_le_bytes()[..4].try_into().expect("four"),
+            _ => any_group(&mut random),
         };
         for place in 0..8 {
             groups.extend((0..16).map(|each| with_bits(others, place, each)));
@@ -122,8 +127,7 @@ fn two_combinations_at_two_places() {
 #[test]
 fn random_bytes() {
     let mut random = Random::new(331);
-    let group = |_| random.word().to_le_bytes()[..4].try_into().expect("four");
-    let groups: Vec<Group> = (0..64 * MOST).map(group).collect();
+    let groups: Vec<Group> = (0..64 * MOST).map(|_| any_group(&mut random)).collect();
     let outside = |group: &&Group| group[1] & !group[0] != 0 || group[3] & !group[2] != 0;
     let outside = groups.iter().filter(outside).count();
     println!("{outside} of {} with output bits not allowed", groups.len());

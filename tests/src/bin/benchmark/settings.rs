@@ -163,15 +163,15 @@ fn nodes_of_unions(relation: impl Fn(u8) -> u8) -> Vec<Node> {
     relations.chain(pairs).collect()
 }
 
-/// Unions and differences of eight relations: the columns of their operands agree in few bits.
-/// The last node is typed where no relation has an attribute.
+/// Unions and differences of eight relations, whose columns agree in some bits and not in
+/// others. The last node is typed where no relation has an attribute.
 pub fn unions_of_eight() -> Setting {
     let file = encode_file(8, &nodes_of_unions(|number| number));
     let schema = encode_schema(&assignment_of(8, []));
     Setting::new("n 64, m 8, unions of r0 to r7", file, schema)
 }
 
-/// Unions and differences of one relation: the columns of their operands agree in every bit.
+/// Unions and differences of one relation: the operands' columns agree in every bit.
 pub fn unions_of_one() -> Setting {
     let file = encode_file(8, &nodes_of_unions(|_| 0));
     let schema = encode_schema(&assignment_of(8, []));
