@@ -79,9 +79,3 @@ pack-is n x f h e = bits-once n x (pack n f) h (pack-below n f) (λ j below. e j
 -- a byte with these bits
 pub byte-is : (x : ℕ) (f : ℕ → Bool) → x < 256 → ((j : ℕ) → j < 8 → bit x j ≡ f j) → x ≡ pack 8 f
 byte-is = pack-is 8
-
--- eight times one bit
-pub byte-same : (b : Bool) → pack 8 (λ j. b) ≡ cond b 255 0
-unfolding pack
-byte-same true = refl
-byte-same false = refl

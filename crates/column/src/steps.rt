@@ -1,4 +1,4 @@
-// One byte of a plane, eight subsets at a time: what an operator makes of its operands' bytes (FORMAT 3.11).
+// One byte of a plane, eight subsets at a time: what an operator makes of its operands' bytes (FORMAT 3.11, 3.13).
 ghost use mathlib.Core.Path.{_≡_};
 ghost use mathlib.Core.Bool.{not, _&&_};
 ghost use Prim.Native.Nat.{ℕ, _<_};
