@@ -10,6 +10,7 @@ use column::agreeing_bytes;
 use libc::STDIN_FILENO;
 use libc::STDOUT_FILENO;
 
+// The allowed byte at a place and the output byte after it.
 fn bytes_at(input: &[u8], at: usize) -> Bytes
     requires { ⌜ at + 2 ≤ length (now input) ⌝ }
 {
@@ -19,6 +20,7 @@ fn bytes_at(input: &[u8], at: usize) -> Bytes
     }
 }
 
+// Two bytes for each whole group of the input.
 fn print_agreements(input: &[u8])
     requires { ⌜ length (now input) ≤ 65536 ⌝ }
 {
