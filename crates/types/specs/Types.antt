@@ -2,7 +2,7 @@
 use Prim.Native.Nat.{ℕ, _≤_, _<_}
 use mathlib.Core.Path.{_≡_}
 use mathlib.Core.Bool.{Bool, true, false, cond, not, _&&_, _||_}
-use lib.Dec.{eqb, leb}
+use lib.Dec.{T, eqb, leb}
 use Rattle.bits.specs.Pack.{pack}
 use Rattle.attribute_set.specs.AttrSet.{special}
 
@@ -32,6 +32,10 @@ Assignment = ℕ → Attrs
 -- FORMAT 2.3: each of the m relations has a type
 abbrev pub IsAssignment : ℕ → Assignment → Type 0
 IsAssignment m A = (r : ℕ) → r < m → IsType (A r)
+
+-- FORMAT 2.17: every relation has an attribute
+abbrev pub Filled : ℕ → Assignment → Type 0
+Filled m A = (r : ℕ) → r < m → ∥ ((a : ℕ) × T (A r a)) ∥₁
 
 -- ---- sets
 

@@ -1,0 +1,56 @@
+-- Choices: a subset for each special attribute, then a list of variables; and the one that Verdict takes (FORMAT 7.26).
+use Prim.Native.Nat.{ℕ, zero, suc, _+_, _-_, _<_}
+use mathlib.Core.Path.{_≡_}
+use mathlib.Core.Bool.{Bool, true, false}
+use mathlib.Core.List.{List, [], _∷_}
+use mathlib.Core.Logic.{_⊎_}
+use lib.Dec.{eqb}
+use Rattle.bits.specs.Lowest.{lowestFrom}
+use Rattle.types.specs.Memberships.{members}
+use Rattle.states.specs.Formula.{typeVariable}
+use Rattle.set_cover.specs.Remainder.{rest}
+use Rattle.set_cover.specs.Cost.{price, cost}
+
+-- allowed subsets for the last k special attributes, and then any number of variables, in any order, also twice
+abbrev pub Chosen : ℕ → (ℕ → ℕ → Bool) → ℕ → List ℕ → Type 0
+Chosen N allowed zero [] = Unit {0}
+Chosen N allowed zero (v ∷ xs) = (v < N) × (typeVariable (allowed 0) v ≡ true) × Chosen N allowed zero xs
+Chosen N allowed (suc k) [] = ⊥
+Chosen N allowed (suc k) (s ∷ xs) = (s < N) × (allowed (15 - k) s ≡ true) × Chosen N allowed k xs
+
+-- how many members they have together
+abbrev pub weight : List ℕ → ℕ
+weight [] = 0
+weight (s ∷ xs) = members s + weight xs
+
+-- the relations of `need` that are in none of them
+abbrev pub uncovered : ℕ → List ℕ → ℕ
+uncovered need [] = need
+uncovered need (s ∷ xs) = uncovered (rest need s) xs
+
+-- lower at the first difference, or the same as far as it goes
+abbrev pub NotAbove : List ℕ → List ℕ → Type 0
+NotAbove [] ys = Unit {0}
+NotAbove (x ∷ xs) [] = ⊥
+NotAbove (x ∷ xs) (y ∷ ys) = (x < y) ⊎ ((x ≡ y) × NotAbove xs ys)
+
+-- the lowest subset that costs as much as is said; N where none does
+unfoldable pub picked : ℕ → (ℕ → Bool) → (ℕ → ℕ) → ℕ → ℕ → ℕ
+picked N ok next need target = lowestFrom N 0 (λ s. eqb (price ok next need s) target)
+
+-- the variables, at most `more`: while a relation needs an attribute, the lowest that costs no more than it must
+unfoldable pub bestVariables : ℕ → (ℕ → ℕ → Bool) → ℕ → ℕ → List ℕ
+bestVariables N allowed zero need = []
+bestVariables N allowed (suc more) need =
+    elim (eqb need 0) [
+      | true ↦ []
+      | false ↦ let v = picked N (typeVariable (allowed 0)) (cost N allowed 0) need (cost N allowed 0 need) in v ∷ bestVariables N allowed more (rest need v)
+    ]
+
+-- the choice: for each of the last k special attributes the lowest subset that costs no more than it must, and then the
+-- variables
+unfoldable pub best : ℕ → (ℕ → ℕ → Bool) → ℕ → ℕ → List ℕ
+best N allowed zero need = bestVariables N allowed need need
+best N allowed (suc k) need =
+    let s = picked N (allowed (15 - k)) (cost N allowed k) need (cost N allowed (suc k) need) in
+    s ∷ best N allowed k (rest need s)

@@ -1,0 +1,4 @@
+pub mod Remainder
+pub mod Least
+pub mod Cost
+pub mod Choice
