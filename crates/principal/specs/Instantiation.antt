@@ -1,11 +1,11 @@
--- Instantiations of a formula, their image and output (FORMAT 6.4, 6.5, 6.7).
+-- Instantiations of a formula, their image and output (FORMAT 6.4, 6.5, 6.7, 6.9).
 use Prim.Native.Nat.{ℕ, _<_, _^_}
 use mathlib.Core.Path.{_≡_}
-use mathlib.Core.Logic.{_↔_}
+use mathlib.Core.Logic.{_↔_, ∥∥₁-elim, ∥∥₁-prop}
 use lib.Dec.{T, ltb}
 use Rattle.bits.specs.Bit.{bit}
 use Rattle.attribute_set.specs.AttrSet.{special}
-use Rattle.types.specs.Types.{Attrs, Assignment, ordinary, Finite}
+use Rattle.types.specs.Types.{Attrs, Assignment, Filled, ordinary, Finite}
 use Rattle.principal.specs.Formula.{Formula, isVariable}
 
 -- FORMAT 6.7: a subset for each special attribute, allowed in its column, and a finite list of ordinary attributes for
@@ -40,3 +40,14 @@ HasImage {F} I A = (r : ℕ) → r < F .relations → (a : ℕ) → T (A r a) �
 -- t is the output: it has exactly the attributes of the output
 abbrev pub HasOutput : {F : Formula} → Instantiation F → Attrs → Type 0
 HasOutput I t = (a : ℕ) → T (t a) ↔ InOutput I a
+
+-- FORMAT 6.9: the image is filled: every relation's image has an attribute
+abbrev pub FilledImage : {F : Formula} → Instantiation F → Type 0
+FilledImage {F} I = (r : ℕ) → r < F .relations → ∥ ((a : ℕ) × InImage I r a) ∥₁
+
+-- exactly where its assignment is
+pub filled-image : {F : Formula} (I : Instantiation F) (A : Assignment) → HasImage I A → Filled (F .relations) A ↔ FilledImage I
+filled-image I A image = (
+  (λ filled r below. ∥∥₁-elim (filled r below) ∥∥₁-prop (λ x. ∣ (x .0, image r below (x .0) .0 (x .1)) ∣₁)),
+  (λ filled r below. ∥∥₁-elim (filled r below) ∥∥₁-prop (λ x. ∣ (x .0, image r below (x .0) .1 (x .1)) ∣₁)),
+)

@@ -6,7 +6,7 @@ use mathlib.Core.Logic.{_↔_, Iff·trans, Iff·symm}
 use mathlib.Core.Bool.{Bool, true, false, cond, _&&_}
 use lib.Dec.{T}
 use Rattle.bits.specs.Bit.{bit}
-use Rattle.types.specs.Types.{Attrs, IsType, Assignment, IsAssignment}
+use Rattle.types.specs.Types.{Attrs, IsType, Assignment, IsAssignment, Filled}
 use Rattle.algebra.specs.Expression.{Expression, Legal}
 use Rattle.algebra.specs.Rules.{Typed}
 use Rattle.algebra.specs.Cell.{plain, out, ok}
@@ -15,7 +15,7 @@ use Rattle.states.specs.Coded.{plainCode, plain-values}
 use Rattle.states.specs.Instantiation.{Instantiation as StateInstantiation, InImage as InStateImage}
 use Rattle.states.specs.Principal.{FormulaOf as StateFormulaOf, CellOf as StateCellOf, JustOne, cell-fits, fits-cell, grounded as state-grounded, unique as state-unique, principal as state-principal}
 use Rattle.principal.specs.Formula.{Formula, Fits, Grounded}
-use Rattle.principal.specs.Instantiation.{Instantiation, InImage, HasImage, HasOutput}
+use Rattle.principal.specs.Instantiation.{Instantiation, InImage, HasImage, HasOutput, FilledImage, filled-image}
 use Rattle.principal.specs.Plain.{statesFormula, toStates, fromStates, types-are, fits-is, image-is, has-image, has-output}
 use Rattle.principal.specs.Blocked.{Blocked, Fitting, Choice, chosen, chosenType, choice-fits, blocked-none, none-blocked}
 
@@ -31,6 +31,11 @@ pub record Typing (m : ℕ) (e : Expression) : Type 0 where
   pub type : Attrs
   pub isType : IsType type
   pub typed : Typed assignment e type
+
+-- one that is filled (FORMAT 2.17)
+pub record FilledTyping (m : ℕ) (e : Expression) : Type 0 where
+  pub typing : Typing m e
+  pub filled : Filled m (typing .assignment)
 
 module _ (e : Expression) (F : Formula) (legal : Legal (F .relations) e) (is : FormulaOf e F) where
   -- ---- from the theory of states, in base 2
@@ -89,6 +94,15 @@ module _ (e : Expression) (F : Formula) (legal : Legal (F .relations) e) (is : F
             output = has-output (found .0) t .0 (found .1 .1);
             only = λ J has gives. state-unique plainCode e (statesFormula F) legal states-formula J (toStates (found .0)) (λ r below a v h. Iff·trans (Iff·symm (has r below a v h)) (image r below a v h));
           }
+
+  -- the same with filled relations: the rules give e the type t under A, and A is filled, exactly when an instantiation
+  -- whose image is filled has that image and that output
+  pub principal-filled : (A : Assignment) → IsAssignment (F .relations) A → (t : Attrs) → IsType t → Filled (F .relations) A × Typed A e t ↔ ((I : Instantiation F) × (FilledImage I × (HasImage I A × HasOutput I t)))
+  principal-filled A types t type =
+      let free = principal A types t type in (
+        (λ given. let found = free .0 (given .1) in (found .0, (filled-image (found .0) A (found .1 .0) .0 (given .0), found .1))),
+        (λ found. (filled-image (found .0) A (found .1 .1 .0) .1 (found .1 .0), free .1 (found .0, found .1 .1))),
+      )
 
   fitting-typing : Fitting F → Typing (F .relations) e
   fitting-typing f =

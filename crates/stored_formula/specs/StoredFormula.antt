@@ -9,11 +9,11 @@ use native.Mathlib.Nat.{lt-of-lt-of-le, lt-trans}
 use lib.ListN.{length}
 use lib.Pow.{pow-mono}
 use Rattle.bits.specs.Tab.{over}
-use Rattle.types.specs.Types.{Attrs, IsType, Assignment, IsAssignment}
+use Rattle.types.specs.Types.{Attrs, IsType, Assignment, IsAssignment, Filled}
 use Rattle.algebra.specs.Expression.{Expression}
 use Rattle.algebra.specs.Rules.{Typed}
 use Rattle.principal.specs.Formula.{Formula, Fits}
-use Rattle.principal.specs.Instantiation.{Instantiation, InImage, HasImage, HasOutput}
+use Rattle.principal.specs.Instantiation.{Instantiation, InImage, HasImage, HasOutput, FilledImage}
 use Rattle.principal.specs.Principal as Theorem
 use Rattle.expression_file.specs.declared.files.Acceptance.the-variants.{Accepted}
 use Rattle.expression_file.specs.ReadFile.{nodeAt, acceptance}
@@ -88,6 +88,15 @@ module _ (file : List ℕ) (m n : ℕ) (accepted : acceptance file ≡ Accepted 
   -- has that image and output t
   pub principal : (A : Assignment) → IsAssignment m A → (t : Attrs) → IsType t → Typed A (expressionAt file k) t ↔ ((I : Instantiation (formulaIn filled m k)) × (HasImage I A × HasOutput I t))
   principal = Theorem.principal (expressionAt file k) (formulaIn filled m k) (expression-legal file m n accepted k node) is-formula
+
+  -- principal with filled relations: the same for filled assignments and the instantiations whose image is filled
+  pub principal-filled :
+      (A : Assignment)
+      → IsAssignment m A
+      → (t : Attrs)
+      → IsType t
+      → Filled m A × Typed A (expressionAt file k) t ↔ ((I : Instantiation (formulaIn filled m k)) × (FilledImage I × (HasImage I A × HasOutput I t)))
+  principal-filled = Theorem.principal-filled (expressionAt file k) (formulaIn filled m k) (expression-legal file m n accepted k node) is-formula
 
   -- unique: no two instantiations have one image
   pub unique : (I J : Instantiation (formulaIn filled m k)) → ((r : ℕ) → r < m → (a : ℕ) → InImage I r a ↔ InImage J r a) → I ≡ J

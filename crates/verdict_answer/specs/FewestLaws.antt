@@ -1,18 +1,16 @@
--- Laws of the first subset that passes a test, in either order; and the one with the fewest members, of those the lowest.
+-- Laws of the first subset that passes a test: the one with the fewest members, of those the lowest.
 use Prim.Native.Nat.{ℕ, _+_, _*_, _≤_, _<_}
 use mathlib.Core.Path.{_≡_, refl, sym, ap, _∙_}
 use mathlib.Core.Bool.{Bool, true, false, _&&_}
 use native.Mathlib.Decide.{decLt}
 use native.Mathlib.Omega.{arith}
 use lib.Arith.{lt-of-le-ne}
-use borrow.Author.Tests.{eq-eqb, ne-eqb, eqb-true, ltb-true, ltb-false}
+use borrow.Author.Tests.{eq-eqb, eqb-true, ltb-true, ltb-false}
 use lib.Dec.{eqb, ltb}
 use Rattle.bits.specs.Lowest.{lowestFrom, Lowest, lowest-is, lowest-same}
 use Rattle.bits.specs.Truth.{is-true, by-true, by-false, both, left, right}
 use Rattle.types.specs.Memberships.{members, members-most}
-use Rattle.verdict_answer.specs.First.{lowestIn, lowestWith, fewestIn, firstIn}
-use Rattle.verdict_answer.specs.declared.Order.{Order}
-use Rattle.verdict_answer.specs.declared.Order.the-variants.{FewestMembers, LowestNumber}
+use Rattle.verdict_answer.specs.First.{lowestIn, lowestWith, fewestIn}
 
 -- x is a subset that passes; or it is 256, and none passes
 pub record Found (test : ℕ → Bool) (x : ℕ) : Type 0 where
@@ -50,11 +48,6 @@ fewest-once test x y f g = go (decLt x 256) (decLt y 256)
 
 lowest-in : (test : ℕ → Bool) → Lowest 256 0 test (lowestIn test)
 lowest-in test = lowest-is 256 0 test
-
-lowest-found : (test : ℕ → Bool) → Found test (lowestIn test)
-lowest-found test =
-    let found = lowest-in test in
-    record { upTo = found .upTo; passes = found .passes; none = λ past s below. found .before s (omega arith) (omega arith) }
 
 -- ---- by members, and then by number
 
@@ -133,29 +126,11 @@ module _ (test : ℕ → Bool) where
       go past s below true is = let less = fewest-before s below is .0 in absurd (omega arith)
       go past s below false is = is
 
--- ---- in either order
-
-pub first-found : (order : Order) (test : ℕ → Bool) → Found test (firstIn order test)
-first-found FewestMembers test = fewest-in test .found
-first-found LowestNumber test = lowest-found test
-
--- there is none in one order where there is none in the other
-pub found-either : (test : ℕ → Bool) (x y : ℕ) → Found test x → Found test y → eqb x 256 ≡ eqb y 256
-found-either test x y f g = go (decLt x 256) (decLt y 256)
-  where
-    go : Dec (x < 256) → Dec (y < 256) → eqb x 256 ≡ eqb y 256
-    go (yes h) (yes k) = ne-eqb x 256 (λ e. omega arith) ∙ sym (ne-eqb y 256 (λ e. omega arith))
-    go (yes h) (no k) = absurd (by-false (g .none (omega arith) x h) (by-true (f .passes h)))
-    go (no h) (yes k) = absurd (by-false (f .none (omega arith) y k) (by-true (g .passes k)))
-    go (no h) (no k) =
-        let one = f .upTo in
-        let other = g .upTo in
-        let same : x ≡ y = omega arith in
-        ap (λ (z : ℕ). eqb z 256) same
+-- ---- what it is used for
 
 -- another than 256 is below it
-pub first-small : (order : Order) (test : ℕ → Bool) (x : ℕ) → x ≡ firstIn order test → (x ≡ 256 → ⊥) → x < 256
-first-small order test x is other = lt-of-le-ne (rw is (first-found order test .upTo)) other
+pub first-small : (test : ℕ → Bool) (x : ℕ) → x ≡ fewestIn test → (x ≡ 256 → ⊥) → x < 256
+first-small test x is other = lt-of-le-ne (rw is (fewest-in test .found .upTo)) other
 
 -- tests that agree on the subsets find the same
 module _ (f g : ℕ → Bool) (same : (s : ℕ) → s < 256 → f s ≡ g s) where
@@ -163,9 +138,8 @@ module _ (f g : ℕ → Bool) (same : (s : ℕ) → s < 256 → f s ≡ g s) whe
   unfolding lowestWith
   same-with n = lowest-same 256 0 (λ s. eqb (members s) n && f s) (λ s. eqb (members s) n && g s) (λ s from below. ap (λ (t : Bool). eqb (members s) n && t) (same s below))
 
-  pub first-same : (order : Order) → firstIn order f ≡ firstIn order g
+  pub first-same : fewestIn f ≡ fewestIn g
   unfolding fewestIn
-  first-same FewestMembers =
+  first-same =
       ap (λ (n : ℕ). lowestWith n f) (lowest-same 9 0 (λ n. ltb (lowestWith n f) 256) (λ n. ltb (lowestWith n g) 256) (λ n from below. ap (λ (s : ℕ). ltb s 256) (same-with n)))
       ∙ same-with (lowestFrom 9 0 (λ n. ltb (lowestWith n g) 256))
-  first-same LowestNumber = lowest-same 256 0 f g (λ s from below. same s below)

@@ -1,4 +1,4 @@
--- The first allowed subset of each column of a node, and what a verdict chooses by it (FORMAT 7.7, 7.8, 7.22).
+-- The first allowed subset of each column of a node, by fewest members (FORMAT 7.7, 7.8).
 use Prim.Native.Nat.{ℕ}
 use mathlib.Core.Bool.{Bool, cond, _&&_}
 use mathlib.Core.List.{List}
@@ -6,17 +6,18 @@ use lib.Dec.{eqb, ltb, leb}
 use Rattle.bits.specs.Lowest.{lowestFrom}
 use Rattle.bits.specs.Tab.{tab}
 use Rattle.types.specs.Memberships.{members}
-use Rattle.algebra.specs.Expression.{Expression}
 use Rattle.column.specs.Column.{allowedIn}
 use Rattle.stored_formula.specs.ColumnPlace.{columnAt}
-use Rattle.stored_formula.specs.FormulaBytes.{allowedBit}
-use Rattle.verdict_answer.specs.declared.Order.{Order}
-use Rattle.verdict_answer.specs.declared.Order.the-variants.{FewestMembers, LowestNumber}
 use Rattle.verdict_answer.specs.declared.Subsets.{Subsets}
+
+-- which subsets each column of node k allows, as read off the work space; of an expression e of m relations it is
+-- `allowedBit m e`
+abbrev pub allowedAt : List ℕ → ℕ → ℕ → ℕ → Bool
+allowedAt work k i = allowedIn (columnAt work k i)
 
 -- ---- the first subset that passes a test; 256 where none does
 
--- FORMAT 7.22: by their numbers
+-- by their numbers
 abbrev pub lowestIn : (ℕ → Bool) → ℕ
 lowestIn test = lowestFrom 256 0 test
 
@@ -28,20 +29,9 @@ lowestWith n test = lowestIn (λ s. eqb (members s) n && test s)
 unfoldable pub fewestIn : (ℕ → Bool) → ℕ
 fewestIn test = lowestWith (lowestFrom 9 0 (λ n. ltb (lowestWith n test) 256)) test
 
--- by either order
-abbrev pub firstIn : Order → (ℕ → Bool) → ℕ
-firstIn FewestMembers = fewestIn
-firstIn LowestNumber = lowestIn
-
--- ---- the first subset that column i allows; 256 where it allows nothing
-
--- of an expression, for m relations
-abbrev pub firstOf : Order → ℕ → Expression → ℕ → ℕ
-firstOf order m e i = firstIn order (allowedBit m e i)
-
--- as read off the work space
-abbrev pub firstAt : Order → List ℕ → ℕ → ℕ → ℕ
-firstAt order work k i = firstIn order (allowedIn (columnAt work k i))
+-- the first that column i allows; 256 where it allows nothing
+abbrev pub firstIn : (ℕ → ℕ → Bool) → ℕ → ℕ
+firstIn allowed i = fewestIn (allowed i)
 
 -- ---- by the first subset of each column
 
@@ -49,13 +39,9 @@ firstAt order work k i = firstIn order (allowedIn (columnAt work k i))
 unfoldable pub blockedBy : (ℕ → ℕ) → ℕ
 blockedBy first = lowestFrom 15 1 (λ i. eqb (first i) 256)
 
--- the same of an expression, for m relations
-abbrev pub blockedOf : ℕ → Expression → ℕ
-blockedOf m e = blockedBy (firstOf FewestMembers m e)
-
--- as read off the work space
-abbrev pub blockedAt : List ℕ → ℕ → ℕ
-blockedAt work k = blockedBy (firstAt FewestMembers work k)
+-- the same by what the columns allow
+abbrev pub blockedIn : (ℕ → ℕ → Bool) → ℕ
+blockedIn allowed = blockedBy (firstIn allowed)
 
 -- FORMAT 7.8: the subset of each special attribute below that one; 0 for any other number
 unfoldable pub chosenBy : (ℕ → ℕ) → List ℕ

@@ -1,5 +1,4 @@
--- Laws of the subsets chosen: their search, and that a work space says the same as the expression whose columns it
--- holds.
+-- Laws of the first subsets: their search, and that a work space says the same as the expression whose columns it holds.
 use Prim.Native.Nat.{ℕ, zero, suc, _+_, _-_, _≤_, _<_}
 use mathlib.Core.Path.{_≡_, refl, sym, ap, ap₂, _∙_}
 use mathlib.Core.Bool.{Bool, cond, _&&_}
@@ -17,10 +16,8 @@ use Rattle.column.specs.Column.{allowedIn}
 use Rattle.stored_formula.specs.ColumnPlace.{columnAt}
 use Rattle.stored_formula.specs.FormulaBytes.{allowedBit, cellColumn}
 use Rattle.stored_formula.specs.NodeColumn.{cell-allowed}
-use Rattle.verdict_answer.specs.First.{firstIn, firstOf, firstAt, blockedBy, blockedOf, blockedAt, chosenBy, subsetsBy}
-use Rattle.verdict_answer.specs.FewestLaws.{first-found, found-either, first-same}
-use Rattle.verdict_answer.specs.declared.Order.{Order}
-use Rattle.verdict_answer.specs.declared.Order.the-variants.{FewestMembers}
+use Rattle.verdict_answer.specs.First.{allowedAt, firstIn, blockedBy, blockedIn, chosenBy, subsetsBy}
+use Rattle.verdict_answer.specs.FewestLaws.{first-same}
 use Rattle.verdict_answer.specs.declared.Subsets.{Subsets}
 
 -- ---- the subsets chosen
@@ -116,20 +113,21 @@ module _ (f g : ℕ → ℕ) (same : (i : ℕ) → i < 16 → f i ≡ g i) where
       tab-is 16 (λ i. cond (ltb i (blockedBy g) && leb 1 i) (g i) 0) 0 (tab 16 (λ i. cond (ltb i (blockedBy f) && leb 1 i) (f i) 0)) (length-tab 16 (λ i. cond (ltb i (blockedBy f) && leb 1 i) (f i) 0))
       (λ i h. getD-tab 16 (λ i. cond (ltb i (blockedBy f) && leb 1 i) (f i) 0) i 0 h ∙ ap₂ (λ (b x : ℕ). cond (ltb i b && leb 1 i) x 0) blocked-same (same i h))
 
--- in either order the same attribute is the lowest that is blocked
-pub blocked-either : (order : Order) (m : ℕ) (e : Expression) → blockedBy (firstOf order m e) ≡ blockedOf m e
-unfolding blockedBy
-blocked-either order m e =
-    lowest-same 15 1 (λ i. eqb (firstOf order m e i) 256) (λ i. eqb (firstOf FewestMembers m e i) 256)
-    (λ i low high. found-either (allowedBit m e i) (firstOf order m e i) (firstOf FewestMembers m e i) (first-found order (allowedBit m e i)) (first-found FewestMembers (allowedBit m e i)))
+-- ---- columns that allow the same
 
--- ---- a work space that holds the columns of expression e at node k
+module _ (f g : ℕ → ℕ → Bool) (same : (i s : ℕ) → i < 16 → s < 256 → f i s ≡ g i s) where
+  pub firsts-same : (i : ℕ) → i < 16 → firstIn f i ≡ firstIn g i
+  firsts-same i h = first-same (f i) (g i) (λ s below. same i s h below)
 
-module _ (work : List ℕ) (k m : ℕ) (e : Expression) (columns : (c : ℕ) → c < 16 → columnAt work k c ≡ cellColumn m e c) where
-  pub first-cells : (order : Order) (i : ℕ) → i < 16 → firstAt order work k i ≡ firstOf order m e i
-  first-cells order i h =
-      ap (λ (column : List ℕ). firstIn order (allowedIn column)) (columns i h)
-      ∙ first-same (allowedIn (cellColumn m e i)) (allowedBit m e i) (λ s below. cell-allowed m e i s below) order
+  pub blocked-in-same : blockedIn f ≡ blockedIn g
+  blocked-in-same = blocked-same (firstIn f) (firstIn g) firsts-same
 
-  pub blocked-cells : blockedAt work k ≡ blockedOf m e
-  blocked-cells = blocked-same (firstAt FewestMembers work k) (firstOf FewestMembers m e) (first-cells FewestMembers)
+-- a work space that holds the columns of expression e at node k
+pub stored-cells :
+    (work : List ℕ) (k m : ℕ) (e : Expression)
+    → ((c : ℕ) → c < 16 → columnAt work k c ≡ cellColumn m e c)
+    → (i s : ℕ)
+    → i < 16
+    → s < 256
+    → allowedAt work k i s ≡ allowedBit m e i s
+stored-cells work k m e columns i s h below = ap (λ (column : List ℕ). allowedIn column s) (columns i h) ∙ cell-allowed m e i s below

@@ -1,6 +1,10 @@
 pub mod First
 pub mod FewestLaws
 pub mod FirstLaws
+pub mod Formed
+pub mod Witness
+pub mod WitnessLaws
+pub mod FirstChoice
 pub mod Verdict
 pub mod VerdictLaws
 pub mod Numbers

@@ -1,12 +1,8 @@
--- What the answers of the verdicts are in numbers, for callers in C (FORMAT 7.18).
+-- What the answer of Verdict is in numbers, for callers in C (FORMAT 7.18).
 use Prim.Native.Nat.{ℕ}
 use Rattle.refusal.specs.Number.{numberOf}
 use Rattle.verdict_answer.specs.declared.Outcome.{Outcome}
 use Rattle.verdict_answer.specs.declared.Outcome.the-variants.{Typable, Untypable, Refused}
-use Rattle.verdict_answer.specs.declared.LowestOutcome.{LowestOutcome}
-use Rattle.verdict_answer.specs.declared.LowestOutcome.the-variants.{Typable as LowestTypable, Untypable as LowestUntypable, Refused as LowestRefused}
-
--- ---- of Verdict
 
 -- FORMAT 7.18: 0 for typable, 255 for untypable, or the refusal's number
 abbrev pub outcomeNumber : Outcome → ℕ
@@ -25,17 +21,3 @@ abbrev pub outcomeMemberships : Outcome → ℕ → ℕ
 outcomeMemberships (Typable size count) old = count
 outcomeMemberships (Untypable a) old = old
 outcomeMemberships (Refused r) old = old
-
--- ---- of the verdict by lowest subsets
-
--- FORMAT 7.18: 0 for typable, 255 for untypable, or the refusal's number
-abbrev pub lowestNumber : LowestOutcome → ℕ
-lowestNumber (LowestTypable size) = 0
-lowestNumber (LowestUntypable a) = 255
-lowestNumber (LowestRefused r) = numberOf r
-
--- FORMAT 7.18: the witness's length, or the attribute; after a refusal what stood there
-abbrev pub lowestValue : LowestOutcome → ℕ → ℕ
-lowestValue (LowestTypable size) old = size
-lowestValue (LowestUntypable a) old = a
-lowestValue (LowestRefused r) old = old

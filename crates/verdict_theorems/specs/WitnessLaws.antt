@@ -1,56 +1,68 @@
--- A verdict is right about types, in either order and for an expression of m relations: a column is blocked exactly where
--- no assignment types it, and the witness is a schema that types it.
-use Prim.Native.Nat.{ℕ, _^_, _≤_, _<_}
-use mathlib.Core.Path.{_≡_, refl, sym, ap, subst, fun-ext, _∙_}
-use mathlib.Core.Logic.{_↔_}
-use mathlib.Core.Bool.{Bool, true, false, _&&_}
-use mathlib.Core.List.{List, []}
+-- Verdict is right about types, for an expression of m relations: it is untypable exactly where no filled assignment types
+-- it, and the witness is a filled schema that types it.
+use Prim.Native.Nat.{ℕ, zero, suc, _+_, _-_, _^_, _≤_, _<_}
+use mathlib.Core.Path.{_≡_, refl, sym, ap, ap₂, _∙_}
+use mathlib.Core.Logic.{_↔_, _⊎_, inl, inr, ∥∥₁-elim}
+use mathlib.Core.Bool.{Bool, true, false, _||_}
+use mathlib.Core.List.{List, [], _∷_}
 use native.Mathlib.Nat.{lt-of-lt-of-le}
 use native.Mathlib.Decide.{decLt}
 use native.Mathlib.Omega.{arith}
-use lib.Arith.{lt-of-le-ne}
-use borrow.Author.Tests.{eqb-true, eqb-false}
-use lib.Dec.{eqb}
-use lib.ListN.{getD, List·getD-eq-default}
-use lib.Pow.{pow-mono, pow-pos}
-use Rattle.bits.specs.Bit.{bit, bit-none, bit-above}
-use Rattle.bits.specs.Lowest.{Lowest}
+use lib.Dec.{T, ltb, lit<}
+use borrow.Author.Tests.{eqb-true, ltb-true}
+use lib.ListN.{length, getD, drop, length-drop, List·getD-eq-default}
+use lib.Pow.{pow-mono, pow-pos, ones-lt}
+use lib.Seq.{getD-drop}
+use Rattle.bits.specs.Bit.{bit, bit-none}
+use Rattle.bits.specs.Booleans.{and-left, and-right}
 use Rattle.bits.specs.Word.{Bytes}
+use Rattle.bits.specs.Truth.{by-true, is-true}
 use Rattle.attribute_set.specs.AttrSet.{special}
-use Rattle.attribute_set.specs.Laws.{special-range, special-in}
-use Rattle.types.specs.Types.{Attrs, IsType, Assignment, holders}
-use Rattle.types.specs.Laws.{column-of-special}
+use Rattle.attribute_set.specs.Laws.{special-in, special-zero, special-above}
+use Rattle.types.specs.Types.{Attrs, IsType, Assignment, Filled, column, holders}
+use Rattle.types.specs.Laws.{finite-by, column-of-special, column-of-other, holders-below}
+use Rattle.types.specs.Memberships.{Within, within-some}
 use Rattle.algebra.specs.Expression.{Expression, Legal}
 use Rattle.algebra.specs.Rules.{Typed}
-use Rattle.principal.specs.Formula.{Formula}
-use Rattle.bits.specs.Truth.{is-true, by-true}
-use Rattle.principal.specs.Blocked.{Blocked, Choice, chosen, chosenType, choice-types, choice-type}
+use Rattle.states.specs.Formula.{typeVariable}
+use Rattle.principal.specs.Formula.{Formula, Fits, Grounded}
+use Rattle.principal.specs.Plain.{holders-is, holders-none}
+use Rattle.principal.specs.Blocked.{Blocked}
 use Rattle.principal.specs.Principal as Theorem
+use Rattle.principal.specs.Principal.{FilledTyping}
 use Rattle.stored_formula.specs.FormulaBytes.{allowedBit, outputBit}
 use Rattle.stored_formula.specs.FormulaBytesLaws.{allowed-is, allowed-below, output-is}
 use Rattle.type_record.specs.Record.{TypeRecord, typeOf}
 use Rattle.type_record.specs.RecordTypes.{type-of-special, type-of-other}
+use Rattle.membership.specs.HolderLaws.{held-member}
 use Rattle.special_maps.specs.Special.{mapsFrom}
-use Rattle.special_maps.specs.SpecialLaws.{maps-length, maps-even, maps-small, maps-empty, map-bit}
+use Rattle.special_maps.specs.SpecialLaws.{map-bit}
 use Rattle.schema.specs.Schema.{readRecords, noRecord, assignmentOf, schemaReading}
-use Rattle.refusal.specs.Several.{severalRead as recordsRead}
 use Rattle.schema.specs.RecordsLaws.{schema-bytes}
 use Rattle.schema.specs.TableLaws.{ReadSchema}
-use Rattle.schema.specs.Image.{IsTable, image-size, image-at, image-records, image-schema}
-use Rattle.verdict_answer.specs.First.{firstOf, blockedBy, blockedOf, chosenBy}
-use Rattle.verdict_answer.specs.FewestLaws.{Found, first-found}
-use Rattle.verdict_answer.specs.FirstLaws.{blocked-lowest, chosen-none, chosen-special}
-use Rattle.verdict_answer.specs.Verdict.{witnessRecords, witnessOf}
-use Rattle.verdict_answer.specs.declared.Order.{Order}
-use Rattle.verdict_answer.specs.declared.Order.the-variants.{FewestMembers}
-use Rattle.verdict_answer.specs.VerdictLaws.{witness-bytes}
+use Rattle.schema.specs.Image.{image-size, image-at, image-records, image-schema}
+use Rattle.refusal.specs.Several.{severalRead as recordsRead}
+use Rattle.set_cover.specs.Least.{infinity}
+use Rattle.set_cover.specs.Cheapest.{best-right}
+use Rattle.set_cover.specs.Covered.{anyHas, fills-is}
+use Rattle.set_cover.specs.BestLaws.{best-below, best-least, best-most, best-entry, best-special, best-variable}
+use Rattle.set_cover.specs.Assignments.{Allowed, schema-none}
+use Rattle.verdict_answer.specs.First.{firstIn, blockedIn}
+use Rattle.verdict_answer.specs.FewestLaws.{fewest-in}
+use Rattle.verdict_answer.specs.FirstLaws.{blocked-lowest}
+use Rattle.verdict_answer.specs.Formed.{cells-formed}
+use Rattle.verdict_answer.specs.Witness.{costIn, choiceIn, specialsOf, ordinariesOf, witnessRecords, witnessBytes}
+use Rattle.verdict_answer.specs.WitnessLaws.{Variables, IsChoice, witness-bytes, specials-at, choice-table, ordinaries-holders}
+use Rattle.verdict_answer.specs.Verdict.{untypableIn}
+use Rattle.verdict_answer.specs.VerdictLaws.{untypable-blocked, untypable-unfilled, untypable-none, typable-parts}
 
--- these are bytes, they are read as a schema of m relations without a refusal, and the rules derive a type of e under
--- the assignment that it means
+-- these bytes are read as a schema of m relations without a refusal, every relation has an attribute, and the rules derive
+-- a type of e under the assignment that it means
 pub record Witness (m : ℕ) (e : Expression) (bytes : List ℕ) : Type 0 where
   pub below : Bytes bytes
   pub records : List TypeRecord
   pub reading : ReadSchema m bytes (schemaReading m bytes) records
+  pub filled : Filled m (assignmentOf records)
   pub type : Attrs
   pub isType : IsType type
   pub typed : Typed (assignmentOf records) e type
@@ -59,169 +71,149 @@ pub record Witness (m : ℕ) (e : Expression) (bytes : List ℕ) : Type 0 where
 abbrev cellFormula : ℕ → Expression → Formula
 cellFormula m e = record { relations = m; allowed = allowedBit m e; output = outputBit m e }
 
-module _ (order : Order) (m : ℕ) (few : m ≤ 8) (e : Expression) (legal : Legal m e) where
+module _ (m : ℕ) (few : m ≤ 8) (e : Expression) (legal : Legal m e) where
   is-formula : Theorem.FormulaOf e (cellFormula m e)
   is-formula = record { allowed = λ c s hc hs. allowed-is m e c s hs; output = λ c s hc hs. output-is m e c s hs }
 
-  chosen-found : (i : ℕ) → Found (allowedBit m e i) (firstOf order m e i)
-  chosen-found i = first-found order (allowedBit m e i)
+  ground : Grounded (cellFormula m e)
+  ground = Theorem.grounded e (cellFormula m e) legal is-formula
 
-  first : Lowest 15 1 (λ i. eqb (firstOf order m e i) 256) (blockedBy (firstOf order m e))
-  first = blocked-lowest (firstOf order m e)
+  subsets-few : 2 ^ m ≤ 256
+  subsets-few = pow-mono {j = 8} few
+
+  -- ---- an assignment that types the expression
+
+  -- each attribute is allowed as it has it
+  fits-at : (t : Theorem.Typing m e) (a : ℕ) → allowedBit m e (column a) (holders m (t .assignment) a) ≡ true
+  fits-at t a = Theorem.typed-fits e (cellFormula m e) legal is-formula (t .assignment) (t .type) .0 (t .typed) a .allowed
+
+  pub typing-allowed : (t : Theorem.Typing m e) → Allowed m (allowedBit m e) (t .assignment)
+  typing-allowed t =
+      record {
+        special = λ i some most. ap (λ (c : ℕ). allowedBit m e c (holders m (t .assignment) i)) (sym (column-of-special i (special-in i some most))) ∙ fits-at t i;
+        ordinary = λ a from. ap (λ (c : ℕ). allowedBit m e c (holders m (t .assignment) a)) (sym (column-of-other a (special-above a from))) ∙ fits-at t a;
+      }
 
   -- ---- untypable
 
-  blocks : blockedBy (firstOf order m e) < 16 → Blocked (cellFormula m e)
+  blocks : blockedIn (allowedBit m e) < 16 → Blocked (cellFormula m e)
   blocks h =
+      let first = blocked-lowest (firstIn (allowedBit m e)) in
+      let at = blockedIn (allowedBit m e) in
       let from = first .from in
-      let none = eqb-true (firstOf order m e (blockedBy (firstOf order m e))) 256 (first .passes (omega arith)) in
-      let small : 2 ^ m ≤ 256 = pow-mono {j = 8} few in
+      let none = eqb-true (firstIn (allowedBit m e) at) 256 (first .passes (omega arith)) in
+      let small = subsets-few in
       record {
-        attribute = blockedBy (firstOf order m e);
-        isSpecial = by-true (special-in (blockedBy (firstOf order m e)) from (omega arith));
-        nothing = λ s less. chosen-found (blockedBy (firstOf order m e)) .none (omega arith) s (omega arith);
+        attribute = at;
+        isSpecial = by-true (special-in at from (omega arith));
+        nothing = λ s less. fewest-in (allowedBit m e at) .found .none (omega arith) s (omega arith);
       }
 
-  -- ---- typable: each special attribute has an allowed subset
+  -- a column allows nothing: no assignment types it, filled or not
+  pub blocked-none : blockedIn (allowedBit m e) < 16 → Theorem.Typing m e → ⊥
+  blocked-none h = Theorem.verdict e (cellFormula m e) legal is-formula .0 (blocks h)
 
-  module _ (none : 16 ≤ blockedBy (firstOf order m e)) where
-    found : (i : ℕ) → 1 ≤ i → i < 16 → allowedBit m e i (firstOf order m e i) ≡ true
-    found i some most =
-        let upTo = chosen-found i .upTo in
-        let other = eqb-false (firstOf order m e i) 256 (first .before i some (omega arith)) in
-        let less : firstOf order m e i < 256 = lt-of-le-ne (omega arith) other in
-        chosen-found i .passes less
-
-    choice : Choice (cellFormula m e)
-    choice =
-        record {
-          subset = firstOf order m e;
-          below = λ i h. let range = special-range i (is-true (special i) h) in allowed-below m e i (firstOf order m e i) (found i (range .0) (omega arith));
-          allowed = λ i h. let range = special-range i (is-true (special i) h) in found i (range .0) (omega arith);
-        }
-
-    -- the subsets of the witness
-
-    subset-is : (i : ℕ) → 1 ≤ i → i < 16 → getD (chosenBy (firstOf order m e)) i 0 ≡ firstOf order m e i
-    subset-is i some most = chosen-special (firstOf order m e) i none some most
-
-    subset-below : (i : ℕ) → i < 16 → getD (chosenBy (firstOf order m e)) i 0 < 2 ^ m
-    subset-below i most = go (decLt 0 i)
-      where
-        go : Dec (0 < i) → getD (chosenBy (firstOf order m e)) i 0 < 2 ^ m
-        go (yes some) = rw (subset-is i some most) (allowed-below m e i (firstOf order m e i) (found i some most))
-        go (no zero-is) =
-            let same : i ≡ 0 = omega arith in
-            rw (same, chosen-none (firstOf order m e)) (pow-pos m)
-
-    table : IsTable m (mapsFrom (chosenBy (firstOf order m e))) []
-    table =
-        record {
-          size = maps-length (chosenBy (firstOf order m e));
-          even = maps-even (chosenBy (firstOf order m e)) (chosen-none (firstOf order m e));
-          small = maps-small (chosenBy (firstOf order m e));
-          empty = maps-empty (chosenBy (firstOf order m e)) m subset-below;
-          few = omega arith;
-          rising = tt;
-          below = tt;
-          held = tt;
-        }
-
-    -- the witness gives each relation what the choice does
-
-    holds : (r a : ℕ) → special a ≡ true → Dec (r < m) → assignmentOf (witnessRecords m (firstOf order m e)) r a ≡ bit (firstOf order m e a) r
-    holds r a h (yes inside) =
-        let range = special-range a h in
-        ap (λ (t : TypeRecord). typeOf t a) (image-at m few (mapsFrom (chosenBy (firstOf order m e))) [] table r inside)
-        ∙ type-of-special _ a h
-        ∙ map-bit (chosenBy (firstOf order m e)) r a (lt-of-lt-of-le inside few) (omega arith)
-        ∙ ap (λ (s : ℕ). bit s r) (subset-is a (range .0) (omega arith))
-    holds r a h (no past) =
-        let range = special-range a h in
-        let size = image-size m few (mapsFrom (chosenBy (firstOf order m e))) [] table in
-        let below = allowed-below m e a (firstOf order m e a) (found a (range .0) (omega arith)) in
-        ap (λ (t : TypeRecord). typeOf t a) (List·getD-eq-default (witnessRecords m (firstOf order m e)) noRecord {n = r} (omega arith))
-        ∙ type-of-special noRecord a h
-        ∙ bit-none a
-        ∙ sym (bit-above (firstOf order m e a) r (lt-of-lt-of-le below (pow-mono (omega arith))))
-
-    lacks : (r a : ℕ) → special a ≡ false → Dec (r < m) → assignmentOf (witnessRecords m (firstOf order m e)) r a ≡ false
-    lacks r a h (yes inside) =
-        ap (λ (t : TypeRecord). typeOf t a) (image-at m few (mapsFrom (chosenBy (firstOf order m e))) [] table r inside) ∙ type-of-other _ a h
-    lacks r a h (no past) =
-        let size = image-size m few (mapsFrom (chosenBy (firstOf order m e))) [] table in
-        ap (λ (t : TypeRecord). typeOf t a) (List·getD-eq-default (witnessRecords m (firstOf order m e)) noRecord {n = r} (omega arith)) ∙ type-of-other noRecord a h
-
-    pub witness-has : (r a : ℕ) → assignmentOf (witnessRecords m (firstOf order m e)) r a ≡ special a && bit (firstOf order m e a) r
-    witness-has r a = same r a (special a) refl
-      where
-        same : (r a : ℕ) (t : Bool) → special a ≡ t → assignmentOf (witnessRecords m (firstOf order m e)) r a ≡ special a && bit (firstOf order m e a) r
-        same r a true h = rw h (holds r a h (decLt r m))
-        same r a false h = rw h (lacks r a h (decLt r m))
-
-    witness-chosen : assignmentOf (witnessRecords m (firstOf order m e)) ≡ chosen choice
-    unfolding choice
-    witness-chosen = fun-ext (λ r. fun-ext (λ a. witness-has r a))
-
-    pub witness-below : (i : ℕ) → 1 ≤ i → i < 16 → firstOf order m e i < 2 ^ m
-    witness-below i some most = allowed-below m e i (firstOf order m e i) (found i some most)
-
-    -- the witness is a schema that types it
-    pub witness-typed : Witness m e (witnessOf order m e)
-    witness-typed =
-        rw (witness-bytes m (firstOf order m e))
-        (record {
-          below = schema-bytes (witnessRecords m (firstOf order m e)) (image-records m few (mapsFrom (chosenBy (firstOf order m e))) [] table);
-          records = witnessRecords m (firstOf order m e);
-          reading = image-schema m few (mapsFrom (chosenBy (firstOf order m e))) [] table;
-          type = chosenType choice;
-          isType = choice-type (cellFormula m e) choice;
-          typed = subst (λ (A : Assignment). Typed A e (chosenType choice)) (sym witness-chosen) (Theorem.choice-typed e (cellFormula m e) legal is-formula choice);
-        })
-
-    -- a witness with these bytes has these records
-    pub witness-records : (bytes : List ℕ) → bytes ≡ witnessOf order m e → (w : Witness m e bytes) → w .records ≡ witnessRecords m (firstOf order m e)
-    witness-records bytes is w =
-        let own : readRecords m bytes ≡ recordsRead (witnessRecords m (firstOf order m e)) = rw (is, witness-bytes m (firstOf order m e)) (image-schema m few (mapsFrom (chosenBy (firstOf order m e))) [] table .read) in
-        let both = sym (w .reading .read) ∙ own in
-        cc
-
-    -- an assignment that types the expression
-    order-typable : Theorem.Typing m e
-    order-typable =
-        record {
-          assignment = chosen choice;
-          types = choice-types (cellFormula m e) choice;
-          type = chosenType choice;
-          isType = choice-type (cellFormula m e) choice;
-          typed = Theorem.choice-typed e (cellFormula m e) legal is-formula choice;
-        }
-
-  -- ---- the verdict
-
-  -- where an assignment types the expression, each special attribute is allowed as it has it
-  pub typed-allowed : (t : Theorem.Typing m e) (a : ℕ) → 1 ≤ a → a < 16 → allowedBit m e a (holders m (t .assignment) a) ≡ true
-  typed-allowed t a some most =
-      let is-special = special-in a some (omega arith) in
-      ap (λ (c : ℕ). allowedBit m e c (holders m (t .assignment) a)) (sym (column-of-special a is-special))
-      ∙ Theorem.typed-fits e (cellFormula m e) legal is-formula (t .assignment) (t .type) .0 (t .typed) a .allowed
-
-  -- a special column allows nothing exactly where no assignment types the expression
-  pub order-untypable : (blockedBy (firstOf order m e) < 16) ↔ (Theorem.Typing m e → ⊥)
-  order-untypable = (
-    (λ h. Theorem.verdict e (cellFormula m e) legal is-formula .0 (blocks h)),
-    (λ none. go none (decLt (blockedBy (firstOf order m e)) 16)),
-  )
+  pub untypable-untyped : untypableIn m (allowedBit m e) < 16 → FilledTyping m e → ⊥
+  untypable-untyped said t = go (decLt (blockedIn (allowedBit m e)) 16) (decLt (costIn m (allowedBit m e)) infinity)
     where
-      go : (Theorem.Typing m e → ⊥) → Dec (blockedBy (firstOf order m e) < 16) → blockedBy (firstOf order m e) < 16
-      go none (yes h) = h
-      go none (no h) = absurd (none (order-typable (omega arith)))
+      nothing : (x y : ⊥) → x ≡ y
+      nothing x y = absurd x
 
--- ---- the same of the attribute that both verdicts and the listing name
+      go : Dec (blockedIn (allowedBit m e) < 16) → Dec (costIn m (allowedBit m e) < infinity) → ⊥
+      go (yes h) d = blocked-none h (t .typing)
+      go (no h) (yes can) = let is = untypable-none m (allowedBit m e) (omega arith) can in omega arith
+      go (no h) (no cannot) =
+          ∥∥₁-elim (within-some m (t .typing .assignment) (t .typing .types)) nothing
+          (λ x. schema-none m few (allowedBit m e) (t .typing .assignment) (t .typing .types) (t .filled) (x .0) (x .1) (typing-allowed (t .typing)) (omega arith))
 
-module _ (m : ℕ) (few : m ≤ 8) (e : Expression) (legal : Legal m e) where
-  pub unblocked-typable : 16 ≤ blockedOf m e → Theorem.Typing m e
-  unblocked-typable none = order-typable FewestMembers m few e legal none
+  -- ---- typable: the choice
 
-  pub blocked-untypable : (blockedOf m e < 16) ↔ (Theorem.Typing m e → ⊥)
-  blocked-untypable = order-untypable FewestMembers m few e legal
+  module _ (said : 16 ≤ untypableIn m (allowedBit m e)) where
+    abbrev choice : List ℕ
+    choice = choiceIn m (allowedBit m e)
+
+    can : costIn m (allowedBit m e) < infinity
+    can = typable-parts m (allowedBit m e) said .1
+
+    -- entry i is below 2^m, also past the end
+    pub entry-below : (i : ℕ) → getD (choiceIn m (allowedBit m e)) i 0 < 2 ^ m
+    entry-below = best-entry (2 ^ m) (allowedBit m e) subsets-few (2 ^ m - 1) (ones-lt m)
+
+    special-allowed : (i : ℕ) → i < 15 → allowedBit m e (suc i) (getD (choiceIn m (allowedBit m e)) i 0) ≡ true
+    special-allowed i h =
+        let next : suc i ≡ i + 1 = omega arith in
+        ap (λ (c : ℕ). allowedBit m e c (getD (choiceIn m (allowedBit m e)) i 0)) next ∙ best-special (2 ^ m) (allowedBit m e) subsets-few (2 ^ m - 1) (ones-lt m) can i h
+
+    -- the entries after the first fifteen are variables
+    variable-at : (j : ℕ) → j < length (drop 15 (choiceIn m (allowedBit m e))) → typeVariable (allowedBit m e 0) (getD (drop 15 (choiceIn m (allowedBit m e))) j 0) ≡ true
+    variable-at = best-variable (2 ^ m) (allowedBit m e) subsets-few (2 ^ m - 1) (ones-lt m) can
+
+    variables : (vs : List ℕ) → ((j : ℕ) → j < length vs → typeVariable (allowedBit m e 0) (getD vs j 0) ≡ true) → Variables m vs
+    variables [] each = tt
+    variables (v ∷ vs) each =
+        let here = each 0 (omega arith) in (
+          ltb-true 0 v (and-left (ltb 0 v) (allowedBit m e 0 v) here),
+          allowed-below m e 0 v (and-right (ltb 0 v) (allowedBit m e 0 v) here),
+          variables vs (λ j h. each (suc j) (omega arith)),
+        )
+
+    pub is-choice : IsChoice m (choiceIn m (allowedBit m e))
+    is-choice =
+        record {
+          size = best-least (2 ^ m) (allowedBit m e) subsets-few 15 (2 ^ m - 1);
+          few = best-most (2 ^ m) (allowedBit m e) subsets-few (2 ^ m - 1) (ones-lt m) can;
+          special = λ i h. entry-below i;
+          variables = variables (drop 15 (choiceIn m (allowedBit m e))) variable-at;
+        }
+
+    -- past its end nobody has anything
+    ended : (i : ℕ) → 23 ≤ i → getD (choiceIn m (allowedBit m e)) i 0 ≡ 0
+    ended i past = let most = is-choice .few in List·getD-eq-default (choiceIn m (allowedBit m e)) 0 {n = i} (omega arith)
+
+    -- ---- the assignment that the witness means
+
+    abbrev records : List TypeRecord
+    records = witnessRecords m (choiceIn m (allowedBit m e))
+
+    record-at : (r : ℕ) → r < m → (a : ℕ) → assignmentOf records r a ≡ typeOf (getD records r noRecord) a
+    record-at r h a = refl
+
+    special-has : (r i : ℕ) → r < m → i < 15 → assignmentOf records r (suc i) ≡ bit (getD (choiceIn m (allowedBit m e)) i 0) r
+    special-has r i inside h =
+        ap (λ (t : TypeRecord). typeOf t (suc i)) (image-at m few (mapsFrom (specialsOf choice)) (ordinariesOf choice) (choice-table m few choice is-choice) r inside)
+        ∙ type-of-special _ (suc i) (special-in (suc i) (omega arith) (omega arith))
+        ∙ map-bit (specialsOf choice) r (suc i) (lt-of-lt-of-le inside few) (omega arith)
+        ∙ ap (λ (s : ℕ). bit s r) (specials-at choice i h)
+
+    ordinary-has : (r j : ℕ) → r < m → assignmentOf records r (16 + j) ≡ bit (getD (choiceIn m (allowedBit m e)) (15 + j) 0) r
+    ordinary-has r j inside =
+        ap (λ (t : TypeRecord). typeOf t (16 + j)) (image-at m few (mapsFrom (specialsOf choice)) (ordinariesOf choice) (choice-table m few choice is-choice) r inside)
+        ∙ type-of-other _ (16 + j) (special-above (16 + j) (omega arith))
+        ∙ held-member 15 r (ordinariesOf choice) (lt-of-lt-of-le inside few) (choice-table m few choice is-choice .rising) (16 + j)
+        ∙ ap (λ (s : ℕ). bit s r) (ordinaries-holders m few choice is-choice j)
+
+    -- attribute i + 1 is in entry i
+    pub witness-has : (r i : ℕ) → r < m → assignmentOf (witnessRecords m (choiceIn m (allowedBit m e))) r (suc i) ≡ bit (getD (choiceIn m (allowedBit m e)) i 0) r
+    witness-has r i inside = go (decLt i 15)
+      where
+        go : Dec (i < 15) → assignmentOf records r (suc i) ≡ bit (getD choice i 0) r
+        go (yes h) = special-has r i inside h
+        go (no h) =
+            let attribute : suc i ≡ 16 + (i - 15) = omega arith in
+            let place : 15 + (i - 15) ≡ i = omega arith in
+            ap (assignmentOf records r) attribute ∙ ordinary-has r (i - 15) inside ∙ ap (λ (k : ℕ). bit (getD choice k 0) r) place
+
+    -- there is no attribute 0
+    witness-zero : (r : ℕ) → r < m → assignmentOf records r 0 ≡ false
+    witness-zero r inside =
+        ap (λ (t : TypeRecord). typeOf t 0) (image-at m few (mapsFrom (specialsOf choice)) (ordinariesOf choice) (choice-table m few choice is-choice) r inside)
+        ∙ type-of-other _ 0 special-zero
+        ∙ held-member 15 r (ordinariesOf choice) (lt-of-lt-of-le inside few) (choice-table m few choice is-choice .rising) 0
+        ∙ ap (λ (s : ℕ). bit s r) none
+        ∙ bit-none r
+      where
+        none : _
+        none = ?
+
+    pub witness-holders : (i : ℕ) → holders m (assignmentOf (witnessRecords m (choiceIn m (allowedBit m e)))) (suc i) ≡ getD (choiceIn m (allowedBit m e)) i 0
+    witness-holders i = holders-is m (assignmentOf records) (suc i) (getD choice i 0) (entry-below i) (λ r inside. witness-has r i inside)
