@@ -2,7 +2,8 @@
 use Prim.Native.Nat.{ℕ, zero, suc, _+_, _/_, _%_, _^_, _≤_, _<_}
 use mathlib.Core.Path.{_≡_, refl, sym, ap, ap₂, _∙_}
 use mathlib.Core.Bool.{Bool, true, false, cond}
-use native.Mathlib.Nat.{add-assoc, add-zero, mod-lt, pow-suc}
+use mathlib.Core.Logic.{_⊎_, inl, inr, ⊎-elim}
+use native.Mathlib.Nat.{add-assoc, add-zero, eq-or-lt-of-le, le-of-suc-le-suc, mod-lt, pow-suc}
 use native.Mathlib.Numerals.{add-one}
 use native.Mathlib.Decide.{decLt}
 use native.Mathlib.Omega.{arith}
@@ -11,6 +12,7 @@ use lib.Arith.{lt-one}
 use lib.Count.{ones, ones-step, ones-ones}
 use lib.Dec.{eqb, lit<}
 use Rattle.bits.specs.Bit.{bit, bit-first, bit-next}
+use Rattle.bits.specs.Booleans.{clash}
 
 -- the sum of f over the numbers below n
 unfoldable pub total : ℕ → (ℕ → ℕ) → ℕ
@@ -112,6 +114,31 @@ count-one (suc n) x h = go (decLt x n) (count-one n x)
     go (no past) rest =
         let last : n ≡ x = omega arith in
         rw (eq-eqb n x last, none n (omega arith))
+
+-- tests that agree below n pass as often
+pub count-same : (n : ℕ) (f g : ℕ → Bool) → ((i : ℕ) → i < n → f i ≡ g i) → count n f ≡ count n g
+count-same n f g e = total-same n (λ i. cond (f i) 1 0) (λ i. cond (g i) 1 0) (λ i h. ap (λ (b : Bool). cond b 1 0) (e i h))
+
+-- a test that passes only where another does passes less often, or is the same test
+pub count-fewer : (n : ℕ) (f g : ℕ → Bool) → ((i : ℕ) → i < n → f i ≡ true → g i ≡ true) → (count n f < count n g) ⊎ ((i : ℕ) → i < n → f i ≡ g i)
+unfolding total
+count-fewer zero f g h = inr (λ i l. absurd (omega arith))
+count-fewer (suc n) f g h = go (f n) (g n) refl refl (count-fewer n f g (λ i l. h i (omega arith)))
+  where
+    next : f n ≡ g n → ((i : ℕ) → i < n → f i ≡ g i) → (i : ℕ) → i < suc n → f i ≡ g i
+    next e same i l = ⊎-elim (λ last. ap f last ∙ e ∙ ap g (sym last)) (λ below. same i below) (eq-or-lt-of-le (le-of-suc-le-suc l))
+
+    most : (count n f < count n g) ⊎ ((i : ℕ) → i < n → f i ≡ g i) → count n f ≤ count n g
+    most (inl less) = omega arith
+    most (inr same) = let e = count-same n f g same in omega arith
+
+    go : (a b : Bool) → f n ≡ a → g n ≡ b → (count n f < count n g) ⊎ ((i : ℕ) → i < n → f i ≡ g i) → (count n f + cond (f n) 1 0 < count n g + cond (g n) 1 0) ⊎ ((i : ℕ) → i < suc n → f i ≡ g i)
+    go true false ea eb rest = absurd (clash (h n (omega arith) ea) eb)
+    go false true ea eb rest = let upTo = most rest in inl (rw (ea, eb) (omega arith))
+    go true true ea eb (inl less) = inl (rw (ea, eb) (omega arith))
+    go true true ea eb (inr same) = inr (next (ea ∙ sym eb) same)
+    go false false ea eb (inl less) = inl (rw (ea, eb) (omega arith))
+    go false false ea eb (inr same) = inr (next (ea ∙ sym eb) same)
 
 -- a number's digits that are 1, as the machine counts them
 pub ones-count : (n x : ℕ) → x < 2 ^ n → ones x ≡ count n (bit x)

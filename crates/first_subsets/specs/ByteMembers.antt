@@ -8,13 +8,13 @@ use native.Mathlib.Decide.{decLt}
 use native.Mathlib.Omega.{arith}
 use lib.Bits.{bitAnd}
 use lib.Count.{ones}
-use lib.Dec.{eqb, leb}
+use lib.Dec.{leb}
 use lib.ListN.{getD}
-use borrow.Author.Tests.{ne-eqb, leb-true}
+use borrow.Author.Tests.{leb-true}
 use Rattle.bits.specs.AllBelow.{allBelow, all-in}
 use Rattle.bits.specs.Bit.{bit}
 use Rattle.bits.specs.Total.{total}
-use Rattle.types.specs.Memberships.{members, members-most, members-ones, members-split}
+use Rattle.types.specs.Memberships.{members, members-most, members-some, members-ones, members-split}
 use Rattle.column.specs.Column.{allowedIn}
 use Rattle.column.specs.ColumnLaws.{allowed-bit}
 
@@ -46,16 +46,6 @@ module _ (x : ℕ) (h : x < 256) where
   byte-least t below stands =
       leb-true (fewestInByte x) (members t)
       (sym (ap (λ (b : Bool). not b || leb (fewestInByte x) (members t)) stands) ∙ all-in 8 (λ t. not (bit x t) || leb (fewestInByte x) (members t)) (passed .1) t below)
-
--- a subset has a member, or it is the empty one
-member-test : allBelow 256 (λ s. eqb s 0 || leb 1 (members s)) ≡ true
-unfolding members total bit
-member-test = refl
-
-members-some : (s : ℕ) → s < 256 → 1 ≤ s → 1 ≤ members s
-members-some s h some =
-    leb-true 1 (members s)
-    (sym (ap (λ (b : Bool). b || leb 1 (members s)) (ne-eqb s 0 (λ e. omega arith))) ∙ all-in 256 (λ s. eqb s 0 || leb 1 (members s)) member-test s h)
 
 -- ---- of a column
 

@@ -2,3 +2,10 @@ pub mod Remainder
 pub mod Least
 pub mod Cost
 pub mod Choice
+pub mod Cheapest
+pub mod Shortcuts
+pub mod FirstCover
+pub mod Covered
+pub mod SameCost
+pub mod BestLaws
+pub mod Assignments

@@ -1,16 +1,17 @@
 -- Memberships: how many relations have how many attributes (FORMAT 2.16, 3.1).
 use Prim.Native.Nat.{ℕ, zero, suc, _+_, _-_, _*_, _/_, _%_, _≤_, _<_}
 use mathlib.Core.Path.{_≡_, refl, sym, ap, ap₂, _∙_}
-use mathlib.Core.Bool.{Bool, false, cond}
-use mathlib.Core.Logic.{∥∥₁-elim, ∥∥₁-prop}
+use mathlib.Core.Bool.{Bool, true, false, cond}
+use mathlib.Core.Logic.{_⊎_, inl, inr, ∥∥₁-elim, ∥∥₁-prop}
 use native.Mathlib.Nat.{add-comm, lt-of-lt-of-le}
 use native.Mathlib.Decide.{decLt}
 use native.Mathlib.Omega.{arith}
 use lib.Count.{ones, ones-cat}
 use lib.Pow.{pow-mono}
 use Rattle.bits.specs.Bit.{bit, bit-none, bit-above}
-use Rattle.bits.specs.Pack.{pack, bit-pack, pack-below}
-use Rattle.bits.specs.Total.{total, count, total-zero, total-same, total-swap, total-more, total-part, count-most, ones-count}
+use Rattle.bits.specs.Booleans.{clash}
+use Rattle.bits.specs.Pack.{pack, bit-pack, bits-once, pack-below}
+use Rattle.bits.specs.Total.{total, count, total-zero, total-same, total-swap, total-more, total-part, count-most, count-fewer, ones-count}
 use Rattle.types.specs.Types.{Assignment, IsAssignment, holders}
 use Rattle.types.specs.Laws.{holders-packed, finite-bound}
 
@@ -36,6 +37,23 @@ members-most s = count-most 8 (bit s)
 pub members-none : members 0 ≡ 0
 unfolding members
 members-none = total-same 8 (λ r. cond (bit 0 r) 1 0) (λ r. 0) (λ r h. ap (λ (b : Bool). cond b 1 0) (bit-none r)) ∙ total-zero 8
+
+-- a subset whose members are all in another has fewer, or is the same subset
+pub members-fewer : (s t : ℕ) → s < 256 → t < 256 → ((r : ℕ) → r < 8 → bit s r ≡ true → bit t r ≡ true) → (members s < members t) ⊎ (s ≡ t)
+unfolding members
+members-fewer s t hs ht h = go (count-fewer 8 (bit s) (bit t) h)
+  where
+    go : (count 8 (bit s) < count 8 (bit t)) ⊎ ((r : ℕ) → r < 8 → bit s r ≡ bit t r) → (count 8 (bit s) < count 8 (bit t)) ⊎ (s ≡ t)
+    go (inl less) = inl less
+    go (inr same) = inr (bits-once 8 s t hs ht same)
+
+-- a subset that is not empty has a member
+pub members-some : (s : ℕ) → s < 256 → 1 ≤ s → 1 ≤ members s
+members-some s h some = go (members-fewer 0 s (omega arith) h (λ r l e. absurd (clash e (bit-none r))))
+  where
+    go : (members 0 < members s) ⊎ (0 ≡ s) → 1 ≤ members s
+    go (inl less) = omega arith
+    go (inr same) = absurd (omega arith)
 
 -- as the machine counts them
 pub members-ones : (s : ℕ) → s < 256 → ones s ≡ members s
