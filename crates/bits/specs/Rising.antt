@@ -1,5 +1,5 @@
 -- Rising lists of numbers, and their members.
-use Prim.Native.Nat.{ℕ, suc, _≤_, _<_}
+use Prim.Native.Nat.{ℕ, zero, suc, _≤_, _<_}
 use mathlib.Core.Path.{_≡_, refl, sym, ap, ap₂, subst, _∙_}
 use mathlib.Core.Bool.{Bool, true, false, _||_, or-assoc}
 use mathlib.Core.List.{List, [], _∷_, _++_}
@@ -7,7 +7,7 @@ use native.Mathlib.Decide.{decLe}
 use native.Mathlib.Omega.{arith}
 use borrow.Author.Tests.{eq-eqb, ne-eqb}
 use lib.Dec.{eqb}
-use lib.ListN.{getD}
+use lib.ListN.{length, getD}
 
 -- a is in the list
 abbrev pub member : ℕ → List ℕ → Bool
@@ -27,6 +27,18 @@ Rising p (x ∷ xs) = (p < x) × Rising x xs
 pub rising-lower : (p q : ℕ) (xs : List ℕ) → p ≤ q → Rising q xs → Rising p xs
 rising-lower p q [] h r = tt
 rising-lower p q (x ∷ xs) h r = let first = r .0 in (omega arith, r .1)
+
+rising-from : (p : ℕ) (xs : List ℕ) → Rising p xs → (i : ℕ) → i < length xs → p < getD xs i 0
+rising-from p [] r i h = absurd (omega arith)
+rising-from p (x ∷ xs) r zero h = r .0
+rising-from p (x ∷ xs) r (suc i) h = let first : p < x = r .0 in let later = rising-from x xs (r .1) i (omega arith) in omega arith
+
+-- place by place
+pub rising-places : (p : ℕ) (xs : List ℕ) → Rising p xs → (i j : ℕ) → i < j → j < length xs → getD xs i 0 < getD xs j 0
+rising-places p [] r i j less h = absurd (omega arith)
+rising-places p (x ∷ xs) r i zero less h = absurd (omega arith)
+rising-places p (x ∷ xs) r zero (suc j) less h = rising-from x xs (r .1) j (omega arith)
+rising-places p (x ∷ xs) r (suc i) (suc j) less h = rising-places x xs (r .1) i j (omega arith) (omega arith)
 
 -- no member is p or below
 pub rising-above : (p : ℕ) (xs : List ℕ) (a : ℕ) → Rising p xs → a ≤ p → member a xs ≡ false

@@ -1,8 +1,9 @@
-// Members of subsets: the fewest in a column, and all together.
+// Members of subsets: the fewest in a column, all together, and the relations that are in none.
 ghost use mathlib.Core.Path.{_≡_};
 ghost use Prim.Native.Nat.{_≤_, min};
-ghost use lib.ListN.{length};
-ghost use Rattle.verdict_answer.specs.Verdict.{membershipsOf};
+ghost use lib.ListN.{length, drop};
+ghost use Rattle.set_cover.specs.Choice.{uncovered};
+ghost use Rattle.verdict_answer.specs.FirstChoice.{membershipsOf};
 ghost use Rattle.first_subsets.specs.ByteMembers.{fewestInByte, NoneFewer};
 
 fn lesser(a: u8, b: u8) -> u8
@@ -58,4 +59,18 @@ pub fn count_memberships(subsets: &[u8]) -> u8
         i += 1;
     }
     count
+}
+
+// The relations of `all` that are in none of the subsets of attributes 1 to 15.
+pub fn uncovered_relations(subsets: &[u8], all: u8) -> u8
+    requires { ⌜ length (now subsets) ≡ 16 ⌝ }
+    ensures { λ r. ⌜ r ≡ uncovered all (drop 1 (now (subsets .entry))) ⌝ }
+{
+    let mut need = all;
+    let mut i = 1usize;
+    while i < 16 {
+        need = need & !subsets[i];
+        i += 1;
+    }
+    need
 }

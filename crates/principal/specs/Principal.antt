@@ -51,7 +51,7 @@ module _ (e : Expression) (F : Formula) (legal : Legal (F .relations) e) (is : F
       either true v = refl
       either false v = refl
 
-  grounded : Grounded F
+  pub grounded : Grounded F
   grounded = let ground = state-grounded plainCode e (statesFormula F) legal states-formula in record { allowed = ground .allowed; output = ground .output }
 
   -- the rules give e the type t under A exactly when no attribute breaks a rule

@@ -1,11 +1,13 @@
 -- Choices: a subset for each special attribute, then a list of variables; and the one that Verdict takes (FORMAT 7.26).
 use Prim.Native.Nat.{ℕ, zero, suc, _+_, _-_, _<_}
-use mathlib.Core.Path.{_≡_}
+use mathlib.Core.Path.{_≡_, sym, ap, _∙_}
 use mathlib.Core.Bool.{Bool, true, false}
 use mathlib.Core.List.{List, [], _∷_}
 use mathlib.Core.Logic.{_⊎_}
 use lib.Dec.{eqb}
+use lib.ListN.{length, getD}
 use Rattle.bits.specs.Lowest.{lowestFrom}
+use Rattle.bits.specs.Total.{total, total-none, total-front}
 use Rattle.types.specs.Memberships.{members}
 use Rattle.states.specs.Formula.{typeVariable}
 use Rattle.set_cover.specs.Remainder.{rest}
@@ -22,6 +24,11 @@ Chosen N allowed (suc k) (s ∷ xs) = (s < N) × (allowed (15 - k) s ≡ true) �
 abbrev pub weight : List ℕ → ℕ
 weight [] = 0
 weight (s ∷ xs) = members s + weight xs
+
+-- place by place
+pub weight-total : (xs : List ℕ) → weight xs ≡ total (length xs) (λ i. members (getD xs i 0))
+weight-total [] = sym (total-none (λ i. members 0))
+weight-total (x ∷ xs) = ap (λ (n : ℕ). members x + n) (weight-total xs) ∙ sym (total-front (length xs) (λ i. members (getD (x ∷ xs) i 0)))
 
 -- the relations of `need` that are in none of them
 abbrev pub uncovered : ℕ → List ℕ → ℕ

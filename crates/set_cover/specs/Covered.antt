@@ -1,13 +1,18 @@
 -- That a list of subsets leaves nothing uncovered, relation by relation.
-use Prim.Native.Nat.{ℕ, _-_, _≤_, _<_, _^_}
+use Prim.Native.Nat.{ℕ, suc, _+_, _-_, _≤_, _<_, _^_}
 use mathlib.Core.Path.{_≡_, refl, sym, ap, _∙_}
 use mathlib.Core.Logic.{_↔_}
 use mathlib.Core.Bool.{Bool, true, false, not, _&&_, _||_}
 use mathlib.Core.List.{List, [], _∷_}
+use native.Mathlib.Numerals.{add-one}
 use native.Mathlib.Omega.{arith}
+use lib.Bits.{bitAnd}
+use lib.ListN.{length, getD, drop, drop-of-length-le}
 use lib.Pow.{pow-pos}
+use lib.Seq.{drop-cons}
 use Rattle.bits.specs.Bit.{bit, bit-none, bit-ones}
 use Rattle.bits.specs.Pack.{bits-once}
+use Rattle.bits.specs.Truth.{by-true}
 use Rattle.set_cover.specs.Remainder.{rest, rest-least, rest-bit}
 use Rattle.set_cover.specs.Choice.{uncovered}
 
@@ -16,10 +21,28 @@ abbrev pub anyHas : ℕ → List ℕ → Bool
 anyHas r [] = false
 anyHas r (x ∷ xs) = bit x r || anyHas r xs
 
+-- and in which
+pub any-place : (r : ℕ) (xs : List ℕ) → anyHas r xs ≡ true → (i : ℕ) × (bit (getD xs i 0) r ≡ true)
+any-place r [] is = absurd (by-true is)
+any-place r (x ∷ xs) is = go (bit x r) refl (any-place r xs) is
+  where
+    go : (t : Bool) → bit x r ≡ t → (anyHas r xs ≡ true → (i : ℕ) × (bit (getD xs i 0) r ≡ true)) → t || anyHas r xs ≡ true → (i : ℕ) × (bit (getD (x ∷ xs) i 0) r ≡ true)
+    go true has rest is = (0, has)
+    go false lacks rest is = let found = rest is in (suc (found .0), found .1)
+
 -- each of them is below N
 abbrev pub EachBelow : ℕ → List ℕ → Type 0
 EachBelow N [] = Unit {0}
 EachBelow N (x ∷ xs) = (x < N) × EachBelow N xs
+
+-- one after the other, from place i on
+pub uncovered-next : (xs : List ℕ) (need i left : ℕ) → i < length xs → left ≡ bitAnd need (255 - getD xs i 0) → uncovered need (drop i xs) ≡ uncovered left (drop (i + 1) xs)
+unfolding rest
+uncovered-next xs need i left h is =
+    ap (uncovered need) (drop-cons xs i 0 h ∙ ap (λ (k : ℕ). getD xs i 0 ∷ drop k xs) (sym (add-one i))) ∙ ap (λ (n : ℕ). uncovered n (drop (i + 1) xs)) (sym is)
+
+pub uncovered-ended : (xs : List ℕ) (need i : ℕ) → length xs ≤ i → uncovered need (drop i xs) ≡ need
+uncovered-ended xs need i h = ap (uncovered need) (drop-of-length-le xs h)
 
 twist : (n x y : Bool) → (n && not x) && not y ≡ n && not (x || y)
 twist true true y = refl

@@ -52,7 +52,7 @@ module _ (N : ℕ) (allowed : ℕ → ℕ → Bool) (few : N ≤ 256) (subset : 
       in
       omega arith
 
-  firsts-cost : (k need : ℕ) → k ≤ 15 → need < N → uncovered need (firsts subset k) ≡ 0 → cost N allowed k need ≡ weight (firsts subset k)
+  pub firsts-cost : (k need : ℕ) → k ≤ 15 → need < N → uncovered need (firsts subset k) ≡ 0 → cost N allowed k need ≡ weight (firsts subset k)
   firsts-cost k need h below covers = le-antisymm (fewest N allowed few k (firsts subset k) need below (firsts-chosen k h) covers) (firsts-fewest k need h below)
 
   -- where they cover, they are `best`, and there are no variables

@@ -9,11 +9,11 @@ use lib.ListN.{length, getD, take, drop, length-take, drop-of-length-le}
 use lib.Seq.{take-all, ext-getD}
 use lib.Pow.{pow-mono, pow-pos, ones-lt}
 use borrow.Author.Tests.{eqb-false}
-use Rattle.bits.specs.Total.{total, total-front, total-none}
-use Rattle.types.specs.Memberships.{members, members-none, members-most}
+use Rattle.bits.specs.Total.{total, total-front}
+use Rattle.types.specs.Memberships.{members, members-none}
 use Rattle.set_cover.specs.Least.{infinity}
 use Rattle.set_cover.specs.Cost.{cost}
-use Rattle.set_cover.specs.Choice.{weight, uncovered, best}
+use Rattle.set_cover.specs.Choice.{weight, uncovered, weight-total}
 use Rattle.set_cover.specs.FirstCover.{FewestMembers, firsts, firsts-best, firsts-cost}
 use Rattle.verdict_answer.specs.First.{fewestIn, firstIn, blockedBy, blockedIn, chosenBy}
 use Rattle.verdict_answer.specs.FewestLaws.{fewest-in}
@@ -28,12 +28,6 @@ membershipsOf subsets = total 16 (λ i. members (getD subsets i 0))
 pub memberships-of : (subsets : List ℕ) → membershipsOf subsets ≡ total 16 (λ i. members (getD subsets i 0))
 unfolding membershipsOf
 memberships-of subsets = refl
-
--- ---- a list of subsets, by its places
-
-weight-total : (xs : List ℕ) → weight xs ≡ total (length xs) (λ i. members (getD xs i 0))
-weight-total [] = sym (total-none (λ i. members 0))
-weight-total (x ∷ xs) = ap (λ (n : ℕ). members x + n) (weight-total xs) ∙ sym (total-front (length xs) (λ i. members (getD (x ∷ xs) i 0)))
 
 -- of 15 special attributes
 pub memberships-weight : (xs : List ℕ) → length xs ≡ 15 → membershipsOf (0 ∷ xs) ≡ weight xs
@@ -88,11 +82,11 @@ module _ (m : ℕ) (few : m ≤ 8) (allowed : ℕ → ℕ → Bool) (formed : Fo
     subsets-few = pow-mono {j = 8} few
 
     is-firsts : choiceIn m allowed ≡ firsts (firstIn allowed) 15
-    is-firsts = firsts-best (2 ^ m) allowed subsets-few (formed .grounded) (firstIn allowed) fewest-first 15 (2 ^ m - 1) (omega arith) (ones-lt m) covers
+    is-firsts = firsts-best (2 ^ m) allowed subsets-few (firstIn allowed) fewest-first 15 (2 ^ m - 1) (omega arith) (ones-lt m) covers
 
     pub covers-cost : costIn m allowed ≡ membershipsOf (chosenBy (firstIn allowed))
     covers-cost =
-        firsts-cost (2 ^ m) allowed subsets-few (formed .grounded) (firstIn allowed) fewest-first 15 (2 ^ m - 1) (omega arith) (ones-lt m) covers
+        firsts-cost (2 ^ m) allowed subsets-few (firstIn allowed) fewest-first 15 (2 ^ m - 1) (omega arith) (ones-lt m) covers
         ∙ sym (ap membershipsOf (chosen-firsts (firstIn allowed) none) ∙ memberships-weight (firsts (firstIn allowed) 15) (firsts-length (firstIn allowed) 15))
 
     pub covers-specials : specialsOf (choiceIn m allowed) ≡ chosenBy (firstIn allowed)

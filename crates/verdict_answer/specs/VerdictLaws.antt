@@ -1,8 +1,9 @@
 -- Laws of Verdict: the outcome, by what the code finds; the three results after each refusal, and after none.
-use Prim.Native.Nat.{ℕ, _*_, _≤_, _<_}
+use Prim.Native.Nat.{ℕ, _-_, _^_, _≤_, _<_}
 use mathlib.Core.Path.{_≡_, refl, sym, ap, ap₂, _∙_}
 use mathlib.Core.Bool.{Bool, true, false, cond}
 use mathlib.Core.List.{List}
+use native.Mathlib.Nat.{lt-of-lt-of-le}
 use native.Mathlib.Decide.{decLt}
 use native.Mathlib.Omega.{arith}
 use borrow.Author.Tests.{lt-ltb, le-ltb}
@@ -119,10 +120,10 @@ witness-from subsets special items count are clear few fit = rw are (record { ma
 
 module _ (m : ℕ) (few : m ≤ 8) (f g : ℕ → ℕ → Bool) (same : (i s : ℕ) → i < 16 → s < 256 → f i s ≡ g i s) where
   same-cost : costIn m f ≡ costIn m g
-  same-cost = let small = pow-mono {j = 8} few in cost-same _ f g (λ i s h below. same i s h (omega arith)) 15 _ (omega arith)
+  same-cost = cost-same (2 ^ m) f g (λ i h s below. same i s h (lt-of-lt-of-le below (pow-mono {j = 8} few))) 15 (2 ^ m - 1) (omega arith)
 
   same-choice : choiceIn m f ≡ choiceIn m g
-  same-choice = let small = pow-mono {j = 8} few in best-same _ f g (λ i s h below. same i s h (omega arith)) 15 _ (omega arith)
+  same-choice = best-same (2 ^ m) f g (λ i h s below. same i s h (lt-of-lt-of-le below (pow-mono {j = 8} few))) 15 (2 ^ m - 1) (omega arith)
 
   pub same-untypable : untypableIn m f ≡ untypableIn m g
   unfolding untypableIn

@@ -3,20 +3,21 @@
 use Prim.Native.Nat.{ℕ, zero, suc, _+_, _-_, _^_, _≤_, _<_}
 use mathlib.Core.Path.{_≡_, refl, sym, ap, ap₂, _∙_}
 use mathlib.Core.Logic.{_↔_, _⊎_, inl, inr, ∥∥₁-elim}
-use mathlib.Core.Bool.{Bool, true, false, _||_}
+use mathlib.Core.Bool.{Bool, true, false}
 use mathlib.Core.List.{List, [], _∷_}
 use native.Mathlib.Nat.{lt-of-lt-of-le}
 use native.Mathlib.Decide.{decLt}
 use native.Mathlib.Omega.{arith}
-use lib.Dec.{T, ltb, lit<}
-use borrow.Author.Tests.{eqb-true, ltb-true}
+use lib.Arith.{lt-of-le-ne}
+use lib.Dec.{ltb}
+use borrow.Author.Tests.{eqb-true, eqb-false, ltb-true}
 use lib.ListN.{length, getD, drop, length-drop, List·getD-eq-default}
 use lib.Pow.{pow-mono, pow-pos, ones-lt}
 use lib.Seq.{getD-drop}
 use Rattle.bits.specs.Bit.{bit, bit-none}
 use Rattle.bits.specs.Booleans.{and-left, and-right}
 use Rattle.bits.specs.Word.{Bytes}
-use Rattle.bits.specs.Truth.{by-true, is-true}
+use Rattle.bits.specs.Truth.{by-true, by-false}
 use Rattle.attribute_set.specs.AttrSet.{special}
 use Rattle.attribute_set.specs.Laws.{special-in, special-zero, special-above}
 use Rattle.types.specs.Types.{Attrs, IsType, Assignment, Filled, column, holders}
@@ -34,6 +35,7 @@ use Rattle.stored_formula.specs.FormulaBytes.{allowedBit, outputBit}
 use Rattle.stored_formula.specs.FormulaBytesLaws.{allowed-is, allowed-below, output-is}
 use Rattle.type_record.specs.Record.{TypeRecord, typeOf}
 use Rattle.type_record.specs.RecordTypes.{type-of-special, type-of-other}
+use Rattle.membership.specs.EnterLaws.{holders-below as holders-before}
 use Rattle.membership.specs.HolderLaws.{held-member}
 use Rattle.special_maps.specs.Special.{mapsFrom}
 use Rattle.special_maps.specs.SpecialLaws.{map-bit}
@@ -44,7 +46,7 @@ use Rattle.schema.specs.Image.{image-size, image-at, image-records, image-schem
 use Rattle.refusal.specs.Several.{severalRead as recordsRead}
 use Rattle.set_cover.specs.Least.{infinity}
 use Rattle.set_cover.specs.Cheapest.{best-right}
-use Rattle.set_cover.specs.Covered.{anyHas, fills-is}
+use Rattle.set_cover.specs.Covered.{EachBelow, any-place, fills-is}
 use Rattle.set_cover.specs.BestLaws.{best-below, best-least, best-most, best-entry, best-special, best-variable}
 use Rattle.set_cover.specs.Assignments.{Allowed, schema-none}
 use Rattle.verdict_answer.specs.First.{firstIn, blockedIn}
@@ -175,9 +177,6 @@ module _ (m : ℕ) (few : m ≤ 8) (e : Expression) (legal : Legal m e) where
     abbrev records : List TypeRecord
     records = witnessRecords m (choiceIn m (allowedBit m e))
 
-    record-at : (r : ℕ) → r < m → (a : ℕ) → assignmentOf records r a ≡ typeOf (getD records r noRecord) a
-    record-at r h a = refl
-
     special-has : (r i : ℕ) → r < m → i < 15 → assignmentOf records r (suc i) ≡ bit (getD (choiceIn m (allowedBit m e)) i 0) r
     special-has r i inside h =
         ap (λ (t : TypeRecord). typeOf t (suc i)) (image-at m few (mapsFrom (specialsOf choice)) (ordinariesOf choice) (choice-table m few choice is-choice) r inside)
@@ -209,11 +208,150 @@ module _ (m : ℕ) (few : m ≤ 8) (e : Expression) (legal : Legal m e) where
         ap (λ (t : TypeRecord). typeOf t 0) (image-at m few (mapsFrom (specialsOf choice)) (ordinariesOf choice) (choice-table m few choice is-choice) r inside)
         ∙ type-of-other _ 0 special-zero
         ∙ held-member 15 r (ordinariesOf choice) (lt-of-lt-of-le inside few) (choice-table m few choice is-choice .rising) 0
-        ∙ ap (λ (s : ℕ). bit s r) none
+        ∙ ap (λ (s : ℕ). bit s r) (holders-before 15 (ordinariesOf choice) (choice-table m few choice is-choice .rising) 0 (omega arith))
         ∙ bit-none r
-      where
-        none : _
-        none = ?
 
     pub witness-holders : (i : ℕ) → holders m (assignmentOf (witnessRecords m (choiceIn m (allowedBit m e)))) (suc i) ≡ getD (choiceIn m (allowedBit m e)) i 0
     witness-holders i = holders-is m (assignmentOf records) (suc i) (getD choice i 0) (entry-below i) (λ r inside. witness-has r i inside)
+
+    pub holders-zero : holders m (assignmentOf (witnessRecords m (choiceIn m (allowedBit m e)))) 0 ≡ 0
+    holders-zero = holders-none m (assignmentOf records) 0 witness-zero
+
+    -- an attribute from 24 on nobody has
+    pub witness-within : Within m (assignmentOf (witnessRecords m (choiceIn m (allowedBit m e)))) 24
+    witness-within r inside a past =
+        let next : suc (a - 1) ≡ a = omega arith in
+        ap (assignmentOf records r) (sym next) ∙ witness-has r (a - 1) inside ∙ ap (λ (s : ℕ). bit s r) (ended (a - 1) (omega arith)) ∙ bit-none r
+
+    -- ---- the rules type it
+
+    -- each attribute is allowed as the witness has it
+    entry-allowed : (i : ℕ) → allowedBit m e (column (suc i)) (getD (choiceIn m (allowedBit m e)) i 0) ≡ true
+    entry-allowed i = go (decLt i 15) (decLt (i - 15) (length (drop 15 (choiceIn m (allowedBit m e)))))
+      where
+        ordinary-column : 15 ≤ i → allowedBit m e (column (suc i)) (getD choice i 0) ≡ allowedBit m e 0 (getD choice i 0)
+        ordinary-column from = ap (λ (c : ℕ). allowedBit m e c (getD choice i 0)) (column-of-other (suc i) (special-above (suc i) (omega arith)))
+
+        go : Dec (i < 15) → Dec (i - 15 < length (drop 15 choice)) → allowedBit m e (column (suc i)) (getD choice i 0) ≡ true
+        go (yes h) d = ap (λ (c : ℕ). allowedBit m e c (getD choice i 0)) (column-of-special (suc i) (special-in (suc i) (omega arith) (omega arith))) ∙ special-allowed i h
+        go (no h) (yes inside) =
+            let place : 15 + (i - 15) ≡ i = omega arith in
+            let same : getD (drop 15 choice) (i - 15) 0 ≡ getD choice i 0 = getD-drop 15 choice (i - 15) 0 ∙ ap (λ (k : ℕ). getD choice k 0) place in
+            let is = and-right (ltb 0 (getD (drop 15 choice) (i - 15) 0)) (allowedBit m e 0 (getD (drop 15 choice) (i - 15) 0)) (variable-at (i - 15) inside) in
+            ordinary-column (omega arith) ∙ ap (allowedBit m e 0) (sym same) ∙ is
+        go (no h) (no past) =
+            let size = length-drop 15 choice in
+            ordinary-column (omega arith) ∙ ap (allowedBit m e 0) (List·getD-eq-default choice 0 {n = i} (omega arith)) ∙ ground .allowed
+
+    -- its type: the attributes whose output bit stands
+    abbrev witnessType : Attrs
+    witnessType a = outputBit m e (column a) (holders m (assignmentOf records) a)
+
+    witness-fits : (a : ℕ) → Fits (cellFormula m e) (assignmentOf records) witnessType a
+    witness-fits a = record { allowed = each a; output = refl }
+      where
+        each : (a : ℕ) → allowedBit m e (column a) (holders m (assignmentOf records) a) ≡ true
+        each zero = ap₂ (allowedBit m e) (column-of-other 0 special-zero) holders-zero ∙ ground .allowed
+        each (suc i) = ap (allowedBit m e (column (suc i))) (witness-holders i) ∙ entry-allowed i
+
+    witness-type : IsType witnessType
+    witness-type =
+        record {
+          positive = ap₂ (outputBit m e) (column-of-other 0 special-zero) holders-zero ∙ ground .output;
+          finite = finite-by 24 none;
+        }
+      where
+        none : (a : ℕ) → 24 ≤ a → witnessType a ≡ false
+        none a past =
+            ap₂ (outputBit m e) (column-of-other a (special-above a (omega arith))) (holders-none m (assignmentOf records) a (λ r inside. witness-within r inside a past)) ∙ ground .output
+
+    -- ---- every relation has an attribute
+
+    small-each : (xs : List ℕ) → EachBelow (2 ^ m) xs → EachBelow 256 xs
+    small-each [] each = tt
+    small-each (x ∷ xs) each = (lt-of-lt-of-le (each .0) subsets-few, small-each xs (each .1))
+
+    pub witness-filled : Filled m (assignmentOf (witnessRecords m (choiceIn m (allowedBit m e))))
+    witness-filled r inside =
+        let right = best-right (2 ^ m) (allowedBit m e) subsets-few 15 (2 ^ m - 1) (ones-lt m) can in
+        let each = small-each choice (best-below (2 ^ m) (allowedBit m e) subsets-few 15 (2 ^ m - 1) (ones-lt m)) in
+        let found = any-place r choice (fills-is m few choice each .0 (right .covers) r inside) in
+        ∣ (suc (found .0), by-true (witness-has r (found .0) inside ∙ found .1)) ∣₁
+
+    -- ---- the witness is a schema that types it
+
+    pub witness-typed : Witness m e (witnessBytes m (choiceIn m (allowedBit m e)))
+    witness-typed =
+        let table = choice-table m few choice is-choice in
+        rw (witness-bytes m choice)
+        (record {
+          below = schema-bytes records (image-records m few (mapsFrom (specialsOf choice)) (ordinariesOf choice) table);
+          records = records;
+          reading = image-schema m few (mapsFrom (specialsOf choice)) (ordinariesOf choice) table;
+          filled = witness-filled;
+          type = witnessType;
+          isType = witness-type;
+          typed = Theorem.typed-fits e (cellFormula m e) legal is-formula (assignmentOf records) witnessType .1 witness-fits;
+        })
+
+    -- a witness with these bytes has these records
+    pub witness-records : (bytes : List ℕ) → bytes ≡ witnessBytes m (choiceIn m (allowedBit m e)) → (w : Witness m e bytes) → w .records ≡ witnessRecords m (choiceIn m (allowedBit m e))
+    witness-records bytes is w =
+        let table = choice-table m few choice is-choice in
+        let own : readRecords m bytes ≡ recordsRead records = rw (is, witness-bytes m choice) (image-schema m few (mapsFrom (specialsOf choice)) (ordinariesOf choice) table .read) in
+        let both = sym (w .reading .read) ∙ own in
+        cc
+
+    -- a filled assignment that types it
+    pub typable-typed : FilledTyping m e
+    typable-typed =
+        record {
+          typing =
+              record {
+                assignment = assignmentOf records;
+                types = λ r inside. record { positive = witness-zero r inside; finite = finite-by 24 (λ a past. witness-within r inside a past) };
+                type = witnessType;
+                isType = witness-type;
+                typed = Theorem.typed-fits e (cellFormula m e) legal is-formula (assignmentOf records) witnessType .1 witness-fits;
+              };
+          filled = witness-filled;
+        }
+
+  -- ---- the verdict: untypable is said exactly where no filled assignment types the expression
+
+  pub untypable-is : (untypableIn m (allowedBit m e) < 16) ↔ (FilledTyping m e → ⊥)
+  untypable-is = (untypable-untyped, (λ none. go none (decLt (untypableIn m (allowedBit m e)) 16)))
+    where
+      go : (FilledTyping m e → ⊥) → Dec (untypableIn m (allowedBit m e) < 16) → untypableIn m (allowedBit m e) < 16
+      go none (yes h) = h
+      go none (no h) = absurd (none (typable-typed (omega arith)))
+
+  -- ---- which attribute is said: 0 only where each column allows something
+
+  pub unblocked-columns : (i : ℕ) → 1 ≤ i → i ≤ 15 → untypableIn m (allowedBit m e) ≡ 0 → (s : ℕ) × ((s < 2 ^ m) × (allowedBit m e i s ≡ true))
+  unblocked-columns i some most zero-said = go (decLt (blockedIn (allowedBit m e)) 16)
+    where
+      go : Dec (blockedIn (allowedBit m e) < 16) → (s : ℕ) × ((s < 2 ^ m) × (allowedBit m e i s ≡ true))
+      go (yes h) =
+          let is = untypable-blocked m (allowedBit m e) h in
+          let from = blocked-lowest (firstIn (allowedBit m e)) .from in
+          absurd (omega arith)
+      go (no h) =
+          let found = fewest-in (allowedBit m e i) .found in
+          let other = eqb-false (firstIn (allowedBit m e) i) 256 (blocked-lowest (firstIn (allowedBit m e)) .before i some (omega arith)) in
+          let is = found .passes (lt-of-le-ne (found .upTo) other) in
+          (firstIn (allowedBit m e) i, (allowed-below m e i (firstIn (allowedBit m e) i) is, is))
+
+  pub blocked-attribute : untypableIn m (allowedBit m e) < 16 → ((i : ℕ) → 1 ≤ i → i ≤ 15 → (s : ℕ) × ((s < 2 ^ m) × (allowedBit m e i s ≡ true))) → untypableIn m (allowedBit m e) ≡ 0
+  blocked-attribute said columns = go (decLt (blockedIn (allowedBit m e)) 16) (decLt (costIn m (allowedBit m e)) infinity)
+    where
+      go : Dec (blockedIn (allowedBit m e) < 16) → Dec (costIn m (allowedBit m e) < infinity) → untypableIn m (allowedBit m e) ≡ 0
+      go (yes h) d =
+          let from = blocked-lowest (firstIn (allowedBit m e)) .from in
+          let some = columns (blockedIn (allowedBit m e)) from (omega arith) in
+          let none = eqb-true (firstIn (allowedBit m e) (blockedIn (allowedBit m e))) 256 (blocked-lowest (firstIn (allowedBit m e)) .passes (omega arith)) in
+          let small = subsets-few in
+          let less = some .1 .0 in
+          absurd (by-false (fewest-in (allowedBit m e (blockedIn (allowedBit m e))) .found .none (omega arith) (some .0) (omega arith)) (by-true (some .1 .1)))
+      go (no h) (yes can) = let is = untypable-none m (allowedBit m e) (omega arith) can in absurd (omega arith)
+      go (no h) (no cannot) = untypable-unfilled m (allowedBit m e) (omega arith) (omega arith)

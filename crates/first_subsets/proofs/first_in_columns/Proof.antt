@@ -3,7 +3,7 @@ use mathlib.Core.Path.{ap, _∙_}
 use mathlib.Core.List.{List}
 use native.Mathlib.Omega.{arith}
 use Rattle.column.specs.Column.{allowedIn}
-use Rattle.verdict_answer.specs.First.{firstIn, firstAt}
+use Rattle.verdict_answer.specs.First.{allowedAt, fewestIn, firstIn}
 use Rattle.verdict_answer.specs.FewestLaws.{first-small}
 use Rattle.verdict_answer.specs.FirstLaws.{Choosing, choose-first, choose-next, choose-blocked, choose-ended}
 use borrow.Author.Needs.{needs}
@@ -12,30 +12,27 @@ use fn.Statement.{statement}
 use fn.Tie as tie
 
 abbrev Inv : tie.InvT-loop
-Inv work node order list starts chosen₀ i₀ chosen i = Choosing (firstAt order work node) i chosen
+Inv work node list starts chosen₀ i₀ chosen i = Choosing (firstIn (allowedAt work node)) i chosen
 
 abbrev μ : tie.MeasureT-loop
-μ work node order list starts chosen₀ i₀ chosen i = 16 - i
+μ work node list starts chosen₀ i₀ chosen i = 16 - i
 
 loop-holds : tie.Need-loop-holds Inv μ
 loop-holds c = choose-first _
 
 returns : tie.Need-returns Inv μ
 returns c =
-    let args = c.before.before.before.before.before.before.before.before.args in
-    let found = c.before.first-allowed.ensures ∙ ap (λ (l : List ℕ). firstIn args.order (allowedIn l)) c.before.before.read-column.ensures in
+    let found = c.before.fewest-allowed.ensures ∙ ap (λ (l : List ℕ). fewestIn (allowedIn l)) c.before.before.read-column.ensures in
     choose-blocked _ _ _ c.before.before.before.before.loop.inv _ c.before.before.before.loop-test.taken found c.if1.taken
 
 cast-chosen : tie.Need-cast-chosen Inv μ
 cast-chosen c =
-    let args = c.before.before.before.before.before.before.before.before.args in
-    let small = first-small args.order (allowedIn c.before.before.read-column.result) _ c.before.first-allowed.ensures c.if1.left in
+    let small = first-small (allowedIn c.before.before.read-column.result) _ c.before.fewest-allowed.ensures c.if1.left in
     omega arith
 
 loop-again : tie.Need-loop-again Inv μ
 loop-again c =
-    let args = c.before.before.before.before.before.before.before.before.args in
-    let found = c.before.first-allowed.ensures ∙ ap (λ (l : List ℕ). firstIn args.order (allowedIn l)) c.before.before.read-column.ensures in
+    let found = c.before.fewest-allowed.ensures ∙ ap (λ (l : List ℕ). fewestIn (allowedIn l)) c.before.before.read-column.ensures in
     choose-next _ _ _ c.before.before.before.before.loop.inv _ c.before.before.before.loop-test.taken found c.if1.left
 
 returns-2 : tie.Need-returns-2 Inv μ

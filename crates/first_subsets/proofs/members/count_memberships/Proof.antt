@@ -4,7 +4,7 @@ use native.Mathlib.Omega.{arith}
 use lib.ListN.{getD}
 use Rattle.bits.specs.Total.{total, total-none, total-next}
 use Rattle.types.specs.Memberships.{members, members-ones}
-use Rattle.verdict_answer.specs.VerdictLaws.{memberships-of}
+use Rattle.verdict_answer.specs.FirstChoice.{memberships-of}
 use Rattle.first_subsets.specs.ByteMembers.{ones-most}
 use borrow.Author.Needs.{needs}
 use Rattle.first_subsets.proofs.members.count_memberships as fn
