@@ -10,7 +10,7 @@ use lib.Bits.{bitAnd, and-block, and-mask, and-le-l}
 use lib.ListN.{length, getD, set, length-set}
 use lib.Seq.{getD-set-same, getD-set-other}
 use Rattle.bits.specs.Written.{Written}
-use Rattle.set_cover.specs.Remainder.{rest}
+use Rattle.set_cover.specs.Remainder.{rest, rest-and}
 
 -- ---- a subset in two parts
 
@@ -26,13 +26,18 @@ pub low-entry : (next : List ℕ) (low x : ℕ) → lowEntry next low x ≡ getD
 unfolding lowEntry
 low-entry next low x = refl
 
+-- in the operations of code
+pub low-and : (next : List ℕ) (low x : ℕ) → getD next (bitAnd x (255 - low)) 0 ≡ lowEntry next low x
+unfolding lowEntry
+low-and next low x = ap (λ (y : ℕ). getD next y 0) (sym (rest-and x low))
+
 pub high-least : (need high : ℕ) → withoutHigh need high ≤ need
 unfolding withoutHigh
 high-least need high = let a = and-le-l (need / 16) (15 - high) in omega arith
 
 -- without the one part and then without the other is without the subset
 pub both-parts : (need s : ℕ) → need < 256 → s < 256 → rest (withoutHigh need (s / 16)) (s % 16) ≡ rest need s
-unfolding rest withoutHigh
+unfolding withoutHigh
 both-parts need s hn hs =
     let a = bitAnd (need / 16) (15 - s / 16) in
     let most = and-le-l (need / 16) (15 - s / 16) in
@@ -42,10 +47,11 @@ both-parts need s hn hs =
     let mask = and-mask a 4 in
     let left = and-block 4 a 15 (need % 16) (15 - s % 16) (omega arith) (omega arith) in
     let right = and-block 4 (need / 16) (15 - s / 16) (need % 16) (15 - s % 16) (omega arith) (omega arith) in
-    ap (bitAnd (a * 16 + need % 16)) low
+    rest-and (a * 16 + need % 16) (s % 16)
+    ∙ ap (bitAnd (a * 16 + need % 16)) low
     ∙ left
     ∙ ap (λ (x : ℕ). x * 2 ^ 4 + bitAnd (need % 16) (15 - s % 16)) (mask ∙ omega arith)
-    ∙ sym (ap₂ bitAnd split whole ∙ right)
+    ∙ sym (rest-and need s ∙ ap₂ bitAnd split whole ∙ right)
 
 -- ---- one block
 

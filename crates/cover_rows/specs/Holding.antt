@@ -19,8 +19,8 @@ use Rattle.column.specs.Column.{allowedIn}
 use Rattle.set_cover.specs.Remainder.{rest, rest-least}
 use Rattle.set_cover.specs.Least.{infinity, least, least-same}
 use Rattle.set_cover.specs.Cost.{price, cost, cost-next}
-use Rattle.set_cover.specs.Choice.{picked}
-use Rattle.set_cover.specs.Shortcuts.{covering}
+use Rattle.set_cover.specs.Choice.{picked, picked-lowest}
+use Rattle.set_cover.specs.Shortcuts.{covering, covering-none, covering-next}
 use Rattle.cover_rows.specs.Rows.{Costs, priceIn, costRow}
 
 -- the row has the values of f at the needs below N
@@ -48,10 +48,10 @@ module _ (N : ℕ) (column next : List ℕ) (ok : ℕ → Bool) (same : Allows N
 
   -- `pick` from 0
   pub pick-holds : (need target : ℕ) → need < N → lowestFrom (N - 0) 0 (λ s. eqb (priceIn column next need s) target) ≡ picked N ok f need target
-  unfolding picked
   pick-holds need target h =
       ap (λ (n : ℕ). lowestFrom n 0 (λ s. eqb (priceIn column next need s) target)) (sub-zero N)
       ∙ lowest-same N 0 _ _ (λ s from upTo. ap (λ (x : ℕ). eqb x target) (price-holds need s h (omega arith)))
+      ∙ sym (picked-lowest N ok f need target)
 
 -- ---- costs
 
@@ -71,10 +71,10 @@ module _ (N : ℕ) (allowed : ℕ → ℕ → Bool) (column next : List ℕ) (sa
       → need < N
       → target < infinity
       → lowestFrom (N - 1) 1 (λ s. eqb (priceIn column next need s) target) ≡ picked N (typeVariable (allowed 0)) (cost N allowed 0) need target
-  unfolding picked
   pick-variable need target h less =
       lowest-same (N - 1) 1 _ _ (λ s from upTo. ap (λ (x : ℕ). eqb x target) (price-holds N column next (allowed 0) same (cost N allowed 0) holds need s h (omega arith) ∙ sym (variable s from)))
       ∙ sym (lowest-next N 0 (λ s. eqb (price (typeVariable (allowed 0)) (cost N allowed 0) need s) target) (omega arith) (ne-eqb infinity target (λ e. omega arith)))
+      ∙ sym (picked-lowest N (typeVariable (allowed 0)) (cost N allowed 0) need target)
     where
       variable : (s : ℕ) → 1 ≤ s → price (typeVariable (allowed 0)) (cost N allowed 0) need s ≡ price (allowed 0) (cost N allowed 0) need s
       variable s from = ap (λ (b : Bool). cond (b && allowed 0 s) (members s + cost N allowed 0 (rest need s)) infinity) (lt-ltb 0 s from)
@@ -98,8 +98,8 @@ start-costs x = go (eq-zero-or-pos x) (decLt x 256)
 
 module _ (N : ℕ) (ok : ℕ → Bool) where
   pub covering-start : N ≤ 256 → Holds N (covering N ok 0) startRow
-  unfolding covering startRow
-  covering-start few x h = go (eq-zero-or-pos x)
+  unfolding startRow
+  covering-start few x h = go (eq-zero-or-pos x) ∙ sym (covering-none N ok x)
     where
       go : (x ≡ 0) ⊎ (0 < x) → getD (set (replicate 256 infinity) 0 0) x 0 ≡ cond (eqb x 0) 0 infinity
       go (inl z) = rw (eq-eqb x 0 z, z) (getD-set-same (replicate 256 infinity) 0 0 0 (omega (arith, length-replicate {A = ℕ} 256 infinity)))
@@ -107,5 +107,5 @@ module _ (N : ℕ) (ok : ℕ → Bool) where
 
   -- a subset more
   pub covering-row : (j : ℕ) (column next : List ℕ) (limit : ℕ) → N ≤ limit → limit ≤ 256 → Allows N ok column → Holds N (covering N ok j) next → Holds N (covering N ok (suc j)) (costRow column next limit N)
-  unfolding covering
-  covering-row j column next limit enough short same holds = row-holds N column next ok same (covering N ok j) holds limit enough short
+  covering-row j column next limit enough short same holds need h =
+      row-holds N column next ok same (covering N ok j) holds limit enough short need h ∙ sym (covering-next N ok j need)

@@ -1,6 +1,6 @@
 -- A row of costs, as code has it: an array of 256 bytes, one for each set of relations that need an attribute.
 use Prim.Native.Nat.{ℕ, _+_, _≤_, _<_}
-use mathlib.Core.Path.{_≡_, sym, ap, _∙_}
+use mathlib.Core.Path.{_≡_}
 use mathlib.Core.Bool.{Bool, true, false, cond}
 use mathlib.Core.List.{List}
 use native.Mathlib.Decide.{decLt}
@@ -13,6 +13,7 @@ use Rattle.column.specs.Column.{allowedIn}
 use Rattle.set_cover.specs.Remainder.{rest}
 use Rattle.set_cover.specs.Least.{infinity, least, least-most}
 use Rattle.set_cover.specs.Cost.{price}
+use Rattle.set_cover.specs.Cheapest.{price-ok, price-not}
 
 -- no entry is above infinity
 abbrev pub Costs : List ℕ → Type 0
@@ -31,11 +32,11 @@ costRow column next limit count = tab 256 (λ need. cond (ltb need limit) (least
 module _ (column next : List ℕ) (need s : ℕ) where
   pub price-allowed : allowedIn column s ≡ true → priceIn column next need s ≡ members s + getD next (rest need s) 0
   unfolding priceIn
-  price-allowed e = ap (λ (b : Bool). cond b (members s + getD next (rest need s) 0) infinity) e
+  price-allowed = price-ok (allowedIn column) (λ x. getD next x 0) need s
 
   pub price-forbidden : allowedIn column s ≡ false → priceIn column next need s ≡ infinity
   unfolding priceIn
-  price-forbidden e = ap (λ (b : Bool). cond b (members s + getD next (rest need s) 0) infinity) e
+  price-forbidden = price-not (allowedIn column) (λ x. getD next x 0) need s
 
 -- ---- the row
 

@@ -1,4 +1,5 @@
--- A row for which some of the subsets were tried, in whatever order: by their first four relations, and then by the others.
+-- A row for which some of the subsets were tried, in whatever order: by their first four relations, and then by the
+-- others.
 use Prim.Native.Nat.{ℕ, _+_, _*_, _/_, _%_, _≤_, _<_, min}
 use mathlib.Core.Path.{_≡_, refl, sym, ap, _∙_}
 use mathlib.Core.Bool.{Bool, true, false, cond}
@@ -19,8 +20,8 @@ use Rattle.set_cover.specs.Least.{infinity, least, least-most, least-of, least-
 use Rattle.cover_rows.specs.Rows.{priceIn, costRow, price-allowed, price-forbidden}
 use Rattle.cover_rows.specs.Blocks.{withoutHigh, lowEntry, high-least, both-parts, loweredRow}
 
--- each entry below the limit is at least the least price, at most infinity, and at most the price of each subset tried; the
--- others are infinity
+-- each entry below the limit is at least the least price, at most infinity, and at most the price of each subset tried;
+-- the others are infinity
 pub record Reached (column next : List ℕ) (limit count : ℕ) (tried : ℕ → Type 0) (row : List ℕ) : Type 0 where
   pub size : length row ≡ 256
   pub over : (need : ℕ) → need < limit → least count (priceIn column next need) ≤ getD row need 0

@@ -1,4 +1,5 @@
-// A row of costs, sixteen needs at a time: the loop over sixteen has no branch, so that the compiler makes one step of it.
+// A row of costs, sixteen needs at a time: the loop over sixteen has no branch, so that the compiler makes one step of
+// it.
 ghost use mathlib.Core.Path.{_≡_};
 ghost use Prim.Native.Nat.{ℕ, _+_, _*_, _≤_, _<_, min};
 ghost use lib.ListN.{length, getD};

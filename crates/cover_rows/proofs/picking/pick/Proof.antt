@@ -24,7 +24,7 @@ abbrev μ : tie.MeasureT-loop
 μ column next from count need target s₀ s = count - s
 
 loop-holds : tie.Need-loop-holds Inv μ
-loop-holds c = (c.pre.0, refl)
+loop-holds c = (omega arith, refl)
 
 returns : tie.Need-returns Inv μ
 returns c =

@@ -1,11 +1,9 @@
 use Prim.Native.Nat.{ℕ, _-_, _≤_}
-use mathlib.Core.Path.{refl}
 use native.Mathlib.Omega.{arith}
 use lib.Bits.{and-le-l}
 use lib.ListN.{replicate, length-replicate}
 use Rattle.bits.specs.Written.{Written, written-none, written-more}
-use Rattle.set_cover.specs.Remainder.{rest}
-use Rattle.cover_rows.specs.Blocks.{lowEntry}
+use Rattle.cover_rows.specs.Blocks.{lowEntry, low-and}
 use borrow.Author.Needs.{needs}
 use Rattle.cover_rows.proofs.rows.low_entries as fn
 use fn.Statement.{statement}
@@ -30,13 +28,12 @@ array-write-table : tie.Need-array-write-table Inv μ
 array-write-table c = omega arith
 
 loop-again : tie.Need-loop-again Inv μ
-unfolding rest lowEntry
 loop-again c =
     let args = c.before.before.before.args in
     let loop = c.before.before.loop in
     let size = loop.inv.1.size in
     let long = length-replicate {A = ℕ} 256 200 in
-    (omega arith, written-more (lowEntry args.next.now args.low) loop.x (replicate 256 200) loop.table _ (omega arith) loop.inv.1 refl)
+    (omega arith, written-more (lowEntry args.next.now args.low) loop.x (replicate 256 200) loop.table _ (omega arith) loop.inv.1 (low-and args.next.now args.low loop.x))
 
 returns : tie.Need-returns Inv μ
 returns c = λ i h. c.before.loop.inv.1.front i (omega arith)

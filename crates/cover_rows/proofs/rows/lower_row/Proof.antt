@@ -32,7 +32,7 @@ lower-block-requires c κs =
     let pre = c.before.before.before.pre in
     let loop = c.before.before.loop in
     let lower = and-le-l loop.h (15 - args.high) in
-    (omega arith, omega arith, pre.2, loop.inv.1, λ i below. pre.4 (bitAnd loop.h (15 - args.high) * 16 + i) (omega arith))
+    (omega arith, omega arith, pre.2, loop.inv.1, λ i below. pre.4 _ (omega arith))
 
 loop-again : tie.Need-loop-again Inv μ
 loop-again c =

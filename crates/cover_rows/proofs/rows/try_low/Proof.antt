@@ -1,7 +1,7 @@
 use Prim.Native.Nat.{_-_, _*_, _%_, _<_}
 use mathlib.Core.Path.{_≡_, sym, _∙_}
 use native.Mathlib.Omega.{arith}
-use Rattle.types.specs.Memberships.{members-most, members-ones}
+use Rattle.types.specs.Memberships.{members-ones, ones-most}
 use Rattle.set_cover.specs.Remainder.{rest}
 use Rattle.cover_rows.specs.Blocks.{low-entry}
 use Rattle.cover_rows.specs.Tried.{Reached, Through, reached-start, reached-more, reached-skip, reached-end}
@@ -20,11 +20,7 @@ loop-holds : tie.Need-loop-holds Inv μ
 loop-holds c = (omega arith, omega arith, reached-start (omega arith) c.before.pre.2 c.before.args.low c.before.pre.4)
 
 cast-members-2 : tie.Need-cast-members-2 Inv μ
-cast-members-2 c =
-    let s = c.before.before.before.before.loop.s in
-    let same = members-ones s (omega arith) in
-    let few = members-most s in
-    omega arith
+cast-members-2 c = let few = ones-most c.before.before.before.before.loop.s (omega arith) in omega arith
 
 lower-row-requires : tie.Need-lower-row-requires Inv μ
 lower-row-requires c κs =
@@ -32,8 +28,7 @@ lower-row-requires c κs =
     let pre = c.before.before.before.before.before.before.before.before.pre in
     let loop = c.before.before.before.before.before.before.loop in
     let table = c.before.before.before.before.before.before.before.low-entries in
-    let same = members-ones loop.s (omega arith) in
-    let few = members-most loop.s in (
+    let few = ones-most loop.s (omega arith) in (
       pre.1,
       omega arith,
       omega arith,
