@@ -14,17 +14,13 @@ use borrow.Author.Tests.{leb-true}
 use Rattle.bits.specs.AllBelow.{allBelow, all-in}
 use Rattle.bits.specs.Bit.{bit}
 use Rattle.bits.specs.Total.{total}
-use Rattle.types.specs.Memberships.{members, members-most, members-some, members-ones, members-split}
+use Rattle.types.specs.Memberships.{members, members-some, members-ones, members-split}
 use Rattle.column.specs.Column.{allowedIn}
 use Rattle.column.specs.ColumnLaws.{allowed-bit}
 
 -- the fewest members of a subset of three relations whose bit stands in a byte; 9 if none does
 unfoldable pub fewestInByte : ℕ → ℕ
 fewestInByte x = 9 - min x 1 * 6 - min (bitAnd x 127) 1 - min (bitAnd x 23) 1 - x % 2
-
--- of eight digits at most eight are 1
-pub ones-most : (s : ℕ) → s < 256 → ones s ≤ 8
-ones-most s h = rw (members-ones s h) (members-most s)
 
 -- at most 9, and no subset of three relations whose bit stands in the byte has fewer members
 abbrev fewestRight : ℕ → Bool

@@ -44,8 +44,8 @@ unfoldable pub lastSubsets : ℕ → Assignment → ℕ → ℕ → List ℕ
 lastSubsets m A n zero = ordinarySubsets m A n 16
 lastSubsets m A n (suc k) = holders m A (15 - k) ∷ lastSubsets m A n k
 
--- the subsets of the special attributes 1 to 15, and then those of the ordinary attributes below the bound that a relation
--- has, in rising order of the attributes
+-- the subsets of the special attributes 1 to 15, and then those of the ordinary attributes below the bound that a
+-- relation has, in rising order of the attributes
 unfoldable pub subsetList : ℕ → Assignment → ℕ → List ℕ
 subsetList m A bound = lastSubsets m A (bound - 16) 15
 

@@ -1,13 +1,13 @@
 -- The list `best`: how long it is, and what its entries are.
 use Prim.Native.Nat.{ℕ, zero, suc, _+_, _-_, _≤_, _<_}
-use mathlib.Core.Path.{_≡_, refl, sym, ap, _∙_}
-use mathlib.Core.Bool.{Bool, true, false, cond}
+use mathlib.Core.Path.{_≡_, refl, ap, _∙_}
+use mathlib.Core.Bool.{Bool, true, false}
 use mathlib.Core.List.{List, [], _∷_}
-use mathlib.Core.Logic.{_⊎_, inl, inr, ⊎-elim}
+use mathlib.Core.Logic.{⊎-elim}
 use native.Mathlib.Decide.{decLe}
-use native.Mathlib.Nat.{eq-zero-or-pos, le-antisymm, le-of-suc-le-suc}
+use native.Mathlib.Nat.{eq-zero-or-pos, le-of-suc-le-suc}
 use native.Mathlib.Omega.{arith}
-use borrow.Author.Tests.{eqb-true, eqb-false, eq-eqb, ltb-true}
+use borrow.Author.Tests.{eqb-false, eq-eqb, ltb-true}
 use lib.Dec.{eqb, ltb}
 use lib.ListN.{length, getD, drop}
 use Rattle.bits.specs.Booleans.{and-left, clash}
@@ -16,10 +16,10 @@ use Rattle.bits.specs.Rising.{Rising}
 use Rattle.types.specs.Memberships.{members, members-most, members-none}
 use Rattle.states.specs.Formula.{typeVariable}
 use Rattle.set_cover.specs.Remainder.{rest, rest-least, rest-none, rest-fewer}
-use Rattle.set_cover.specs.Least.{infinity, least, least-of}
+use Rattle.set_cover.specs.Least.{infinity, least-of}
 use Rattle.set_cover.specs.Cost.{price, cost, cost-next}
 use Rattle.set_cover.specs.Choice.{Chosen, picked, bestVariables, best}
-use Rattle.set_cover.specs.Cheapest.{price-ok, special-picked, pickedVariable, variable-picked, takes, best-right, variables-rise}
+use Rattle.set_cover.specs.Cheapest.{price-ok, price-not, special-picked, pickedVariable, variable-picked, takes, best-right, variables-rise}
 use Rattle.set_cover.specs.Shortcuts.{cost-most}
 use Rattle.set_cover.specs.Covered.{EachBelow}
 
@@ -62,10 +62,6 @@ module _ (N : ℕ) (allowed : ℕ → ℕ → Bool) (few : N ≤ 256) where
       go : Dec (lowestFrom N 0 (λ s. eqb (price ok next need s) target) ≤ s) → lowestFrom N 0 (λ s. eqb (price ok next need s) target) ≤ s
       go (yes h) = h
       go (no h) = absurd (clash (eq-eqb (price ok next need s) target e) (lowest-is N 0 (λ s. eqb (price ok next need s) target) .before s (omega arith) (omega arith)))
-
-  -- a subset that is not allowed has the price infinity
-  price-not : (ok : ℕ → Bool) (next : ℕ → ℕ) (need s : ℕ) → ok s ≡ false → price ok next need s ≡ infinity
-  price-not ok next need s e = ap (λ (b : Bool). cond b (members s + next (rest need s)) infinity) e
 
   special-below : (k need : ℕ) → need < N → picked N (allowed (15 - k)) (cost N allowed k) need (cost N allowed (suc k) need) < N
   special-below k need h = go (decLe infinity (cost N allowed (suc k) need))

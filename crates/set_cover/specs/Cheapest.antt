@@ -1,5 +1,5 @@
--- `best` is right: it gives each relation an attribute, no choice that does has fewer members, and of those with as many
--- it is the lowest (FORMAT 7.26).
+-- `best` is right: it gives each relation an attribute, no choice that does has fewer members, and of those with as
+-- many it is the lowest (FORMAT 7.26).
 use Prim.Native.Nat.{ℕ, zero, suc, _+_, _-_, _*_, _≤_, _<_}
 use mathlib.Core.Path.{_≡_, refl, sym, ap, _∙_}
 use mathlib.Core.Bool.{Bool, true, false, cond}
@@ -24,6 +24,9 @@ use Rattle.set_cover.specs.Choice.{Chosen, weight, uncovered, NotAbove, 
 
 pub price-ok : (ok : ℕ → Bool) (next : ℕ → ℕ) (need s : ℕ) → ok s ≡ true → price ok next need s ≡ members s + next (rest need s)
 price-ok ok next need s e = ap (λ (b : Bool). cond b (members s + next (rest need s)) infinity) e
+
+pub price-not : (ok : ℕ → Bool) (next : ℕ → ℕ) (need s : ℕ) → ok s ≡ false → price ok next need s ≡ infinity
+price-not ok next need s e = ap (λ (b : Bool). cond b (members s + next (rest need s)) infinity) e
 
 -- a subset whose price is below infinity is allowed
 pub price-below : (ok : ℕ → Bool) (next : ℕ → ℕ) (need s : ℕ) → price ok next need s < infinity → ok s ≡ true

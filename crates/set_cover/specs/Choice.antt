@@ -1,6 +1,6 @@
 -- Choices: a subset for each special attribute, then a list of variables; and the one that Verdict takes (FORMAT 7.26).
 use Prim.Native.Nat.{ℕ, zero, suc, _+_, _-_, _<_}
-use mathlib.Core.Path.{_≡_, sym, ap, _∙_}
+use mathlib.Core.Path.{_≡_, refl, sym, ap, _∙_}
 use mathlib.Core.Bool.{Bool, true, false}
 use mathlib.Core.List.{List, [], _∷_}
 use mathlib.Core.Logic.{_⊎_}
@@ -61,3 +61,9 @@ best N allowed zero need = bestVariables N allowed need need
 best N allowed (suc k) need =
     let s = picked N (allowed (15 - k)) (cost N allowed k) need (cost N allowed (suc k) need) in
     s ∷ best N allowed k (rest need s)
+
+-- ---- laws
+
+pub picked-lowest : (N : ℕ) (ok : ℕ → Bool) (next : ℕ → ℕ) (need target : ℕ) → picked N ok next need target ≡ lowestFrom N 0 (λ s. eqb (price ok next need s) target)
+unfolding picked
+picked-lowest N ok next need target = refl

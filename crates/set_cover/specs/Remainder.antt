@@ -15,6 +15,10 @@ use Rattle.types.specs.Memberships.{members, members-fewer}
 unfoldable pub rest : ℕ → ℕ → ℕ
 rest need s = bitAnd need (255 - s)
 
+pub rest-and : (need s : ℕ) → rest need s ≡ bitAnd need (255 - s)
+unfolding rest
+rest-and need s = refl
+
 pub rest-least : (need s : ℕ) → rest need s ≤ need
 unfolding rest
 rest-least need s = and-le-l need (255 - s)

@@ -1,5 +1,5 @@
--- Costs and choices look at the columns 0 to 15 alone, and at the subsets below N: where two formulas allow the same there,
--- they have the same.
+-- Costs and choices look at the columns 0 to 15 alone, and at the subsets below N: where two formulas allow the same
+-- there, they have the same.
 use Prim.Native.Nat.{ℕ, zero, suc, _+_, _-_, _≤_, _<_}
 use mathlib.Core.Path.{_≡_, refl, ap, ap₂, _∙_}
 use mathlib.Core.Bool.{Bool, true, false, cond, _&&_}

@@ -1,4 +1,5 @@
--- What code may leave out: a column that allows what column 0 allows, and variables after as many as there are relations.
+-- What code may leave out: a column that allows what column 0 allows, and variables after as many as there are
+-- relations.
 use Prim.Native.Nat.{ℕ, zero, suc, _+_, _-_, _≤_, _<_}
 use mathlib.Core.Path.{_≡_, refl, sym, ap, ap₂, _∙_}
 use mathlib.Core.Bool.{Bool, true, false, cond, _&&_}
@@ -29,6 +30,15 @@ price-over ok next need s x h f = go (ok s) refl
 unfoldable pub covering : ℕ → (ℕ → Bool) → ℕ → ℕ → ℕ
 covering N ok zero need = cond (eqb need 0) 0 infinity
 covering N ok (suc j) need = least N (price ok (covering N ok j) need)
+
+module _ (N : ℕ) (ok : ℕ → Bool) where
+  pub covering-none : (need : ℕ) → covering N ok 0 need ≡ cond (eqb need 0) 0 infinity
+  unfolding covering
+  covering-none need = refl
+
+  pub covering-next : (j need : ℕ) → covering N ok (suc j) need ≡ least N (price ok (covering N ok j) need)
+  unfolding covering
+  covering-next j need = refl
 
 -- no cost is above infinity
 module _ (N : ℕ) (allowed : ℕ → ℕ → Bool) where

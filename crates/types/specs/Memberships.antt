@@ -60,6 +60,10 @@ pub members-ones : (s : ℕ) → s < 256 → ones s ≡ members s
 unfolding members
 members-ones s h = ones-count 8 s h
 
+-- of eight digits at most eight are 1
+pub ones-most : (s : ℕ) → s < 256 → ones s ≤ 8
+ones-most s h = rw (members-ones s h) (members-most s)
+
 -- those of the first three relations, and the others
 pub members-split : (s : ℕ) → s < 256 → members s ≡ members (s / 8) + members (s % 8)
 members-split s h =

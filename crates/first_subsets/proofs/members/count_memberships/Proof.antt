@@ -3,9 +3,8 @@ use mathlib.Core.Path.{_≡_, sym, ap, ap₂, _∙_}
 use native.Mathlib.Omega.{arith}
 use lib.ListN.{getD}
 use Rattle.bits.specs.Total.{total, total-none, total-next}
-use Rattle.types.specs.Memberships.{members, members-ones}
+use Rattle.types.specs.Memberships.{members, members-ones, ones-most}
 use Rattle.verdict_answer.specs.FirstChoice.{memberships-of}
-use Rattle.first_subsets.specs.ByteMembers.{ones-most}
 use borrow.Author.Needs.{needs}
 use Rattle.first_subsets.proofs.members.count_memberships as fn
 use fn.Statement.{statement}

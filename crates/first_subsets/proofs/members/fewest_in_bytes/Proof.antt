@@ -1,6 +1,7 @@
 use Prim.Native.Nat.{_-_}
 use native.Mathlib.Omega.{arith}
-use Rattle.first_subsets.specs.ByteMembers.{ones-most, byte-most, FewestBelow, fewest-none, fewest-next, fewest-all}
+use Rattle.types.specs.Memberships.{ones-most}
+use Rattle.first_subsets.specs.ByteMembers.{byte-most, FewestBelow, fewest-none, fewest-next, fewest-all}
 use borrow.Author.Needs.{needs}
 use Rattle.first_subsets.proofs.members.fewest_in_bytes as fn
 use fn.Statement.{statement}

@@ -1,0 +1,54 @@
+use Prim.Native.Nat.{_+_, _-_, _*_, _≤_}
+use mathlib.Core.Path.{_≡_, _∙_}
+use native.Mathlib.Omega.{arith}
+use lib.Bits.{bitAnd, and-le-l}
+use lib.ListN.{length}
+use Rattle.bits.specs.Written.{Written, written-none}
+use Rattle.cover_rows.specs.Blocks.{loweredRow, block-more}
+use borrow.Author.Needs.{needs}
+use Rattle.cover_rows.proofs.rows.lower_row as fn
+use fn.Statement.{statement}
+use fn.Tie as tie
+
+abbrev Inv : tie.InvT-loop
+Inv row₀ table high members blocks h₀ row h =
+    (h ≤ blocks) × (length row ≡ 256) × Written (loweredRow row₀ table high members) (h * 16) row₀ row
+
+abbrev μ : tie.MeasureT-loop
+μ row₀ table high members blocks h₀ row h = blocks - h
+
+loop-holds : tie.Need-loop-holds Inv μ
+loop-holds c = (omega arith, c.pre.3, written-none (loweredRow c.args.row.now c.args.table.now c.args.high c.args.members) c.args.row.now)
+
+cast-from : tie.Need-cast-from Inv μ
+cast-from c = omega (arith, and-le-l c.before.loop.h (15 - c.before.before.args.high))
+
+mul-from : tie.Need-mul-from Inv μ
+mul-from c = omega (arith, and-le-l c.before.loop.h (15 - c.before.before.args.high))
+
+lower-block-requires : tie.Need-lower-block-requires Inv μ
+lower-block-requires c κs =
+    let args = c.before.before.before.args in
+    let pre = c.before.before.before.pre in
+    let loop = c.before.before.loop in
+    let lower = and-le-l loop.h (15 - args.high) in
+    (omega arith, omega arith, pre.2, loop.inv.1, λ i below. pre.4 _ (omega arith))
+
+loop-again : tie.Need-loop-again Inv μ
+loop-again c =
+    let args = c.before.before.before.before.args in
+    let loop = c.before.before.before.loop in (
+      omega arith,
+      c.lower-block.ensures.size ∙ loop.inv.1,
+      block-more args.row.now args.table.now args.high args.members loop.h loop.row (c.lower-block.last.0) loop.inv.2 c.lower-block.ensures,
+    )
+
+returns : tie.Need-returns Inv μ
+returns c =
+    let all : c.before.loop.h ≡ c.before.before.args.blocks = omega arith in
+    rw all at c.before.loop.inv.2
+
+pub lower-row-spec : {M : Type 1} → statement M
+lower-row-spec =
+    tie.close (tie.spec Inv μ loop-holds (λ c. search needs) cast-from mul-from (λ c. search needs) (λ c. search needs)
+    lower-block-requires (λ c. search needs) (λ c. search needs) loop-again returns)

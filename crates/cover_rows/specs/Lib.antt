@@ -1,0 +1,4 @@
+pub mod Rows
+pub mod Blocks
+pub mod Tried
+pub mod Holding

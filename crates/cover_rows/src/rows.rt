@@ -1,0 +1,103 @@
+// A row of costs, sixteen needs at a time: the loop over sixteen has no branch, so that the compiler makes one step of
+// it.
+ghost use mathlib.Core.Path.{_≡_};
+ghost use Prim.Native.Nat.{ℕ, _+_, _*_, _≤_, _<_, min};
+ghost use lib.ListN.{length, getD};
+ghost use Rattle.bits.specs.Written.{Written};
+ghost use Rattle.set_cover.specs.Least.{infinity};
+ghost use Rattle.cover_rows.specs.Rows.{Costs, costRow};
+ghost use Rattle.cover_rows.specs.Blocks.{Lowered, lowEntry, loweredRow};
+ghost use Rattle.cover_rows.specs.Tried.{Reached, Before};
+use column::allowed_in;
+
+fn lesser(a: u8, b: u8) -> u8
+    ensures { λ r. ⌜ r ≡ min a b ⌝ }
+{
+    if b < a { b } else { a }
+}
+
+// How many numbers are the first four relations of one of `count` subsets.
+fn low_parts(count: u16) -> u8
+    ensures { λ r. ⌜ r ≡ min 16 count ⌝ }
+{
+    if count < 16 { count as u8 } else { 16 }
+}
+
+// The row at what remains of each need without the first four relations of a subset.
+fn low_entries(next: &[u8; 256], low: u8, limit: u16) -> [u8; 256]
+    requires { ⌜ (low < 16) × (limit ≤ 256) ⌝ }
+    ensures { λ r. ⌜ ((x : ℕ) → x < limit → getD r x 0 ≡ lowEntry (now (next .entry)) low x) ⌝ }
+{
+    let mut table = [200u8; 256];
+    let mut x = 0u16;
+    while x < limit {
+        table[x as usize] = next[((x as u8) & !low) as usize];
+        x += 1;
+    }
+    table
+}
+
+// Sixteen entries are lowered to those of the table and so many members.
+fn lower_block(row: &mut [u8; 256], to: usize, table: &[u8; 256], from: usize, members: u8)
+    requires { ⌜ (to ≤ 240) × (from ≤ 240) × (members ≤ 8) × (length (now row) ≡ 256) × ((i : ℕ) → i < 16 → getD (now table) (from + i) 0 ≤ infinity) ⌝ }
+    ensures { λ _. ⌜ Lowered (now (row .entry)) (now (table .entry)) to from members 16 (now (row .exit)) ⌝ }
+{
+    let mut n = 0usize;
+    while n < 16 {
+        row[to + n] = lesser(row[to + n], table[from + n] + members);
+        n += 1;
+    }
+}
+
+// The row after one subset: the table has what remains without its first four relations, `high` are the others.
+fn lower_row(row: &mut [u8; 256], table: &[u8; 256], high: u8, members: u8, blocks: u8)
+    requires { ⌜ (blocks ≤ 16) × (high < 16) × (members ≤ 8) × (length (now row) ≡ 256) × ((x : ℕ) → x < blocks * 16 → getD (now table) x 0 ≤ infinity) ⌝ }
+    ensures { λ _. ⌜ Written (loweredRow (now (row .entry)) (now (table .entry)) high members) (blocks * 16) (now (row .entry)) (now (row .exit)) ⌝ }
+{
+    let mut h = 0u8;
+    while h < blocks {
+        let from = (h & (15 - high)) as usize * 16;
+        lower_block(row, h as usize * 16, table, from, members);
+        h += 1;
+    }
+}
+
+// The row after all subsets of a column whose first four relations are `low`.
+fn try_low(
+    row: &mut [u8; 256],
+    column: &[u8; 64],
+    next: &[u8; 256],
+    low: u8,
+    blocks: u8,
+    count: u16,
+)
+    requires { ⌜ (low < 16) × (blocks ≤ 16) × (count ≤ 256) × Costs (now next) × Reached (now column) (now next) (blocks * 16) count (Before low) (now row) ⌝ }
+    ensures { λ _. ⌜ Reached (now (column .entry)) (now (next .entry)) (blocks * 16) count (Before (low + 1)) (now (row .exit)) ⌝ }
+{
+    let table = low_entries(next, low, blocks as u16 * 16);
+    let mut s = low as u16;
+    while s < count {
+        if allowed_in(column, s as usize) {
+            let members = u8::count_ones(s as u8) as u8;
+            lower_row(row, &table, (s / 16) as u8, members, blocks);
+            s += 16;
+        } else {
+            s += 16;
+        }
+    }
+}
+
+// What each need below sixteen times `blocks` costs by one of `count` subsets of this column and then as `next` has it.
+pub fn cost_row(column: &[u8; 64], next: &[u8; 256], blocks: u8, count: u16) -> [u8; 256]
+    requires { ⌜ (blocks ≤ 16) × (count ≤ 256) × Costs (now next) ⌝ }
+    ensures { λ r. ⌜ r ≡ costRow (now (column .entry)) (now (next .entry)) (blocks * 16) count ⌝ }
+{
+    let mut row = [200u8; 256];
+    let lows = low_parts(count);
+    let mut low = 0u8;
+    while low < lows {
+        try_low(&mut row, column, next, low, blocks, count);
+        low += 1;
+    }
+    row
+}
