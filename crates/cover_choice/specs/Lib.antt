@@ -1,0 +1,2 @@
+pub mod Specials
+pub mod Variables

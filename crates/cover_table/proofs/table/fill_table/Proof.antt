@@ -1,0 +1,64 @@
+use Prim.Native.Nat.{suc, _+_, _-_, _*_, _≤_}
+use mathlib.Core.Path.{_≡_, refl, sym, ap, _∙_}
+use mathlib.Core.List.{List}
+use native.Mathlib.Numerals.{add-one}
+use native.Mathlib.Omega.{arith}
+use lib.ListN.{length}
+use Rattle.column.specs.Column.{allowedIn}
+use Rattle.set_cover.specs.Cost.{cost}
+use Rattle.verdict_answer.specs.First.{allowedAt}
+use Rattle.cover_table.specs.Table.{IsRow, TableHolds, table-first, table-next}
+use borrow.Author.Needs.{needs}
+use Rattle.cover_table.proofs.table.fill_table as fn
+use fn.Statement.{statement}
+use fn.Tie as tie
+
+abbrev Inv : tie.InvT-loop
+Inv work node blocks count table₀ first row₀ k₀ table row k =
+    (k ≤ 15) × TableHolds count (allowedAt work node) (k + 1) table × IsRow count (cost count (allowedAt work node) k) row
+
+abbrev μ : tie.MeasureT-loop
+μ work node blocks count table₀ first row₀ k₀ table row k = 15 - k
+
+variables-row-requires : tie.Need-variables-row-requires Inv μ
+variables-row-requires c κs = (c .before .before .before .pre .1 .0, c .before .before .before .pre .1 .1)
+
+write-row-requires : tie.Need-write-row-requires Inv μ
+write-row-requires c κs = let size = c .before .before .before .before .before .pre .0 .1 in omega arith
+
+loop-holds : tie.Need-loop-holds Inv μ
+loop-holds c =
+    let args = c .before .before .before .before .before .before .before .before .args in
+    let pre = c .before .before .before .before .before .before .before .before .pre in
+    let column = ap (λ (l : List _). allowedIn l) (c .before .before .before .before .before .read-column .ensures) in
+    let first = table-first args.count (allowedAt args.work.now args.node) (omega arith) pre.1.2 args.table.now _ _ pre.0.1
+    (rw column at (c .before .before .before .before .variables-row .ensures)) (c .before .before .write-row .ensures) in
+    (omega arith, first.0, first.1)
+
+next-row-requires : tie.Need-next-row-requires Inv μ
+next-row-requires c κs = let pre = c .before .before .before .before .before .before .before .before .before .before .before .pre in (pre.1.0, omega arith, c .before .before .loop .inv .2 .costs)
+
+write-row-requires-2 : tie.Need-write-row-requires-2 Inv μ
+write-row-requires-2 c κs = let size = c .before .before .before .before .loop .inv .1 .size in let below = c .before .before .before .loop-test .taken in omega arith
+
+loop-again : tie.Need-loop-again Inv μ
+loop-again c =
+    let args = c .before .before .before .before .before .before .before .before .before .before .before .before .before .before .before .before .args in
+    let pre = c .before .before .before .before .before .before .before .before .before .before .before .before .before .before .before .before .pre in
+    let loop = c .before .before .before .before .before .before .before .loop in
+    let below = c .before .before .before .before .before .before .loop-test .taken in
+    let next = table-next args.count (allowedAt args.work.now args.node) (omega arith) pre.1.2 loop.k _ _ loop.row _ loop.table _ (args.blocks * 16) pre.1.1 (omega arith) below
+    (λ s h. ap (λ (l : List _). allowedIn l s) (c .before .before .before .before .before .before .before .before .before .before .before .before .before .read-column .ensures)) (λ s h. ap (λ (l : List _). allowedIn l s) (c .before .before .before .before .before .read-column2 .ensures)) loop.inv.2 loop.inv.1
+    (c .before .before .before .before .next-row .ensures) (c .before .before .write-row2 .ensures) in
+    (omega arith, next.0, next.1)
+
+same-length : tie.Need-same-length Inv μ
+same-length c = c .before .loop .inv .1 .size ∙ sym (c .before .before .before .before .before .before .before .before .before .before .pre .0 .1)
+
+returns : tie.Need-returns Inv μ
+returns c = let most = c .before .loop .inv .0 in let past = c .loop-test .left in let all : c .before .loop .k ≡ 15 = omega arith in rw all at (c .before .loop .inv .1)
+
+pub fill-table-spec : {M : Type 1} → statement M
+fill-table-spec =
+    tie.close (tie.spec Inv μ (λ c κs. search needs) variables-row-requires write-row-requires loop-holds (λ c. search needs)
+    (λ c κs. search needs) next-row-requires (λ c. search needs) write-row-requires-2 (λ c. search needs) loop-again same-length returns)
