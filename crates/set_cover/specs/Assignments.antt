@@ -9,7 +9,7 @@ use native.Mathlib.Decide.{decLe}
 use native.Mathlib.Nat.{add-zero, eq-or-lt-of-le, eq-zero-or-pos, lt-of-lt-of-le, zero-add, suc-add}
 use native.Mathlib.Omega.{arith}
 use borrow.Author.Tests.{lt-ltb}
-use lib.Dec.{T, T-prop}
+use lib.Dec.{T-prop}
 use lib.Pow.{pow-mono, pow-pos}
 use Rattle.bits.specs.Bit.{bit, bit-none}
 use Rattle.bits.specs.Booleans.{clash}
@@ -20,7 +20,6 @@ use Rattle.bits.specs.Truth.{is-true, by-true}
 use Rattle.types.specs.Types.{Assignment, IsAssignment, Filled, holders}
 use Rattle.types.specs.Laws.{holders-packed, holders-below}
 use Rattle.types.specs.Memberships.{members, memberships, Within, members-none, memberships-same, memberships-by}
-use Rattle.states.specs.Formula.{typeVariable}
 use Rattle.set_cover.specs.Least.{infinity}
 use Rattle.set_cover.specs.Cost.{cost}
 use Rattle.set_cover.specs.Choice.{Chosen, weight, uncovered, NotAbove, best}

@@ -1,6 +1,6 @@
 -- Where the subsets with the fewest members, one for each special attribute, give every relation an attribute, they are
 -- `best`, and no cost is needed (FORMAT 7.26).
-use Prim.Native.Nat.{ℕ, zero, suc, _+_, _-_, _*_, _≤_, _<_}
+use Prim.Native.Nat.{ℕ, zero, suc, _-_, _*_, _≤_, _<_}
 use mathlib.Core.Path.{_≡_, ap, ap₂, _∙_}
 use mathlib.Core.Bool.{Bool, true}
 use mathlib.Core.List.{List, [], _∷_}

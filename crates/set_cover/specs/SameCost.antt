@@ -7,11 +7,11 @@ use mathlib.Core.List.{List, [], _∷_, _++_}
 use native.Mathlib.Omega.{arith}
 use lib.Dec.{eqb, ltb}
 use Rattle.bits.specs.Lowest.{lowest-same}
-use Rattle.bits.specs.Tab.{tab, length-tab, getD-tab, tab-is}
+use Rattle.bits.specs.Tab.{length-tab, getD-tab, tab-is}
 use Rattle.types.specs.Memberships.{members}
 use Rattle.states.specs.Formula.{typeVariable}
 use Rattle.set_cover.specs.Remainder.{rest}
-use Rattle.set_cover.specs.Least.{infinity, least, least-same}
+use Rattle.set_cover.specs.Least.{infinity, least-same}
 use Rattle.set_cover.specs.Cost.{price, entry, coverCost, coverTable, costTable, cost}
 use Rattle.set_cover.specs.Choice.{picked, bestVariables, best}
 
