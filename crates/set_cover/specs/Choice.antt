@@ -1,6 +1,6 @@
 -- Choices: a subset for each special attribute, then a list of variables; and the one that Verdict takes (FORMAT 7.26).
 use Prim.Native.Nat.{ℕ, zero, suc, _+_, _-_, _<_}
-use mathlib.Core.Path.{_≡_, refl}
+use mathlib.Core.Path.{_≡_, refl, ap}
 use mathlib.Core.Bool.{Bool, true, false}
 use mathlib.Core.List.{List, [], _∷_}
 use mathlib.Core.Logic.{_⊎_}
@@ -60,3 +60,15 @@ best N allowed (suc k) need =
 pub picked-lowest : (N : ℕ) (ok : ℕ → Bool) (next : ℕ → ℕ) (need target : ℕ) → picked N ok next need target ≡ lowestFrom N 0 (λ s. eqb (price ok next need s) target)
 unfolding picked
 picked-lowest N ok next need target = refl
+
+module _ (N : ℕ) (allowed : ℕ → ℕ → Bool) where
+  pub best-variables : (need : ℕ) → best N allowed 0 need ≡ bestVariables N allowed need need
+  unfolding best
+  best-variables need = refl
+
+  pub best-next :
+      (k need s : ℕ)
+      → picked N (allowed (15 - k)) (cost N allowed k) need (cost N allowed (suc k) need) ≡ s
+      → best N allowed (suc k) need ≡ s ∷ best N allowed k (rest need s)
+  unfolding best
+  best-next k need s e = ap (λ (x : ℕ). x ∷ best N allowed k (rest need x)) e

@@ -14,6 +14,7 @@ use Rattle.set_cover.specs.Remainder.{rest}
 use Rattle.set_cover.specs.Least.{infinity, least-same}
 use Rattle.set_cover.specs.Cost.{price, entry, coverCost, coverTable, costTable, cost}
 use Rattle.set_cover.specs.Choice.{picked, bestVariables, best}
+use Rattle.set_cover.specs.Cheapest.{pickedVariable}
 
 -- two tests that agree below N, and two costs of what is left that agree
 module _ (N : ℕ) (f g : ℕ → Bool) (same : (s : ℕ) → s < N → f s ≡ g s) where
@@ -39,10 +40,6 @@ module _ (N : ℕ) (f g : ℕ → Bool) (same : (s : ℕ) → s < N → f s ≡ 
   picked-same next later alike need target wanted e =
       lowest-same N 0 _ _ (λ s from upTo. ap₂ eqb (price-same next later alike need s (omega arith)) e)
 
--- the variable that is picked
-abbrev variableFor : ℕ → (ℕ → ℕ → Bool) → ℕ → ℕ
-variableFor N f need = picked N (typeVariable (f 0)) (cost N f 0) need (cost N f 0 need)
-
 module _ (N : ℕ) (f g : ℕ → ℕ → Bool) (same : (i : ℕ) → i < 16 → (s : ℕ) → s < N → f i s ≡ g i s) where
   variable-same : (s : ℕ) → s < N → typeVariable (f 0) s ≡ typeVariable (g 0) s
   variable-same s h = ap (λ (b : Bool). ltb 0 s && b) (same 0 (omega arith) s h)
@@ -65,19 +62,19 @@ module _ (N : ℕ) (f g : ℕ → ℕ → Bool) (same : (i : ℕ) → i < 16 →
   variables-same zero need = refl
   variables-same (suc more) need = go (eqb need 0) first (variables-same more)
     where
-      first : variableFor N f need ≡ variableFor N g need
+      first : pickedVariable N f need ≡ pickedVariable N g need
       first =
           picked-same N (typeVariable (f 0)) (typeVariable (g 0)) variable-same (cost N f 0) (cost N g 0) (λ x. cost-same 0 x (omega arith)) need _ _
           (cost-same 0 need (omega arith))
 
       go :
           (b : Bool)
-          → variableFor N f need ≡ variableFor N g need
+          → pickedVariable N f need ≡ pickedVariable N g need
           → ((need : ℕ) → bestVariables N f more need ≡ bestVariables N g more need)
-          → _≡_ {A = List ℕ} (elim b [ true ↦ [] | false ↦ variableFor N f need ∷ bestVariables N f more (rest need (variableFor N f need)) ])
-          (elim b [ true ↦ [] | false ↦ variableFor N g need ∷ bestVariables N g more (rest need (variableFor N g need)) ])
+          → _≡_ {A = List ℕ} (elim b [ true ↦ [] | false ↦ pickedVariable N f need ∷ bestVariables N f more (rest need (pickedVariable N f need)) ])
+          (elim b [ true ↦ [] | false ↦ pickedVariable N g need ∷ bestVariables N g more (rest need (pickedVariable N g need)) ])
       go true e others = refl
-      go false e others = ap₂ _∷_ e (others (rest need (variableFor N f need)) ∙ ap (λ (x : ℕ). bestVariables N g more (rest need x)) e)
+      go false e others = ap₂ _∷_ e (others (rest need (pickedVariable N f need)) ∙ ap (λ (x : ℕ). bestVariables N g more (rest need x)) e)
 
   pub best-same : (k need : ℕ) → k ≤ 15 → best N f k need ≡ best N g k need
   unfolding best

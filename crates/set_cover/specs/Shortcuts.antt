@@ -149,7 +149,7 @@ module _ (N : ℕ) (allowed : ℕ → ℕ → Bool) (few : N ≤ 256) (grounded 
       go (inr l) (yes cannot) others = let m = covering-most j need in omega arith
       go (inr l) (no can) others =
           let p = variable-picked N allowed few need l h (omega arith) in
-          let v = pickedVariable N allowed few need in
+          let v = pickedVariable N allowed need in
           let fewer = takes N allowed few need v (p .below) (p .isAllowed) (p .is) in
           let less-members = rest-fewer need v (omega arith) fewer in
           let rests = others (rest need v) (omega arith) (omega arith) in
