@@ -3,11 +3,11 @@ use Prim.Native.Nat.{ℕ, zero, suc, _+_, _-_, _≤_, _<_}
 use mathlib.Core.Path.{_≡_, refl, sym, ap, _∙_}
 use mathlib.Core.Bool.{Bool, true, false}
 use mathlib.Core.List.{List, [], _∷_}
-use mathlib.Core.Logic.{_⊎_, inl, inr, ⊎-elim}
+use mathlib.Core.Logic.{_⊎_, inl, inr}
 use native.Mathlib.Decide.{decLe}
 use native.Mathlib.Nat.{eq-zero-or-pos, le-of-suc-le-suc}
 use native.Mathlib.Omega.{arith}
-use borrow.Author.Tests.{eqb-false, eq-eqb, ne-eqb, ltb-true}
+use borrow.Author.Tests.{eq-eqb, ltb-true}
 use lib.Dec.{eqb, ltb}
 use lib.ListN.{length, getD, drop}
 use Rattle.bits.specs.Booleans.{and-left, clash}
@@ -18,14 +18,10 @@ use Rattle.states.specs.Formula.{typeVariable}
 use Rattle.set_cover.specs.Remainder.{rest, rest-least, rest-none, rest-fewer}
 use Rattle.set_cover.specs.Least.{infinity, least-of}
 use Rattle.set_cover.specs.Cost.{price, cost, cost-next}
-use Rattle.set_cover.specs.Choice.{Chosen, picked, bestVariables, best, best-variables}
-use Rattle.set_cover.specs.Cheapest.{price-ok, price-not, special-picked, pickedVariable, variable-picked, takes, best-right, variables-rise}
+use Rattle.set_cover.specs.Choice.{Chosen, picked, bestVariables, best, pickedVariable, no-variables, variables-step, best-variables}
+use Rattle.set_cover.specs.Cheapest.{price-ok, price-not, special-picked, variable-picked, takes, best-right, variables-rise}
 use Rattle.set_cover.specs.Shortcuts.{cost-most}
 use Rattle.set_cover.specs.Covered.{EachBelow}
-
--- no variable where nothing is needed
-abbrev unlessNone : Bool → List ℕ → List ℕ
-unlessNone b xs = elim b [ true ↦ [] | false ↦ xs ]
 
 -- ---- what a choice is
 
@@ -104,17 +100,13 @@ module _ (N : ℕ) (allowed : ℕ → ℕ → Bool) (few : N ≤ 256) where
   variables-below : (more need : ℕ) → need < N → EachBelow N (bestVariables N allowed more need)
   unfolding bestVariables
   variables-below zero need h = tt
-  variables-below (suc more) need h = go (eqb need 0) refl (variables-below more)
+  variables-below (suc more) need h = go (eq-zero-or-pos need) (variables-below more)
     where
-      go :
-          (b : Bool)
-          → eqb need 0 ≡ b
-          → ((need : ℕ) → need < N → EachBelow N (bestVariables N allowed more need))
-          → EachBelow N (elim b [ true ↦ [] | false ↦ pickedVariable N allowed need ∷ bestVariables N allowed more (rest need (pickedVariable N allowed need)) ])
-      go true e others = tt
-      go false e others =
-          let some : 0 < need = let ne = eqb-false need 0 e in ⊎-elim (λ z. absurd (ne z)) (λ l. l) (eq-zero-or-pos need) in
-          (variable-below need some h, others (rest need (pickedVariable N allowed need)) (let r = rest-least need (pickedVariable N allowed need) in omega arith))
+      go : (need ≡ 0) ⊎ (0 < need) → ((need : ℕ) → need < N → EachBelow N (bestVariables N allowed more need)) → EachBelow N (bestVariables N allowed (suc more) need)
+      go (inl none) others = rw (no-variables N allowed (suc more) need none) tt
+      go (inr some) others =
+          let r = rest-least need (pickedVariable N allowed need) in
+          rw (variables-step N allowed more need some) (variable-below need some h, others (rest need (pickedVariable N allowed need)) (omega arith))
 
   pub best-below : (k need : ℕ) → need < N → EachBelow N (best N allowed k need)
   unfolding best
@@ -136,35 +128,22 @@ module _ (N : ℕ) (allowed : ℕ → ℕ → Bool) (few : N ≤ 256) where
   variables-few : (more need : ℕ) → need < N → cost N allowed 0 need < infinity → length (bestVariables N allowed more need) ≤ members need
   unfolding bestVariables
   variables-few zero need h less = omega arith
-  variables-few (suc more) need h less = go (eqb need 0) refl (variables-few more)
+  variables-few (suc more) need h less = go (eq-zero-or-pos need) (variables-few more)
     where
       go :
-          (b : Bool)
-          → eqb need 0 ≡ b
+          (need ≡ 0) ⊎ (0 < need)
           → ((need : ℕ) → need < N → cost N allowed 0 need < infinity → length (bestVariables N allowed more need) ≤ members need)
-          → length {A = ℕ} (elim b [ true ↦ [] | false ↦ pickedVariable N allowed need ∷ bestVariables N allowed more (rest need (pickedVariable N allowed need)) ]) ≤ members need
-      go true e others = omega arith
-      go false e others =
-          let some : 0 < need = let ne = eqb-false need 0 e in ⊎-elim (λ z. absurd (ne z)) (λ l. l) (eq-zero-or-pos need) in
+          → length (bestVariables N allowed (suc more) need) ≤ members need
+      go (inl none) others = rw (no-variables N allowed (suc more) need none) (omega arith)
+      go (inr some) others =
           let p = variable-picked N allowed few need some h less in
           let is = p .is in
           let taken = takes N allowed few need (pickedVariable N allowed need) (p .below) (p .isAllowed) (p .is) in
           let fewer = rest-fewer need (pickedVariable N allowed need) (omega arith) taken in
           let rest-few = others (rest need (pickedVariable N allowed need)) (omega arith) (omega arith) in
-          omega arith
+          rw (variables-step N allowed more need some) (omega arith)
 
   -- ---- the variables one by one
-
-  no-variables : (more need : ℕ) → need ≤ 0 → bestVariables N allowed more need ≡ []
-  unfolding bestVariables
-  no-variables zero need h = refl
-  no-variables (suc more) zero h = refl
-  no-variables (suc more) (suc need) h = absurd (omega arith)
-
-  variables-step : (more need : ℕ) → 0 < need → bestVariables N allowed (suc more) need ≡ pickedVariable N allowed need ∷ bestVariables N allowed more (rest need (pickedVariable N allowed need))
-  unfolding bestVariables
-  variables-step more need some =
-      ap (λ (b : Bool). unlessNone b (pickedVariable N allowed need ∷ bestVariables N allowed more (rest need (pickedVariable N allowed need)))) (ne-eqb need 0 (λ z. omega arith))
 
   -- at most as many as the number of `need` are enough, since each remainder is lower
   variables-enough :
@@ -174,27 +153,26 @@ module _ (N : ℕ) (allowed : ℕ → ℕ → Bool) (few : N ≤ 256) where
       → need < N
       → cost N allowed 0 need < infinity
       → bestVariables N allowed more need ≡ bestVariables N allowed less need
-  variables-enough zero less need a b h low = no-variables zero need a ∙ sym (no-variables less need a)
-  variables-enough (suc more) zero need a b h low = no-variables (suc more) need b ∙ sym (no-variables zero need b)
+  variables-enough zero less need a b h low = no-variables N allowed zero need (omega arith) ∙ sym (no-variables N allowed less need (omega arith))
+  variables-enough (suc more) zero need a b h low = no-variables N allowed (suc more) need (omega arith) ∙ sym (no-variables N allowed zero need (omega arith))
   variables-enough (suc more) (suc less) need a b h low = go (eq-zero-or-pos need) (variables-enough more less)
     where
       go :
           (need ≡ 0) ⊎ (0 < need)
           → ((need : ℕ) → need ≤ more → need ≤ less → need < N → cost N allowed 0 need < infinity → bestVariables N allowed more need ≡ bestVariables N allowed less need)
           → bestVariables N allowed (suc more) need ≡ bestVariables N allowed (suc less) need
-      go (inl none) others = no-variables (suc more) need (omega arith) ∙ sym (no-variables (suc less) need (omega arith))
+      go (inl none) others = no-variables N allowed (suc more) need none ∙ sym (no-variables N allowed (suc less) need none)
       go (inr some) others =
           let p = variable-picked N allowed few need some h low in
           let is = p .is in
           let taken = takes N allowed few need (pickedVariable N allowed need) (p .below) (p .isAllowed) (p .is) in
-          variables-step more need some
+          variables-step N allowed more need some
           ∙ ap (λ (xs : List ℕ). pickedVariable N allowed need ∷ xs) (others (rest need (pickedVariable N allowed need)) (omega arith) (omega arith) (omega arith) (omega arith))
-          ∙ sym (variables-step less need some)
+          ∙ sym (variables-step N allowed less need some)
 
   -- none where nothing is needed
   pub variables-none : best N allowed 0 0 ≡ []
-  unfolding best
-  variables-none = no-variables 0 0 (omega arith)
+  variables-none = best-variables N allowed 0 ∙ no-variables N allowed 0 0 refl
 
   -- the one that is picked, and then those for what remains
   pub variables-next :
@@ -210,7 +188,7 @@ module _ (N : ℕ) (allowed : ℕ → ℕ → Bool) (few : N ≤ 256) where
       let is = p .is in
       let taken = takes N allowed few (suc n) (pickedVariable N allowed (suc n)) (p .below) (p .isAllowed) (p .is) in
       best-variables N allowed (suc n)
-      ∙ variables-step n (suc n) some
+      ∙ variables-step N allowed n (suc n) some
       ∙ ap (λ (xs : List ℕ). pickedVariable N allowed (suc n) ∷ xs)
       (variables-enough n (rest (suc n) (pickedVariable N allowed (suc n))) (rest (suc n) (pickedVariable N allowed (suc n))) (omega arith) (omega arith) (omega arith) (omega arith)
       ∙ sym (best-variables N allowed (rest (suc n) (pickedVariable N allowed (suc n)))))

@@ -4,6 +4,8 @@ use mathlib.Core.Path.{_≡_, refl, ap}
 use mathlib.Core.Bool.{Bool, true, false}
 use mathlib.Core.List.{List, [], _∷_}
 use mathlib.Core.Logic.{_⊎_}
+use native.Mathlib.Omega.{arith}
+use borrow.Author.Tests.{eq-eqb, ne-eqb}
 use lib.Dec.{eqb}
 use Rattle.bits.specs.Lowest.{lowestFrom}
 use Rattle.types.specs.Memberships.{members}
@@ -61,7 +63,25 @@ pub picked-lowest : (N : ℕ) (ok : ℕ → Bool) (next : ℕ → ℕ) (need tar
 unfolding picked
 picked-lowest N ok next need target = refl
 
+-- no variable where nothing is needed
+abbrev unlessNone : Bool → List ℕ → List ℕ
+unlessNone b xs = elim b [ true ↦ [] | false ↦ xs ]
+
 module _ (N : ℕ) (allowed : ℕ → ℕ → Bool) where
+  -- the variable that is picked first
+  abbrev pub pickedVariable : ℕ → ℕ
+  pickedVariable need = picked N (typeVariable (allowed 0)) (cost N allowed 0) need (cost N allowed 0 need)
+
+  pub no-variables : (more need : ℕ) → need ≡ 0 → bestVariables N allowed more need ≡ []
+  unfolding bestVariables
+  no-variables zero need e = refl
+  no-variables (suc more) need e = ap (λ (b : Bool). unlessNone b (pickedVariable need ∷ bestVariables N allowed more (rest need (pickedVariable need)))) (eq-eqb need 0 e)
+
+  pub variables-step : (more need : ℕ) → 0 < need → bestVariables N allowed (suc more) need ≡ pickedVariable need ∷ bestVariables N allowed more (rest need (pickedVariable need))
+  unfolding bestVariables
+  variables-step more need some =
+      ap (λ (b : Bool). unlessNone b (pickedVariable need ∷ bestVariables N allowed more (rest need (pickedVariable need)))) (ne-eqb need 0 (λ z. omega arith))
+
   pub best-variables : (need : ℕ) → best N allowed 0 need ≡ bestVariables N allowed need need
   unfolding best
   best-variables need = refl
