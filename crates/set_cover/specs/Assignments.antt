@@ -97,7 +97,7 @@ module _ (m : ℕ) (few : m ≤ 8) (A : Assignment) where
 
   last-below : (n k : ℕ) → EachBelow 256 (lastSubsets m A n k)
   unfolding lastSubsets
-  last-below n zero = ordinary-below n 16
+  last-below n zero = ordinary-below n _
   last-below n (suc k) = (below-256 (15 - k), last-below n k)
 
   -- ---- a relation with one of the attributes is in one of the subsets
@@ -141,7 +141,7 @@ module _ (m : ℕ) (few : m ≤ 8) (A : Assignment) where
 
     last-chosen : (n k : ℕ) → k ≤ 15 → Chosen (2 ^ m) allowed k (lastSubsets m A n k)
     unfolding lastSubsets
-    last-chosen n zero h = ordinary-chosen n 16 (omega arith)
+    last-chosen n zero h = ordinary-chosen n _ (omega arith)
     last-chosen n (suc k) h = (holders-below m A (15 - k), is .special (15 - k) (omega arith) (omega arith), last-chosen n k (omega arith))
 
 -- no relation has attribute 0
