@@ -12,7 +12,7 @@ use lib.ListN.{length, getD, drop, set, replicate, length-set, length-replicate,
 use lib.Seq.{ext-getD, getD-set-same, getD-set-other}
 use Rattle.bits.specs.Lowest.{lowestFrom}
 use Rattle.bits.specs.Part.{at-head}
-use Rattle.set_cover.specs.Remainder.{rest, rest-is, rest-least}
+use Rattle.set_cover.specs.Remainder.{rest, rest-and, rest-least}
 use Rattle.set_cover.specs.Least.{infinity}
 use Rattle.set_cover.specs.Cost.{cost}
 use Rattle.set_cover.specs.Choice.{picked, best, bestVariables, best-next, best-variables}
@@ -102,8 +102,7 @@ module _ (N : ℕ) (allowed : ℕ → ℕ → Bool) (few : N ≤ 256) where
       rests-next =
           c .rests
           ∙ ap (λ (k : ℕ). best N allowed k need) (sym more)
-          ∙ best-next N allowed (15 - i) need
-          ∙ ap (λ (x : ℕ). x ∷ best N allowed (15 - i) (rest need x)) (sym is-picked)
+          ∙ best-next N allowed (15 - i) need s (sym is-picked)
 
       left-less : cost N allowed (15 - i) (rest need s) < infinity
       left-less =
@@ -116,7 +115,7 @@ module _ (N : ℕ) (allowed : ℕ → ℕ → Bool) (few : N ≤ 256) where
       choosing-next left is =
           let head = at-head (best N allowed 15 (N - 1)) (i - 1) 0 s (best N allowed (15 - i) (rest need s)) rests-next in
           let some = c .some in
-          let left-is : left ≡ rest need s = is ∙ sym (rest-is need s) in
+          let left-is : left ≡ rest need s = is ∙ sym (rest-and need s) in
           let least = rest-least need s in
           let below = c .below in
           let place : suc (i - 1) ≡ i + 1 - 1 = omega arith in

@@ -17,11 +17,11 @@ use Rattle.types.specs.Memberships.{members, members-most, members-some}
 use Rattle.states.specs.Formula.{typeVariable}
 use Rattle.membership.specs.Entries.{entry}
 use Rattle.membership.specs.Holders.{ItemsFit}
-use Rattle.set_cover.specs.Remainder.{rest, rest-is, rest-least, rest-fewer}
+use Rattle.set_cover.specs.Remainder.{rest, rest-and, rest-least, rest-fewer}
 use Rattle.set_cover.specs.Least.{infinity}
 use Rattle.set_cover.specs.Cost.{cost}
-use Rattle.set_cover.specs.Choice.{picked, bestVariables, variables-next, variables-ended}
-use Rattle.set_cover.specs.Cheapest.{variable-picked, pickedVariable, takes}
+use Rattle.set_cover.specs.Choice.{picked, bestVariables, pickedVariable, variables-step, no-variables}
+use Rattle.set_cover.specs.Cheapest.{variable-picked, takes}
 use Rattle.cover_rows.specs.Rows.{priceIn}
 use Rattle.cover_rows.specs.Holding.{Holds, Allows, pick-variable}
 use Rattle.verdict_answer.specs.Witness.{numbered}
@@ -63,7 +63,7 @@ module _ (N : ℕ) (allowed : ℕ → ℕ → Bool) (few : N ≤ 256) (all : ℕ
     -- no relation needs one: the entries are those of all variables
     pub numbering-ended : need ≡ 0 → (n ≤ 8) × ItemsFit items n × (take n items ≡ numbered 16 (bestVariables N allowed all all))
     numbering-ended none =
-        let ended : drop n (bestVariables N allowed all all) ≡ [] = c .rests ∙ ap (bestVariables N allowed (all - n)) none ∙ variables-ended N allowed (all - n) in
+        let ended : drop n (bestVariables N allowed all all) ≡ [] = c .rests ∙ no-variables N allowed (all - n) need none in
         let left = length-drop n (bestVariables N allowed all all) in
         let empty = ap length ended in
         let upTo = c .long in
@@ -90,7 +90,7 @@ module _ (N : ℕ) (allowed : ℕ → ℕ → Bool) (few : N ≤ 256) (all : ℕ
 
       module _ (column next : List ℕ) (target v : ℕ) (allows : Allows N (allowed 0) column) (holds : Holds N (cost N allowed 0) next) (aims : target ≡ cost N allowed 0 need)
           (found : v ≡ lowestFrom (N - 1) 1 (λ s. eqb (priceIn column next need s) target)) where
-        is-picked : v ≡ pickedVariable N allowed few need
+        is-picked : v ≡ pickedVariable N allowed need
         is-picked =
             let less = c .less in
             found
@@ -108,12 +108,12 @@ module _ (N : ℕ) (allowed : ℕ → ℕ → Bool) (few : N ≤ 256) (all : ℕ
             let rests : drop n (bestVariables N allowed all all) ≡ v ∷ bestVariables N allowed (all - (n + 1)) (rest need v) =
             c .rests
             ∙ ap (λ (k : ℕ). bestVariables N allowed k need) more
-            ∙ variables-next N allowed (all - (n + 1)) need some
+            ∙ variables-step N allowed (all - (n + 1)) need some
             ∙ ap (λ (x : ℕ). x ∷ bestVariables N allowed (all - (n + 1)) (rest need x)) (sym is-picked) in
             let head = at-head (bestVariables N allowed all all) n 0 v (bestVariables N allowed (all - (n + 1)) (rest need v)) rests in
             let inside = head .below in
-            let left-is : left ≡ rest need v = is ∙ sym (rest-is need v) in
-            let fewer : rest need v < need = rw is-picked (takes N allowed few need (pickedVariable N allowed few need) (p .below) (p .isAllowed) (p .is)) in
+            let left-is : left ≡ rest need v = is ∙ sym (rest-and need v) in
+            let fewer : rest need v < need = rw is-picked (takes N allowed few need (pickedVariable N allowed need) (p .below) (p .isAllowed) (p .is)) in
             let below = c .below in
             let gone = rest-fewer need v (omega arith) fewer in
             let fit = c .fit in

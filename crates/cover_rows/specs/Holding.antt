@@ -1,5 +1,5 @@
 -- A row of costs in code holds those of the definition, and a search in code picks the subset of the definition.
-use Prim.Native.Nat.{ℕ, zero, suc, _+_, _-_, _≤_, _<_}
+use Prim.Native.Nat.{ℕ, suc, _+_, _-_, _≤_, _<_}
 use mathlib.Core.Path.{_≡_, refl, sym, ap, ap₂, _∙_}
 use mathlib.Core.Bool.{Bool, true, cond, _&&_}
 use mathlib.Core.List.{List}
@@ -8,8 +8,8 @@ use native.Mathlib.Decide.{decLt}
 use native.Mathlib.Nat.{eq-zero-or-pos, sub-zero}
 use native.Mathlib.Omega.{arith}
 use borrow.Author.Tests.{lt-ltb, eq-eqb, ne-eqb}
-use lib.Dec.{eqb, ltb}
-use lib.ListN.{length, getD, set, replicate, length-replicate, length-set, getD-replicate, List·getD-eq-default}
+use lib.Dec.{eqb}
+use lib.ListN.{getD, set, replicate, length-replicate, length-set, getD-replicate, List·getD-eq-default}
 use lib.Seq.{getD-set-same, getD-set-other}
 use Rattle.bits.specs.Lowest.{lowestFrom, lowest-next, lowest-same}
 use Rattle.bits.specs.Tab.{getD-tab}
@@ -20,7 +20,7 @@ use Rattle.set_cover.specs.Remainder.{rest, rest-least}
 use Rattle.set_cover.specs.Least.{infinity, least, least-same}
 use Rattle.set_cover.specs.Cost.{price, cost, cost-next}
 use Rattle.set_cover.specs.Choice.{picked, picked-lowest}
-use Rattle.set_cover.specs.Shortcuts.{covering, covering-none, covering-next}
+use Rattle.set_cover.specs.Shortcuts.{covering, covering-none, covering-next, covering-settled, covering-is, skip-cost}
 use Rattle.cover_rows.specs.Rows.{Costs, priceIn, costRow}
 
 -- the row has the values of f at the needs below N
@@ -85,6 +85,10 @@ module _ (N : ℕ) (allowed : ℕ → ℕ → Bool) (column next : List ℕ) (sa
 unfoldable pub startRow : List ℕ
 startRow = set (replicate 256 infinity) 0 0
 
+pub start-row : startRow ≡ set (replicate 256 infinity) 0 0
+unfolding startRow
+start-row = refl
+
 pub start-costs : Costs startRow
 unfolding startRow
 start-costs x = go (eq-zero-or-pos x) (decLt x 256)
@@ -109,3 +113,17 @@ module _ (N : ℕ) (ok : ℕ → Bool) where
   pub covering-row : (j : ℕ) (column next : List ℕ) (limit : ℕ) → N ≤ limit → limit ≤ 256 → Allows N ok column → Holds N (covering N ok j) next → Holds N (covering N ok (suc j)) (costRow column next limit N)
   covering-row j column next limit enough short same holds need h =
       row-holds N column next ok same (covering N ok j) holds limit enough short need h ∙ sym (covering-next N ok j need)
+
+module _ (N : ℕ) (allowed : ℕ → ℕ → Bool) (few : N ≤ 256) (grounded : allowed 0 0 ≡ true) (row : List ℕ) where
+  -- after eight
+  pub covering-all : Holds N (covering N (allowed 0) 8) row → Holds N (cost N allowed 0) row
+  covering-all holds need h = holds need h ∙ covering-is N allowed few grounded need h
+
+  -- or once a row stays the same
+  pub covering-stays : (j : ℕ) → j ≤ 8 → Holds N (covering N (allowed 0) j) row → Holds N (covering N (allowed 0) (suc j)) row → Holds N (cost N allowed 0) row
+  covering-stays j most before after =
+      covering-all (λ need h. before need h ∙ sym (covering-settled N (allowed 0) j (λ x l. sym (after x l) ∙ before x l) most need h))
+
+  -- a column that allows what column 0 allows has the row of what follows
+  pub skip-holds : (k : ℕ) → ((s : ℕ) → s < N → allowed (15 - k) s ≡ allowed 0 s) → Holds N (cost N allowed k) row → Holds N (cost N allowed (suc k)) row
+  skip-holds k alike holds need h = holds need h ∙ sym (skip-cost N allowed few grounded k alike need h)

@@ -9,7 +9,7 @@ use native.Mathlib.Decide.{decLe}
 use native.Mathlib.Nat.{add-zero, eq-or-lt-of-le, eq-zero-or-pos, lt-of-lt-of-le, zero-add, suc-add}
 use native.Mathlib.Omega.{arith}
 use borrow.Author.Tests.{lt-ltb}
-use lib.Dec.{T, T-prop}
+use lib.Dec.{T-prop}
 use lib.Pow.{pow-mono, pow-pos}
 use Rattle.bits.specs.Bit.{bit, bit-none}
 use Rattle.bits.specs.Booleans.{clash}
@@ -20,7 +20,6 @@ use Rattle.bits.specs.Truth.{is-true, by-true}
 use Rattle.types.specs.Types.{Assignment, IsAssignment, Filled, holders}
 use Rattle.types.specs.Laws.{holders-packed, holders-below}
 use Rattle.types.specs.Memberships.{members, memberships, Within, members-none, memberships-same, memberships-by}
-use Rattle.states.specs.Formula.{typeVariable}
 use Rattle.set_cover.specs.Least.{infinity}
 use Rattle.set_cover.specs.Cost.{cost}
 use Rattle.set_cover.specs.Choice.{Chosen, weight, uncovered, NotAbove, best}
@@ -98,7 +97,7 @@ module _ (m : ℕ) (few : m ≤ 8) (A : Assignment) where
 
   last-below : (n k : ℕ) → EachBelow 256 (lastSubsets m A n k)
   unfolding lastSubsets
-  last-below n zero = ordinary-below n 16
+  last-below n zero = ordinary-below n _
   last-below n (suc k) = (below-256 (15 - k), last-below n k)
 
   -- ---- a relation with one of the attributes is in one of the subsets
@@ -142,7 +141,7 @@ module _ (m : ℕ) (few : m ≤ 8) (A : Assignment) where
 
     last-chosen : (n k : ℕ) → k ≤ 15 → Chosen (2 ^ m) allowed k (lastSubsets m A n k)
     unfolding lastSubsets
-    last-chosen n zero h = ordinary-chosen n 16 (omega arith)
+    last-chosen n zero h = ordinary-chosen n _ (omega arith)
     last-chosen n (suc k) h = (holders-below m A (15 - k), is .special (15 - k) (omega arith) (omega arith), last-chosen n k (omega arith))
 
 -- no relation has attribute 0

@@ -1,13 +1,13 @@
 -- The list `best`: how long it is, and what its entries are.
 use Prim.Native.Nat.{ℕ, zero, suc, _+_, _-_, _≤_, _<_}
-use mathlib.Core.Path.{_≡_, refl, ap, _∙_}
+use mathlib.Core.Path.{_≡_, refl, sym, ap, _∙_}
 use mathlib.Core.Bool.{Bool, true, false}
 use mathlib.Core.List.{List, [], _∷_}
-use mathlib.Core.Logic.{⊎-elim}
+use mathlib.Core.Logic.{_⊎_, inl, inr}
 use native.Mathlib.Decide.{decLe}
 use native.Mathlib.Nat.{eq-zero-or-pos, le-of-suc-le-suc}
 use native.Mathlib.Omega.{arith}
-use borrow.Author.Tests.{eqb-false, eq-eqb, ltb-true}
+use borrow.Author.Tests.{eq-eqb, ltb-true}
 use lib.Dec.{eqb, ltb}
 use lib.ListN.{length, getD, drop}
 use Rattle.bits.specs.Booleans.{and-left, clash}
@@ -18,8 +18,8 @@ use Rattle.states.specs.Formula.{typeVariable}
 use Rattle.set_cover.specs.Remainder.{rest, rest-least, rest-none, rest-fewer}
 use Rattle.set_cover.specs.Least.{infinity, least-of}
 use Rattle.set_cover.specs.Cost.{price, cost, cost-next}
-use Rattle.set_cover.specs.Choice.{Chosen, picked, bestVariables, best}
-use Rattle.set_cover.specs.Cheapest.{price-ok, price-not, special-picked, pickedVariable, variable-picked, takes, best-right, variables-rise}
+use Rattle.set_cover.specs.Choice.{Chosen, picked, bestVariables, best, pickedVariable, no-variables, variables-step, best-variables}
+use Rattle.set_cover.specs.Cheapest.{price-ok, price-not, special-picked, variable-picked, takes, best-right, variables-rise}
 use Rattle.set_cover.specs.Shortcuts.{cost-most}
 use Rattle.set_cover.specs.Covered.{EachBelow}
 
@@ -86,7 +86,7 @@ module _ (N : ℕ) (allowed : ℕ → ℕ → Bool) (few : N ≤ 256) where
       go (yes cannot) = let low = picked-most (allowed (15 - k)) (cost N allowed k) need (cost N allowed (suc k) need) 0 (empty cannot (allowed (15 - k) 0) refl) in omega arith
       go (no can) = special-picked N allowed few k need h (omega arith) .below
 
-  variable-below : (need : ℕ) → 0 < need → need < N → pickedVariable N allowed few need < N
+  variable-below : (need : ℕ) → 0 < need → need < N → pickedVariable N allowed need < N
   variable-below need some h = go (decLe infinity (cost N allowed 0 need))
     where
       go : Dec (infinity ≤ cost N allowed 0 need) → picked N (typeVariable (allowed 0)) (cost N allowed 0) need (cost N allowed 0 need) < N
@@ -100,17 +100,13 @@ module _ (N : ℕ) (allowed : ℕ → ℕ → Bool) (few : N ≤ 256) where
   variables-below : (more need : ℕ) → need < N → EachBelow N (bestVariables N allowed more need)
   unfolding bestVariables
   variables-below zero need h = tt
-  variables-below (suc more) need h = go (eqb need 0) refl (variables-below more)
+  variables-below (suc more) need h = go (eq-zero-or-pos need) (variables-below more)
     where
-      go :
-          (b : Bool)
-          → eqb need 0 ≡ b
-          → ((need : ℕ) → need < N → EachBelow N (bestVariables N allowed more need))
-          → EachBelow N (elim b [ true ↦ [] | false ↦ pickedVariable N allowed few need ∷ bestVariables N allowed more (rest need (pickedVariable N allowed few need)) ])
-      go true e others = tt
-      go false e others =
-          let some : 0 < need = let ne = eqb-false need 0 e in ⊎-elim (λ z. absurd (ne z)) (λ l. l) (eq-zero-or-pos need) in
-          (variable-below need some h, others (rest need (pickedVariable N allowed few need)) (let r = rest-least need (pickedVariable N allowed few need) in omega arith))
+      go : (need ≡ 0) ⊎ (0 < need) → ((need : ℕ) → need < N → EachBelow N (bestVariables N allowed more need)) → EachBelow N (bestVariables N allowed (suc more) need)
+      go (inl none) others = rw (no-variables N allowed (suc more) need none) tt
+      go (inr some) others =
+          let r = rest-least need (pickedVariable N allowed need) in
+          rw (variables-step N allowed more need some) (variable-below need some h, others (rest need (pickedVariable N allowed need)) (omega arith))
 
   pub best-below : (k need : ℕ) → need < N → EachBelow N (best N allowed k need)
   unfolding best
@@ -132,27 +128,76 @@ module _ (N : ℕ) (allowed : ℕ → ℕ → Bool) (few : N ≤ 256) where
   variables-few : (more need : ℕ) → need < N → cost N allowed 0 need < infinity → length (bestVariables N allowed more need) ≤ members need
   unfolding bestVariables
   variables-few zero need h less = omega arith
-  variables-few (suc more) need h less = go (eqb need 0) refl (variables-few more)
+  variables-few (suc more) need h less = go (eq-zero-or-pos need) (variables-few more)
     where
       go :
-          (b : Bool)
-          → eqb need 0 ≡ b
+          (need ≡ 0) ⊎ (0 < need)
           → ((need : ℕ) → need < N → cost N allowed 0 need < infinity → length (bestVariables N allowed more need) ≤ members need)
-          → length {A = ℕ} (elim b [ true ↦ [] | false ↦ pickedVariable N allowed few need ∷ bestVariables N allowed more (rest need (pickedVariable N allowed few need)) ]) ≤ members need
-      go true e others = omega arith
-      go false e others =
-          let some : 0 < need = let ne = eqb-false need 0 e in ⊎-elim (λ z. absurd (ne z)) (λ l. l) (eq-zero-or-pos need) in
+          → length (bestVariables N allowed (suc more) need) ≤ members need
+      go (inl none) others = rw (no-variables N allowed (suc more) need none) (omega arith)
+      go (inr some) others =
           let p = variable-picked N allowed few need some h less in
           let is = p .is in
-          let taken = takes N allowed few need (pickedVariable N allowed few need) (p .below) (p .isAllowed) (p .is) in
-          let fewer = rest-fewer need (pickedVariable N allowed few need) (omega arith) taken in
-          let rest-few = others (rest need (pickedVariable N allowed few need)) (omega arith) (omega arith) in
-          omega arith
+          let taken = takes N allowed few need (pickedVariable N allowed need) (p .below) (p .isAllowed) (p .is) in
+          let fewer = rest-fewer need (pickedVariable N allowed need) (omega arith) taken in
+          let rest-few = others (rest need (pickedVariable N allowed need)) (omega arith) (omega arith) in
+          rw (variables-step N allowed more need some) (omega arith)
+
+  -- ---- the variables one by one
+
+  -- at most as many as the number of `need` are enough, since each remainder is lower
+  variables-enough :
+      (more less need : ℕ)
+      → need ≤ more
+      → need ≤ less
+      → need < N
+      → cost N allowed 0 need < infinity
+      → bestVariables N allowed more need ≡ bestVariables N allowed less need
+  variables-enough zero less need a b h low = no-variables N allowed zero need (omega arith) ∙ sym (no-variables N allowed less need (omega arith))
+  variables-enough (suc more) zero need a b h low = no-variables N allowed (suc more) need (omega arith) ∙ sym (no-variables N allowed zero need (omega arith))
+  variables-enough (suc more) (suc less) need a b h low = go (eq-zero-or-pos need) (variables-enough more less)
+    where
+      go :
+          (need ≡ 0) ⊎ (0 < need)
+          → ((need : ℕ) → need ≤ more → need ≤ less → need < N → cost N allowed 0 need < infinity → bestVariables N allowed more need ≡ bestVariables N allowed less need)
+          → bestVariables N allowed (suc more) need ≡ bestVariables N allowed (suc less) need
+      go (inl none) others = no-variables N allowed (suc more) need none ∙ sym (no-variables N allowed (suc less) need none)
+      go (inr some) others =
+          let p = variable-picked N allowed few need some h low in
+          let is = p .is in
+          let taken = takes N allowed few need (pickedVariable N allowed need) (p .below) (p .isAllowed) (p .is) in
+          variables-step N allowed more need some
+          ∙ ap (λ (xs : List ℕ). pickedVariable N allowed need ∷ xs) (others (rest need (pickedVariable N allowed need)) (omega arith) (omega arith) (omega arith) (omega arith))
+          ∙ sym (variables-step N allowed less need some)
+
+  -- none where nothing is needed
+  pub variables-none : best N allowed 0 0 ≡ []
+  variables-none = best-variables N allowed 0 ∙ no-variables N allowed 0 0 refl
+
+  -- the one that is picked, and then those for what remains
+  pub variables-next :
+      (need v : ℕ)
+      → 0 < need
+      → need < N
+      → cost N allowed 0 need < infinity
+      → picked N (typeVariable (allowed 0)) (cost N allowed 0) need (cost N allowed 0 need) ≡ v
+      → best N allowed 0 need ≡ v ∷ best N allowed 0 (rest need v)
+  variables-next zero v some h low e = absurd (omega arith)
+  variables-next (suc n) v some h low e =
+      let p = variable-picked N allowed few (suc n) some h low in
+      let is = p .is in
+      let taken = takes N allowed few (suc n) (pickedVariable N allowed (suc n)) (p .below) (p .isAllowed) (p .is) in
+      best-variables N allowed (suc n)
+      ∙ variables-step N allowed n (suc n) some
+      ∙ ap (λ (xs : List ℕ). pickedVariable N allowed (suc n) ∷ xs)
+      (variables-enough n (rest (suc n) (pickedVariable N allowed (suc n))) (rest (suc n) (pickedVariable N allowed (suc n))) (omega arith) (omega arith) (omega arith) (omega arith)
+      ∙ sym (best-variables N allowed (rest (suc n) (pickedVariable N allowed (suc n)))))
+      ∙ ap (λ (x : ℕ). x ∷ best N allowed 0 (rest (suc n) x)) e
 
   -- ---- the variables of `best`
 
   -- what is left for variables
-  pub record Variables (k need : ℕ) : Type 0 where
+  record Variables (k need : ℕ) : Type 0 where
     pub uncovered : ℕ
     pub below : uncovered < N
     pub less : cost N allowed 0 uncovered < infinity

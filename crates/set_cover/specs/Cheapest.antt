@@ -18,7 +18,7 @@ use Rattle.states.specs.Formula.{typeVariable}
 use Rattle.set_cover.specs.Remainder.{rest, rest-least, rest-swap, rest-again, rest-fewer}
 use Rattle.set_cover.specs.Least.{infinity, least, least-of, Attained, least-found}
 use Rattle.set_cover.specs.Cost.{price, cost, lower, cost-zero, cost-cover, cost-next}
-use Rattle.set_cover.specs.Choice.{Chosen, weight, uncovered, NotAbove, picked, bestVariables, best}
+use Rattle.set_cover.specs.Choice.{Chosen, weight, uncovered, NotAbove, picked, bestVariables, best, pickedVariable, no-variables, variables-step}
 
 -- ---- prices
 
@@ -70,6 +70,17 @@ picked-is N ok next need target less some = go (decLe N (lowestFrom N 0 (λ s. e
           is = sym (price-ok ok next need _ allowed) ∙ is;
           lowest = λ y l e same. lowest y e same (decLe (lowestFrom N 0 (λ s. eqb (price ok next need s) target)) y);
         }
+
+module _ (N : ℕ) (allowed : ℕ → ℕ → Bool) where
+  -- a choice that leaves nothing uncovered and has as many members as `need` costs
+  pub record Right (k need : ℕ) (xs : List ℕ) : Type 0 where
+    pub chosen : Chosen N allowed k xs
+    pub covers : uncovered need xs ≡ 0
+    pub is : weight xs ≡ cost N allowed k need
+
+  -- each variable that costs no more than it must is above q
+  abbrev pub Firsts : ℕ → ℕ → Type 0
+  Firsts need q = (w : ℕ) → w < N → typeVariable (allowed 0) w ≡ true → members w + cost N allowed 0 (rest need w) ≡ cost N allowed 0 need → q < w
 
 module _ (N : ℕ) (allowed : ℕ → ℕ → Bool) (few : N ≤ 256) where
   -- ---- no choice that gives each relation an attribute costs less
@@ -177,10 +188,7 @@ module _ (N : ℕ) (allowed : ℕ → ℕ → Bool) (few : N ≤ 256) where
           let is = f .is in
           absurd (omega arith)
 
-  abbrev pub pickedVariable : ℕ → ℕ
-  pickedVariable need = picked N (typeVariable (allowed 0)) (cost N allowed 0) need (cost N allowed 0 need)
-
-  pub variable-picked : (need : ℕ) → 0 < need → need < N → cost N allowed 0 need < infinity → Picked N (typeVariable (allowed 0)) (cost N allowed 0) need (cost N allowed 0 need) (pickedVariable need)
+  pub variable-picked : (need : ℕ) → 0 < need → need < N → cost N allowed 0 need < infinity → Picked N (typeVariable (allowed 0)) (cost N allowed 0) need (cost N allowed 0 need) (pickedVariable N allowed need)
   variable-picked need some h less =
       let is = cost-cover N allowed need some h in
       picked-is N (typeVariable (allowed 0)) (cost N allowed 0) need (cost N allowed 0 need) less
@@ -199,37 +207,30 @@ module _ (N : ℕ) (allowed : ℕ → ℕ → Bool) (few : N ≤ 256) where
 
   -- ---- `best` covers, and has as many members as it costs
 
-  -- a choice that leaves nothing uncovered and has as many members as `need` costs
-  pub record Right (k need : ℕ) (xs : List ℕ) : Type 0 where
-    pub chosen : Chosen N allowed k xs
-    pub covers : uncovered need xs ≡ 0
-    pub is : weight xs ≡ cost N allowed k need
-
-  variables-right : (more need : ℕ) → need ≤ more → need < N → cost N allowed 0 need < infinity → Right 0 need (bestVariables N allowed more need)
-  unfolding bestVariables
-  variables-right zero need upTo h less =
-      let none : need ≡ 0 = omega arith in
+  nothing-right : (more need : ℕ) → need < N → need ≡ 0 → Right N allowed 0 need (bestVariables N allowed more need)
+  nothing-right more need h none =
       let z = cost-zero N allowed (omega arith) in
-      let e = ap (cost N allowed 0) none in
-      record { chosen = tt; covers = none; is = omega arith }
-  variables-right (suc more) need upTo h less = go (eqb need 0) refl (variables-right more)
+      let c = ap (cost N allowed 0) none in
+      rw (no-variables N allowed more need none) (record { chosen = tt; covers = none; is = omega arith })
+
+  variables-right : (more need : ℕ) → need ≤ more → need < N → cost N allowed 0 need < infinity → Right N allowed 0 need (bestVariables N allowed more need)
+  variables-right zero need upTo h less = nothing-right zero need h (omega arith)
+  variables-right (suc more) need upTo h less = go (eq-zero-or-pos need) (variables-right more)
     where
-      go : (b : Bool) → eqb need 0 ≡ b → ((need : ℕ) → need ≤ more → need < N → cost N allowed 0 need < infinity → Right 0 need (bestVariables N allowed more need)) → Right 0 need (elim b [ true ↦ [] | false ↦ pickedVariable need ∷ bestVariables N allowed more (rest need (pickedVariable need)) ])
-      go true e others =
-          let none = eqb-true need 0 e in
-          let z = cost-zero N allowed (omega arith) in
-          let c = ap (cost N allowed 0) none in
-          record { chosen = tt; covers = none; is = omega arith }
-      go false e others =
-          let some : 0 < need = let ne = eqb-false need 0 e in ⊎-elim (λ z. absurd (ne z)) (λ l. l) (eq-zero-or-pos need) in
+      go :
+          (need ≡ 0) ⊎ (0 < need)
+          → ((need : ℕ) → need ≤ more → need < N → cost N allowed 0 need < infinity → Right N allowed 0 need (bestVariables N allowed more need))
+          → Right N allowed 0 need (bestVariables N allowed (suc more) need)
+      go (inl none) others = nothing-right (suc more) need h none
+      go (inr some) others =
           let p = variable-picked need some h less in
           let is = p .is in
-          let fewer = takes need (pickedVariable need) (p .below) (p .isAllowed) (p .is) in
-          let o = others (rest need (pickedVariable need)) (omega arith) (omega arith) (omega arith) in
+          let fewer = takes need (pickedVariable N allowed need) (p .below) (p .isAllowed) (p .is) in
+          let o = others (rest need (pickedVariable N allowed need)) (omega arith) (omega arith) (omega arith) in
           let rest-is = o .is in
-          record { chosen = (p .below, p .isAllowed, o .chosen); covers = o .covers; is = omega arith }
+          rw (variables-step N allowed more need some) (record { chosen = (p .below, p .isAllowed, o .chosen); covers = o .covers; is = omega arith })
 
-  pub best-right : (k need : ℕ) → need < N → cost N allowed k need < infinity → Right k need (best N allowed k need)
+  pub best-right : (k need : ℕ) → need < N → cost N allowed k need < infinity → Right N allowed k need (best N allowed k need)
   unfolding best
   best-right zero need h less = variables-right need need (omega arith) h less
   best-right (suc k) need h less =
@@ -251,31 +252,29 @@ module _ (N : ℕ) (allowed : ℕ → ℕ → Bool) (few : N ≤ 256) where
   compare x y xs ys h f = ⊎-elim (λ e. inr (e, f e)) (λ l. inl l) (eq-or-lt-of-le h)
 
   variables-lowest : (more : ℕ) (xs : List ℕ) (need : ℕ) → need ≤ more → need < N → cost N allowed 0 need < infinity → Chosen N allowed 0 xs → uncovered need xs ≡ 0 → weight xs ≡ cost N allowed 0 need → NotAbove (bestVariables N allowed more need) xs
-  unfolding bestVariables
-  variables-lowest zero xs need upTo h less c covers is = tt
-  variables-lowest (suc more) xs need upTo h less c covers is = go (eqb need 0) refl xs c covers is (variables-lowest more)
+  variables-lowest zero xs need upTo h less c covers is = rw (no-variables N allowed zero need (omega arith)) tt
+  variables-lowest (suc more) xs need upTo h less c covers is = go (eq-zero-or-pos need) xs c covers is (variables-lowest more)
     where
       go :
-          (b : Bool)
-          → eqb need 0 ≡ b
+          (need ≡ 0) ⊎ (0 < need)
           → (xs : List ℕ)
           → Chosen N allowed 0 xs
           → uncovered need xs ≡ 0
           → weight xs ≡ cost N allowed 0 need
           → ((xs : List ℕ) (need : ℕ) → need ≤ more → need < N → cost N allowed 0 need < infinity → Chosen N allowed 0 xs → uncovered need xs ≡ 0 → weight xs ≡ cost N allowed 0 need → NotAbove (bestVariables N allowed more need) xs)
-          → NotAbove (elim b [ true ↦ [] | false ↦ pickedVariable need ∷ bestVariables N allowed more (rest need (pickedVariable need)) ]) xs
-      go true e xs c covers is others = tt
-      go false e [] c covers is others = absurd (eqb-false need 0 e covers)
-      go false e (v ∷ xs) c covers is others =
-          let some : 0 < need = let ne = eqb-false need 0 e in ⊎-elim (λ z. absurd (ne z)) (λ l. l) (eq-zero-or-pos need) in
+          → NotAbove (bestVariables N allowed (suc more) need) xs
+      go (inl none) xs c covers is others = rw (no-variables N allowed (suc more) need none) tt
+      go (inr some) [] c covers is others = absurd (omega arith)
+      go (inr some) (v ∷ xs) c covers is others =
           let p = variable-picked need some h less in
           let below = rest-least need v in
           let least = fewest 0 xs (rest need v) (omega arith) (c .2) covers in
           let same = exact (cost N allowed 0 need) (members v) (cost N allowed 0 (rest need v)) (weight xs) (variable-of need v h (c .0) (c .1)) least is in
           let fewer = takes need v (c .0) (c .1) (same .0) in
           let first-is = same .0 in
-          compare (pickedVariable need) v (bestVariables N allowed more (rest need (pickedVariable need))) xs (p .lowest v (c .0) (c .1) (same .0))
-          (λ eq. rw eq (others xs (rest need v) (omega arith) (omega arith) (omega arith) (c .2) covers (same .1)))
+          rw (variables-step N allowed more need some)
+          (compare (pickedVariable N allowed need) v (bestVariables N allowed more (rest need (pickedVariable N allowed need))) xs (p .lowest v (c .0) (c .1) (same .0))
+          (λ eq. rw eq (others xs (rest need v) (omega arith) (omega arith) (omega arith) (c .2) covers (same .1))))
 
   pub best-lowest : (k : ℕ) (xs : List ℕ) (need : ℕ) → need < N → cost N allowed k need < infinity → Chosen N allowed k xs → uncovered need xs ≡ 0 → weight xs ≡ cost N allowed k need → NotAbove (best N allowed k need) xs
   unfolding best
@@ -300,54 +299,49 @@ module _ (N : ℕ) (allowed : ℕ → ℕ → Bool) (few : N ≤ 256) where
       → cost N allowed 0 need < infinity
       → w < N
       → typeVariable (allowed 0) w ≡ true
-      → members w + cost N allowed 0 (rest (rest need (pickedVariable need)) w) ≡ cost N allowed 0 (rest need (pickedVariable need))
-      → pickedVariable need < w
+      → members w + cost N allowed 0 (rest (rest need (pickedVariable N allowed need)) w) ≡ cost N allowed 0 (rest need (pickedVariable N allowed need))
+      → pickedVariable N allowed need < w
   later-above need w some h less l e is = go (eq-or-lt-of-le atMost)
     where
-      p : Picked N (typeVariable (allowed 0)) (cost N allowed 0) need (cost N allowed 0 need) (pickedVariable need)
+      p : Picked N (typeVariable (allowed 0)) (cost N allowed 0) need (cost N allowed 0 need) (pickedVariable N allowed need)
       p = variable-picked need some h less
 
-      swapped : rest (rest need w) (pickedVariable need) ≡ rest (rest need (pickedVariable need)) w
-      swapped = rest-swap need w (pickedVariable need) (omega arith)
+      swapped : rest (rest need w) (pickedVariable N allowed need) ≡ rest (rest need (pickedVariable N allowed need)) w
+      swapped = rest-swap need w (pickedVariable N allowed need) (omega arith)
 
       costs : members w + cost N allowed 0 (rest need w) ≡ cost N allowed 0 need
       costs =
           let below = rest-least need w in
           let here = variable-of need w h l e in
-          let there = variable-of (rest need w) (pickedVariable need) (omega arith) (p .below) (p .isAllowed) in
+          let there = variable-of (rest need w) (pickedVariable N allowed need) (omega arith) (p .below) (p .isAllowed) in
           let same = ap (cost N allowed 0) swapped in
           let first = p .is in
           omega arith
 
-      atMost : pickedVariable need ≤ w
+      atMost : pickedVariable N allowed need ≤ w
       atMost = p .lowest w l e costs
 
-      go : (pickedVariable need ≡ w) ⊎ (pickedVariable need < w) → pickedVariable need < w
+      go : (pickedVariable N allowed need ≡ w) ⊎ (pickedVariable N allowed need < w) → pickedVariable N allowed need < w
       go (inl eq) =
-          let fewer = takes (rest need (pickedVariable need)) w l e is in
-          let again = rest-again need (pickedVariable need) (omega arith) in
-          let same = ap (rest (rest need (pickedVariable need))) eq in
+          let fewer = takes (rest need (pickedVariable N allowed need)) w l e is in
+          let again = rest-again need (pickedVariable N allowed need) (omega arith) in
+          let same = ap (rest (rest need (pickedVariable N allowed need))) eq in
           absurd (omega arith)
       go (inr above) = above
 
-  -- each variable that costs no more than it must is above q
-  abbrev pub Firsts : ℕ → ℕ → Type 0
-  Firsts need q = (w : ℕ) → w < N → typeVariable (allowed 0) w ≡ true → members w + cost N allowed 0 (rest need w) ≡ cost N allowed 0 need → q < w
-
-  pub variables-rise : (more need q : ℕ) → need ≤ more → need < N → cost N allowed 0 need < infinity → Firsts need q → Rising q (bestVariables N allowed more need)
-  unfolding bestVariables
-  variables-rise zero need q upTo h less above = tt
-  variables-rise (suc more) need q upTo h less above = go (eqb need 0) refl (variables-rise more)
+  pub variables-rise : (more need q : ℕ) → need ≤ more → need < N → cost N allowed 0 need < infinity → Firsts N allowed need q → Rising q (bestVariables N allowed more need)
+  variables-rise zero need q upTo h less above = rw (no-variables N allowed zero need (omega arith)) tt
+  variables-rise (suc more) need q upTo h less above = go (eq-zero-or-pos need) (variables-rise more)
     where
       go :
-          (b : Bool)
-          → eqb need 0 ≡ b
-          → ((need q : ℕ) → need ≤ more → need < N → cost N allowed 0 need < infinity → Firsts need q → Rising q (bestVariables N allowed more need))
-          → Rising q (elim b [ true ↦ [] | false ↦ pickedVariable need ∷ bestVariables N allowed more (rest need (pickedVariable need)) ])
-      go true e others = tt
-      go false e others =
-          let some : 0 < need = let ne = eqb-false need 0 e in ⊎-elim (λ z. absurd (ne z)) (λ l. l) (eq-zero-or-pos need) in
+          (need ≡ 0) ⊎ (0 < need)
+          → ((need q : ℕ) → need ≤ more → need < N → cost N allowed 0 need < infinity → Firsts N allowed need q → Rising q (bestVariables N allowed more need))
+          → Rising q (bestVariables N allowed (suc more) need)
+      go (inl none) others = rw (no-variables N allowed (suc more) need none) tt
+      go (inr some) others =
           let p = variable-picked need some h less in
+          let v = pickedVariable N allowed need in
           let is = p .is in
-          let fewer = takes need (pickedVariable need) (p .below) (p .isAllowed) (p .is) in
-          (above (pickedVariable need) (p .below) (p .isAllowed) (p .is), others (rest need (pickedVariable need)) (pickedVariable need) (omega arith) (omega arith) (omega arith) (λ w l e c. later-above need w some h less l e c))
+          let fewer = takes need (pickedVariable N allowed need) (p .below) (p .isAllowed) (p .is) in
+          rw (variables-step N allowed more need some)
+          (above v (p .below) (p .isAllowed) (p .is), others (rest need v) v (omega arith) (omega arith) (omega arith) (λ w l e c. later-above need w some h less l e c))

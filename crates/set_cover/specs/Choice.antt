@@ -1,11 +1,11 @@
 -- Choices: a subset for each special attribute, then a list of variables; and the one that Verdict takes (FORMAT 7.26).
-use Prim.Native.Nat.{ℕ, zero, suc, _+_, _-_, _≤_, _<_}
+use Prim.Native.Nat.{ℕ, zero, suc, _+_, _-_, _<_}
 use mathlib.Core.Path.{_≡_, refl, sym, ap, _∙_}
 use mathlib.Core.Bool.{Bool, true, false}
 use mathlib.Core.List.{List, [], _∷_}
 use mathlib.Core.Logic.{_⊎_}
 use native.Mathlib.Omega.{arith}
-use borrow.Author.Tests.{ne-eqb}
+use borrow.Author.Tests.{eq-eqb, ne-eqb}
 use lib.Dec.{eqb}
 use lib.ListN.{length, getD}
 use Rattle.bits.specs.Lowest.{lowestFrom}
@@ -70,32 +70,32 @@ pub picked-lowest : (N : ℕ) (ok : ℕ → Bool) (next : ℕ → ℕ) (need tar
 unfolding picked
 picked-lowest N ok next need target = refl
 
--- the choice, step by step
+-- no variable where nothing is needed
+abbrev unlessNone : Bool → List ℕ → List ℕ
+unlessNone b xs = elim b [ true ↦ [] | false ↦ xs ]
+
 module _ (N : ℕ) (allowed : ℕ → ℕ → Bool) where
-  pub best-next :
-      (k need : ℕ)
-      → best N allowed (suc k) need
-      ≡ picked N (allowed (15 - k)) (cost N allowed k) need (cost N allowed (suc k) need)
-      ∷ best N allowed k (rest need (picked N (allowed (15 - k)) (cost N allowed k) need (cost N allowed (suc k) need)))
-  unfolding best
-  best-next k need = refl
+  -- the variable that is picked first
+  abbrev pub pickedVariable : ℕ → ℕ
+  pickedVariable need = picked N (typeVariable (allowed 0)) (cost N allowed 0) need (cost N allowed 0 need)
+
+  pub no-variables : (more need : ℕ) → need ≡ 0 → bestVariables N allowed more need ≡ []
+  unfolding bestVariables
+  no-variables zero need e = refl
+  no-variables (suc more) need e = ap (λ (b : Bool). unlessNone b (pickedVariable need ∷ bestVariables N allowed more (rest need (pickedVariable need)))) (eq-eqb need 0 e)
+
+  pub variables-step : (more need : ℕ) → 0 < need → bestVariables N allowed (suc more) need ≡ pickedVariable need ∷ bestVariables N allowed more (rest need (pickedVariable need))
+  unfolding bestVariables
+  variables-step more need some =
+      ap (λ (b : Bool). unlessNone b (pickedVariable need ∷ bestVariables N allowed more (rest need (pickedVariable need)))) (ne-eqb need 0 (λ z. omega arith))
 
   pub best-variables : (need : ℕ) → best N allowed 0 need ≡ bestVariables N allowed need need
   unfolding best
   best-variables need = refl
 
-  pub variables-next :
-      (more need : ℕ)
-      → 1 ≤ need
-      → bestVariables N allowed (suc more) need
-      ≡ picked N (typeVariable (allowed 0)) (cost N allowed 0) need (cost N allowed 0 need)
-      ∷ bestVariables N allowed more (rest need (picked N (typeVariable (allowed 0)) (cost N allowed 0) need (cost N allowed 0 need)))
-  unfolding bestVariables
-  variables-next more need some =
-      let v = picked N (typeVariable (allowed 0)) (cost N allowed 0) need (cost N allowed 0 need) in
-      ap (λ (t : Bool). elim t [ true ↦ [] | false ↦ v ∷ bestVariables N allowed more (rest need v) ]) (ne-eqb need 0 (λ e. omega arith))
-
-  pub variables-ended : (more : ℕ) → bestVariables N allowed more 0 ≡ []
-  unfolding bestVariables
-  variables-ended zero = refl
-  variables-ended (suc more) = refl
+  pub best-next :
+      (k need s : ℕ)
+      → picked N (allowed (15 - k)) (cost N allowed k) need (cost N allowed (suc k) need) ≡ s
+      → best N allowed (suc k) need ≡ s ∷ best N allowed k (rest need s)
+  unfolding best
+  best-next k need s e = ap (λ (x : ℕ). x ∷ best N allowed k (rest need x)) e

@@ -19,10 +19,6 @@ pub rest-and : (need s : ℕ) → rest need s ≡ bitAnd need (255 - s)
 unfolding rest
 rest-and need s = refl
 
-pub rest-is : (need s : ℕ) → rest need s ≡ bitAnd need (255 - s)
-unfolding rest
-rest-is need s = refl
-
 pub rest-least : (need s : ℕ) → rest need s ≤ need
 unfolding rest
 rest-least need s = and-le-l need (255 - s)

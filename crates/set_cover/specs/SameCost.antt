@@ -1,19 +1,21 @@
 -- Costs and choices look at the columns 0 to 15 alone, and at the subsets below N: where two formulas allow the same
 -- there, they have the same.
 use Prim.Native.Nat.{ℕ, zero, suc, _+_, _-_, _≤_, _<_}
-use mathlib.Core.Path.{_≡_, refl, ap, ap₂, _∙_}
-use mathlib.Core.Bool.{Bool, true, false, cond, _&&_}
+use mathlib.Core.Path.{_≡_, refl, sym, ap, ap₂, _∙_}
+use mathlib.Core.Bool.{Bool, cond, _&&_}
 use mathlib.Core.List.{List, [], _∷_, _++_}
+use mathlib.Core.Logic.{_⊎_, inl, inr}
+use native.Mathlib.Nat.{eq-zero-or-pos}
 use native.Mathlib.Omega.{arith}
 use lib.Dec.{eqb, ltb}
 use Rattle.bits.specs.Lowest.{lowest-same}
-use Rattle.bits.specs.Tab.{tab, length-tab, getD-tab, tab-is}
+use Rattle.bits.specs.Tab.{length-tab, getD-tab, tab-is}
 use Rattle.types.specs.Memberships.{members}
 use Rattle.states.specs.Formula.{typeVariable}
 use Rattle.set_cover.specs.Remainder.{rest}
-use Rattle.set_cover.specs.Least.{infinity, least, least-same}
+use Rattle.set_cover.specs.Least.{infinity, least-same}
 use Rattle.set_cover.specs.Cost.{price, entry, coverCost, coverTable, costTable, cost}
-use Rattle.set_cover.specs.Choice.{picked, bestVariables, best}
+use Rattle.set_cover.specs.Choice.{picked, bestVariables, best, pickedVariable, no-variables, variables-step}
 
 -- two tests that agree below N, and two costs of what is left that agree
 module _ (N : ℕ) (f g : ℕ → Bool) (same : (s : ℕ) → s < N → f s ≡ g s) where
@@ -39,10 +41,6 @@ module _ (N : ℕ) (f g : ℕ → Bool) (same : (s : ℕ) → s < N → f s ≡ 
   picked-same next later alike need target wanted e =
       lowest-same N 0 _ _ (λ s from upTo. ap₂ eqb (price-same next later alike need s (omega arith)) e)
 
--- the variable that is picked
-abbrev variableFor : ℕ → (ℕ → ℕ → Bool) → ℕ → ℕ
-variableFor N f need = picked N (typeVariable (f 0)) (cost N f 0) need (cost N f 0 need)
-
 module _ (N : ℕ) (f g : ℕ → ℕ → Bool) (same : (i : ℕ) → i < 16 → (s : ℕ) → s < N → f i s ≡ g i s) where
   variable-same : (s : ℕ) → s < N → typeVariable (f 0) s ≡ typeVariable (g 0) s
   variable-same s h = ap (λ (b : Bool). ltb 0 s && b) (same 0 (omega arith) s h)
@@ -60,24 +58,22 @@ module _ (N : ℕ) (f g : ℕ → ℕ → Bool) (same : (i : ℕ) → i < 16 →
   unfolding cost
   cost-same k need h = ap (λ (t : List ℕ). entry t need) (table-same k h)
 
+  variable-picked : (need : ℕ) → pickedVariable N f need ≡ pickedVariable N g need
+  variable-picked need =
+      picked-same N (typeVariable (f 0)) (typeVariable (g 0)) variable-same (cost N f 0) (cost N g 0) (λ x. cost-same 0 x (omega arith)) need _ _
+      (cost-same 0 need (omega arith))
+
   variables-same : (more need : ℕ) → bestVariables N f more need ≡ bestVariables N g more need
   unfolding bestVariables
   variables-same zero need = refl
-  variables-same (suc more) need = go (eqb need 0) first (variables-same more)
+  variables-same (suc more) need = go (eq-zero-or-pos need) (variables-same more)
     where
-      first : variableFor N f need ≡ variableFor N g need
-      first =
-          picked-same N (typeVariable (f 0)) (typeVariable (g 0)) variable-same (cost N f 0) (cost N g 0) (λ x. cost-same 0 x (omega arith)) need _ _
-          (cost-same 0 need (omega arith))
-
-      go :
-          (b : Bool)
-          → variableFor N f need ≡ variableFor N g need
-          → ((need : ℕ) → bestVariables N f more need ≡ bestVariables N g more need)
-          → _≡_ {A = List ℕ} (elim b [ true ↦ [] | false ↦ variableFor N f need ∷ bestVariables N f more (rest need (variableFor N f need)) ])
-          (elim b [ true ↦ [] | false ↦ variableFor N g need ∷ bestVariables N g more (rest need (variableFor N g need)) ])
-      go true e others = refl
-      go false e others = ap₂ _∷_ e (others (rest need (variableFor N f need)) ∙ ap (λ (x : ℕ). bestVariables N g more (rest need x)) e)
+      go : (need ≡ 0) ⊎ (0 < need) → ((need : ℕ) → bestVariables N f more need ≡ bestVariables N g more need) → bestVariables N f (suc more) need ≡ bestVariables N g (suc more) need
+      go (inl none) others = no-variables N f (suc more) need none ∙ sym (no-variables N g (suc more) need none)
+      go (inr some) others =
+          variables-step N f more need some
+          ∙ ap₂ _∷_ (variable-picked need) (others (rest need (pickedVariable N f need)) ∙ ap (λ (x : ℕ). bestVariables N g more (rest need x)) (variable-picked need))
+          ∙ sym (variables-step N g more need some)
 
   pub best-same : (k need : ℕ) → k ≤ 15 → best N f k need ≡ best N g k need
   unfolding best

@@ -15,8 +15,8 @@ use Rattle.states.specs.Formula.{typeVariable}
 use Rattle.set_cover.specs.Remainder.{rest, rest-least, rest-none, rest-swap, rest-fewer}
 use Rattle.set_cover.specs.Least.{infinity, least, least-most, least-of, least-over, least-same}
 use Rattle.set_cover.specs.Cost.{price, cost, lower, cost-zero, cost-cover, cost-next}
-use Rattle.set_cover.specs.Choice.{picked}
-use Rattle.set_cover.specs.Cheapest.{price-ok, special-of, variable-of, special-picked, variable-picked, pickedVariable, takes}
+use Rattle.set_cover.specs.Choice.{picked, pickedVariable}
+use Rattle.set_cover.specs.Cheapest.{price-ok, special-of, variable-of, special-picked, variable-picked, takes}
 
 -- what is at most infinity, and at most what s costs if it is allowed, is at most its price
 pub price-over : (ok : ℕ → Bool) (next : ℕ → ℕ) (need s x : ℕ) → x ≤ infinity → (ok s ≡ true → x ≤ members s + next (rest need s)) → x ≤ price ok next need s
@@ -149,7 +149,7 @@ module _ (N : ℕ) (allowed : ℕ → ℕ → Bool) (few : N ≤ 256) (grounded 
       go (inr l) (yes cannot) others = let m = covering-most j need in omega arith
       go (inr l) (no can) others =
           let p = variable-picked N allowed few need l h (omega arith) in
-          let v = pickedVariable N allowed few need in
+          let v = pickedVariable N allowed need in
           let fewer = takes N allowed few need v (p .below) (p .isAllowed) (p .is) in
           let less-members = rest-fewer need v (omega arith) fewer in
           let rests = others (rest need v) (omega arith) (omega arith) in

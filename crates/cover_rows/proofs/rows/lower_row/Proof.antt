@@ -1,7 +1,7 @@
-use Prim.Native.Nat.{_+_, _-_, _*_, _≤_}
+use Prim.Native.Nat.{_-_, _*_, _≤_}
 use mathlib.Core.Path.{_≡_, _∙_}
 use native.Mathlib.Omega.{arith}
-use lib.Bits.{bitAnd, and-le-l}
+use lib.Bits.{and-le-l}
 use lib.ListN.{length}
 use Rattle.bits.specs.Written.{Written, written-none}
 use Rattle.cover_rows.specs.Blocks.{loweredRow, block-more}
