@@ -3,8 +3,8 @@ use Prim.Native.Nat.{ℕ, zero, suc, _+_, _-_, _*_, _≤_, _<_}
 use mathlib.Core.Path.{_≡_, refl, sym, ap, ap₂, _∙_}
 use mathlib.Core.Bool.{Bool}
 use mathlib.Core.List.{List, [], _∷_}
-use mathlib.Core.Logic.{_⊎_, inl, inr}
-use native.Mathlib.Nat.{eq-or-lt-of-le, le-antisymm}
+use mathlib.Core.Logic.{_⊎_, inl, inr, ⊎-elim}
+use native.Mathlib.Nat.{eq-or-lt-of-le, eq-zero-or-pos}
 use native.Mathlib.Numerals.{add-one}
 use native.Mathlib.Omega.{arith}
 use lib.Bits.{bitAnd}
@@ -79,7 +79,10 @@ module _ (N : ℕ) (allowed : ℕ → ℕ → Bool) (few : N ≤ 256) (all : ℕ
         )
 
     -- one needs one: the variable that is picked
-    module _ (some : 1 ≤ need) where
+    module _ (other : need ≡ 0 → ⊥) where
+      some : 1 ≤ need
+      some = ⊎-elim (λ e. absurd (other e)) (λ h. h) (eq-zero-or-pos need)
+
       pub room : n < length items
       room =
           let size = c .size in

@@ -18,13 +18,7 @@ use stored_columns::read_column;
 
 // Writes the subset of each special attribute, the lowest that costs no more than it must, and gives the relations that
 // need an attribute yet.
-pub fn choose_specials(
-    work: &[u8],
-    node: u8,
-    count: u16,
-    table: &[u8],
-    subsets: &mut [u8],
-) -> u8
+pub fn choose_specials(work: &[u8], node: u8, count: u16, table: &[u8], subsets: &mut [u8]) -> u8
     requires { ⌜ (node * formulaSize + formulaSize ≤ length (now work)) × (now subsets ≡ replicate 16 0) ⌝ }
     requires { ⌜ (1 ≤ count) × (count ≤ 256) × TableHolds count (allowedAt (now work) node) 16 (now table) ⌝ }
     requires { ⌜ cost count (allowedAt (now work) node) 15 (count - 1) < infinity ⌝ }

@@ -124,8 +124,8 @@ module _ (file : List ℕ) (m n : ℕ) (accepted : acceptance file ≡ Accepted 
         out said =
             let found = attribute-said 0 said in (
               (λ i some most.
-              let column = unblocked-columns m few (expressionAt file k) legal i some most (found .0) in
-              (column .0, (column .1 .0, stored i (column .0) (omega arith) (column .1 .0) ∙ column .1 .1))),
+                  let column = unblocked-columns m few (expressionAt file k) legal i some most (found .0) in
+                  (column .0, (column .1 .0, stored i (column .0) (omega arith) (column .1 .0) ∙ column .1 .1))),
               verdict-untypable .0 (0, said),
             )
 

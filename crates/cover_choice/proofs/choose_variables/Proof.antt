@@ -1,97 +1,79 @@
+use Prim.Native.Nat.{ℕ, _+_, _-_, _*_, _≤_, _<_}
+use mathlib.Core.Path.{_≡_, refl, sym, ap, _∙_}
+use mathlib.Core.List.{List}
+use native.Mathlib.Omega.{arith}
+use native.Mathlib.Nat.{eq-zero-or-pos}
+use mathlib.Core.Logic.{⊎-elim}
+use lib.ListN.{length}
+use Rattle.column.specs.Column.{allowedIn}
+use Rattle.verdict_answer.specs.First.{allowedAt}
+use Rattle.cover_choice.specs.Variables.{Numbering, numbering-first, numbering-next, numbering-ended, room, variable-below}
 use borrow.Author.Needs.{needs}
-use Rattle.cover_choice.proofs.choose_variables.Statement.{statement}
-use Rattle.cover_choice.proofs.choose_variables.Tie as tie
-use Rattle.cover_choice.proofs.choose_variables.Reads as reads
-use Rattle.cover_choice.proofs.choose_variables.Lts as lts
-use Rattle.cover_rows.proofs.pick.Reads as pick-reads
-use Rattle.cover_table.proofs.read_row.Reads as read-row-reads
-use Rattle.stored_columns.proofs.read_column.Reads as read-column-reads
+use Rattle.cover_choice.proofs.choose_variables as fn
+use fn.Statement.{statement}
+use fn.Tie as tie
 
-abbrev Inv-loop : tie.InvT-loop
-Inv-loop work node count table all items₀ column next need₀ n₀ items need n = ?
+abbrev Inv : tie.InvT-loop
+Inv work node count table all items₀ column next need₀ n₀ items need n = Numbering count (allowedAt work node) all n items need
 
-abbrev μ-loop : tie.MeasureT-loop
-μ-loop work node count table all items₀ column next need₀ n₀ items need n = ?
+abbrev μ : tie.MeasureT-loop
+μ work node count table all items₀ column next need₀ n₀ items need n = all - n
 
-read-column-requires : tie.Need-read-column-requires Inv-loop μ-loop
-read-column-requires c κs = search needs
+-- another number than 0 is above it
+ne-zero : (n : ℕ) → (n ≡ 0 → ⊥) → 1 ≤ n
+ne-zero n other = ⊎-elim (λ e. absurd (other e)) (λ h. h) (eq-zero-or-pos n)
 
-read-row-requires : tie.Need-read-row-requires Inv-loop μ-loop
-read-row-requires c κs = search needs
+read-row-requires : tie.Need-read-row-requires Inv μ
+read-row-requires c κs = let size = c .before .before .before .before .pre .1 .0 .2 .size in omega arith
 
-loop-holds : tie.Need-loop-holds Inv-loop μ-loop
-loop-holds c = search needs
+loop-holds : tie.Need-loop-holds Inv μ
+loop-holds c = let pre = c .before .before .before .before .before .pre in numbering-first _ _ pre.1.0.1 _ _ pre.0.1 pre.1.0.0 pre.1.1
 
-cast-target : tie.Need-cast-target Inv-loop μ-loop
-cast-target c = search needs
+array-read-target : tie.Need-array-read-target Inv μ
+array-read-target c = let few = c .before .before .before .before .before .before .before .pre .1 .0 .1 in let below = c .before .loop .inv .below in omega arith
 
-array-read-target : tie.Need-array-read-target Inv-loop μ-loop
-array-read-target c = search needs
+pick-requires : tie.Need-pick-requires Inv μ
+pick-requires c κs = let below = c .before .before .before .before .before .before .before .before .before .pre .1 .0 .0 in (omega arith, c .before .before .before .before .before .before .before .before .before .pre .1 .0 .1, rw (c .before .before .before .before .read-row .ensures) (c .before .before .before .before .before .before .before .before .before .pre .1 .0 .2 .rows 0 (omega arith) .costs))
 
-pick-requires : tie.Need-pick-requires Inv-loop μ-loop
-pick-requires c κs = search needs
+cast-v : tie.Need-cast-v Inv μ
+cast-v c =
+    let pre = c .before .before .before .before .before .before .before .before .before .before .pre in
+    let loop = c .before .before .before .before .loop in
+    let few = pre.1.0.1 in
+    let holds = rw (sym (c .before .before .before .before .before .read-row .ensures)) at (pre.1.0.2 .rows 0 (omega arith) .holds) in
+    let small = variable-below _ _ few _ loop.n loop.items loop.need loop.inv (c .before .before .before .loop-test .taken) _ _ _ _ (λ s h. ap (λ (l : List _). allowedIn l s) (c .before .before .before .before .before .before .read-column .ensures))
+    holds (holds loop.need loop.inv.below) (c .pick .ensures) in
+    omega arith
 
-cast-v : tie.Need-cast-v Inv-loop μ-loop
-cast-v c = search needs
+slice-write-items : tie.Need-slice-write-items Inv μ
+slice-write-items c = room _ _ (c .before .before .before .before .before .before .before .before .before .before .pre .1 .0 .1) _ _ _ _ (c .before .before .before .before .loop .inv) (c .before .before .before .loop-test .taken)
 
-add-items : tie.Need-add-items Inv-loop μ-loop
-add-items c = search needs
+loop-less : tie.Need-loop-less Inv μ
+loop-less c =
+    let loop = c .before .before .before .before .loop in
+    let fuel = loop.inv.fuel in
+    let some = ne-zero loop.need (c .before .before .before .loop-test .taken) in
+    omega arith
 
-cast-items : tie.Need-cast-items Inv-loop μ-loop
-cast-items c = search needs
+loop-again : tie.Need-loop-again Inv μ
+loop-again c =
+    let pre = c .before .before .before .before .before .before .before .before .before .before .pre in
+    let loop = c .before .before .before .before .loop in
+    let few = pre.1.0.1 in
+    let holds = rw (sym (c .before .before .before .before .before .read-row .ensures)) at (pre.1.0.2 .rows 0 (omega arith) .holds) in
+    numbering-next _ _ few _ loop.n loop.items loop.need loop.inv (c .before .before .before .loop-test .taken) _ _ _ _ (λ s h. ap (λ (l : List _). allowedIn l s) (c .before .before .before .before .before .before .read-column .ensures))
+    holds (holds loop.need loop.inv.below) (c .pick .ensures) _ _ refl refl
 
-mul-items : tie.Need-mul-items Inv-loop μ-loop
-mul-items c = search needs
+same-length : tie.Need-same-length Inv μ
+same-length c = c .before .loop .inv .size ∙ sym (c .before .before .before .before .before .before .before .pre .0 .1)
 
-cast-items-2 : tie.Need-cast-items-2 Inv-loop μ-loop
-cast-items-2 c = search needs
-
-add-items-2 : tie.Need-add-items-2 Inv-loop μ-loop
-add-items-2 c = search needs
-
-mul-items-2 : tie.Need-mul-items-2 Inv-loop μ-loop
-mul-items-2 c = search needs
-
-slice-write-items : tie.Need-slice-write-items Inv-loop μ-loop
-slice-write-items c = search needs
-
-add-n : tie.Need-add-n Inv-loop μ-loop
-add-n c = search needs
-
-loop-less : tie.Need-loop-less Inv-loop μ-loop
-loop-less c = search needs
-
-loop-again : tie.Need-loop-again Inv-loop μ-loop
-loop-again c = search needs
-
-same-length : tie.Need-same-length Inv-loop μ-loop
-same-length c = search needs
-
-returns : tie.Need-returns Inv-loop μ-loop
-returns c = search needs
+returns : tie.Need-returns Inv μ
+returns c =
+    let ended = numbering-ended _ _ (c .before .before .before .before .before .before .before .pre .1 .0 .1) _ _ _ _ (c .before .loop .inv) (c .loop-test .left) in
+    ((ended.0, ended.1), ended.2)
 
 pub choose-variables-spec : {M : Type 1} → statement M
 choose-variables-spec =
-    tie.close
-    (tie.spec
-    Inv-loop
-    μ-loop
-    read-column-requires
-    read-row-requires
-    loop-holds
-    cast-target
-    array-read-target
-    pick-requires
-    cast-v
-    add-items
-    cast-items
-    mul-items
-    cast-items-2
-    add-items-2
-    mul-items-2
-    slice-write-items
-    add-n
-    loop-less
-    loop-again
-    same-length
-    returns)
+    tie.close (tie.spec Inv μ (λ c κs. search needs) read-row-requires loop-holds (λ c. search needs) array-read-target pick-requires
+    cast-v (λ c. search needs) (λ c. search needs) (λ c. search needs) (λ c. search needs) (λ c. search needs) (λ c. search needs)
+    slice-write-items (λ c. search needs) loop-less loop-again same-length returns)
