@@ -1,0 +1,2 @@
+mod HoldersResumed
+mod Tested
