@@ -37,5 +37,5 @@ module _ (items : List ℕ) (count : ℕ) where
     gathered-all last r small =
         let size = length-take-le count items enough in
         sym (or-false (bit s r))
-        ∙ ap (λ (l : List ℕ). bit s r || holdsSome r l) (sym (drop-of-length-le (take count items) (omega arith)))
+        ∙ ap (λ (l : List ℕ). bit s r || holdsSome r l) (sym (drop-of-length-le (take count items) {i = i} (omega arith)))
         ∙ h r small

@@ -1,2 +1,3 @@
 mod HoldersResumed
+mod RelationsTested
 mod Tested

@@ -33,8 +33,8 @@ module _ (m : ℕ) (bytes items : List ℕ) (x : SchemaReading) (is : x ≡ read
       × EntriesStand (Refused r) (filledReading m bytes .entries) items
   tested-refused r said = (
     ap (λ (j : Judgement). record { judgement = j; special = x .special; count = x .count }) (sym said)
-    ∙ is
-    ∙ ap readingOf (sym (refused-filled m bytes r (judged said))),
+        ∙ is
+        ∙ ap readingOf (sym (refused-filled m bytes r (judged said))),
     never r (filledReading m bytes .entries) items,
   )
 
@@ -63,7 +63,7 @@ module _ (m : ℕ) (bytes items : List ℕ) (x : SchemaReading) (is : x ≡ read
     unfolding refusedSchema readingOf
     tested-empty t fails t-is = (
       ap (λ (s : List ℕ). record { judgement = Refused EmptyRecord; special = s; count = 0 }) (sym maps-none)
-      ∙ ap readingOf (sym (read-empty m bytes (judged said) (sym test-is ∙ sym t-is ∙ fails))),
+          ∙ ap readingOf (sym (read-empty m bytes (judged said) (sym test-is ∙ sym t-is ∙ fails))),
       never EmptyRecord (filledReading m bytes .entries) items,
     )
 

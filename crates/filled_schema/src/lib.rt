@@ -56,7 +56,12 @@ pub fn is_filled(m: u8, special: &[u16], items: &[u32], count: usize) -> bool
 
 // The schema of m relations in these bytes (FORMAT 8.4): refusals 14 to 18, and 25. Its entries stand at the front of
 // `items`; what stands after them, and in the second slice, is free.
-pub fn read_filled_schema(bytes: &[u8], m: u8, items: &mut [u32], spare: &mut [u32]) -> SchemaReading
+pub fn read_filled_schema(
+    bytes: &[u8],
+    m: u8,
+    items: &mut [u32],
+    spare: &mut [u32],
+) -> SchemaReading
     requires { ⌜ m ≤ 8 ⌝ }
     requires { ⌜ RoomFor (length (now bytes)) (now items) × SpareFor (length (now bytes)) (now spare) ⌝ }
     ensures { λ s. ⌜ s ≡ readingOf (filledReading m (now (bytes .entry))) ⌝ }
