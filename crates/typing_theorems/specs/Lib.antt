@@ -2,4 +2,3 @@ pub mod TableTyped
 pub mod Theorems
 pub mod Agreement
 pub mod Answered
-pub mod Witness
