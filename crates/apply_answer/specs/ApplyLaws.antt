@@ -269,9 +269,9 @@ module _ (file : List ℕ) (m k : ℕ) (few : m ≤ 8) (legal : Legal m (express
           → (Applied size outSize ≡ tableApplied m (expressionAt file k) subsets (take count items))
           × ((image ≡ tableImage m (expressionAt file k) subsets (take count items) schema)
           × (written ≡ tableOutput m (expressionAt file k) subsets (take count items) out))
-      table-applied v filled v-is size outSize map listed image written size-is image-is map-found list-found out-size wrote =
+      table-applied v whole v-is size outSize map listed image written size-is image-is map-found list-found out-size wrote =
           let list-is = list-found ∙ list-stored m few (expressionAt file k) legal work k (filled .columns) (take count items) fit in
-          let gives = table-fits m (expressionAt file k) subsets (take count items) schema out fit special-fit (sym (image-found v v-is) ∙ filled) in (
+          let gives = table-fits m (expressionAt file k) subsets (take count items) schema out fit special-fit (sym (image-found v v-is) ∙ whole) in (
             ap₂ Applied (size-is ∙ ap (λ (x : List ℕ). length (schemaBytes (recordsOf m x (take count items)))) maps-are) (out-size ∙ ap (λ (l : List ℕ). recordSize (length l)) list-is) ∙ sym (gives .0),
             (
               image-is ∙ ap (λ (x : List ℕ). over (schemaBytes (recordsOf m x (take count items))) schema) maps-are ∙ sym (gives .1 .0),

@@ -44,8 +44,7 @@ module _ (file : List ℕ) (k : ℕ) (bytes : List ℕ) (space size outSize : �
       let lists = instantiation-read bytes (read .0) in
       let fit = applied-fits m (expressionAt file k) (instantiationReading bytes .subsets) (instantiationReading bytes .entries) s w (read .1) in
       let subsets = ap (λ (i : Instantiation). i .subsets) (lists .1 .is) in
-      let entries = read-entries bytes (instantiationReading bytes) (lists .0) (lists .1) in
-      (
+      let entries = read-entries bytes (instantiationReading bytes) (lists .0) (lists .1) in (
         lists .0,
         record {
           goes = goes;

@@ -47,11 +47,13 @@ pub fn apply_table(
     if !entries_allowed(work, node, items, count) {
         return Application::Refused(Refusal::TypeVariable);
     }
-    if !specials_allowed(work, node, subsets) {
+    let allowed = specials_allowed(work, node, subsets);
+    let special = maps_from(subsets);
+    let filled = is_filled(m, &special, items, count);
+    if !allowed {
         return Application::Refused(Refusal::SpecialSubset);
     }
-    let special = maps_from(subsets);
-    if !is_filled(m, &special, items, count) {
+    if !filled {
         return Application::Refused(Refusal::EmptyImage);
     }
     let size = write_schema(schema, m, &special, items, count, list);

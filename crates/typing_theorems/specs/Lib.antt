@@ -2,3 +2,4 @@ pub mod TableTyped
 pub mod Theorems
 pub mod Agreement
 pub mod Answered
+pub mod Witness
