@@ -25,11 +25,11 @@ unfolding refusedSchema
 refused-not r e = let z : _≡_ {A = ℕ} 0 1 = cc in omega arith
 
 module _ (m : ℕ) (bytes : List ℕ) where
-  -- the reading without 25, and its test
+  -- the reading without 25
   abbrev s : Schema
   s = schemaReading m bytes
 
-  -- the test of its table
+  -- whether its table leaves no relation empty
   abbrev pub readFilled : Bool
   readFilled = tableFilled m (schemaReading m bytes .special) (schemaReading m bytes .entries)
 
