@@ -108,7 +108,7 @@ fn apply_sized(
     apply_many(file, m, n, node, bytes, work, schema, out)
 }
 
-// Apply (FORMAT 7.10, 8.5): refusals 1 to 13, 14 to 17, 19, 18, 20, 21.
+// Apply (FORMAT 7.10, 8.5): refusals 1 to 13, 14 to 17, 19, 18, 20, 21, 26.
 pub fn apply(
     file: &[u8],
     node: usize,

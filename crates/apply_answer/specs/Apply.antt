@@ -6,7 +6,7 @@ use lib.ListN.{length}
 use Rattle.bits.specs.Tab.{over}
 use Rattle.refusal.specs.Chain.{refuse}
 use Rattle.refusal.specs.declared.Refusal.{Refusal}
-use Rattle.refusal.specs.declared.Refusal.the-variants.{TypeVariable, SpecialSubset}
+use Rattle.refusal.specs.declared.Refusal.the-variants.{TypeVariable, SpecialSubset, EmptyImage}
 use Rattle.admission.specs.Admission.{after, sliced, admitted}
 use Rattle.algebra.specs.Expression.{Expression}
 use Rattle.node_expression.specs.NodeExpression.{expressionAt}
@@ -14,6 +14,7 @@ use Rattle.stored_formula.specs.FormulaBytes.{formulasOf}
 use Rattle.type_record.specs.Record.{recordSize, recordBytes, outputSize}
 use Rattle.schema.specs.Schema.{schemaBytes, recordsOf, schemaSize}
 use Rattle.schema.specs.declared.reading.Judgement.{Judgement}
+use Rattle.filled_schema.specs.FilledSchema.{tableFilled}
 use Rattle.instantiation.specs.Instantiation.{Instantiation, instantiationReading}
 use Rattle.table_types.specs.Output.{outputMap, outputList}
 use Rattle.typing_answer.specs.Typing.{afterSchema}
@@ -24,9 +25,11 @@ use Rattle.apply_answer.specs.declared.Application.the-variants.{Applied
 
 -- ---- an instantiation's table at a node with expression e of a file with m relations
 
--- FORMAT 8.5: 20 for all entries, then 21, then what comes
+-- FORMAT 8.5: 20 for all entries, then 21, then 26, then what comes
 abbrev pub afterFit : {A : Type 0} → ℕ → Expression → List ℕ → List ℕ → (Refusal → A) → A → A
-afterFit m e subsets entries stop go = refuse stop (not (entriesFit m e entries)) TypeVariable (refuse stop (not (specialsFit m e subsets)) SpecialSubset go)
+afterFit m e subsets entries stop go =
+    refuse stop (not (entriesFit m e entries)) TypeVariable
+    (refuse stop (not (specialsFit m e subsets)) SpecialSubset (refuse stop (not (tableFilled m (mapsFrom subsets) entries)) EmptyImage go))
 
 -- FORMAT 6.4: the schema of the image
 abbrev pub imageBytes : ℕ → List ℕ → List ℕ → List ℕ
@@ -62,7 +65,7 @@ readImage m e i schema = afterSchema (i .judgement) (λ r. schema) (tableImage m
 unfoldable pub readOutput : ℕ → Expression → Instantiation → List ℕ → List ℕ
 readOutput m e i out = afterSchema (i .judgement) (λ r. out) (tableOutput m e (i .subsets) (i .entries) out)
 
--- FORMAT 8.6: the work space is filled once the input is read, with 20 and 21 too
+-- FORMAT 8.6: the work space is filled once the input is read, with 20, 21 and 26 too
 unfoldable pub readSpace : List ℕ → ℕ → ℕ → Judgement → List ℕ → List ℕ
 readSpace file m n judgement work = afterSchema judgement (λ r. work) (over (formulasOf file m n) work)
 

@@ -10,7 +10,7 @@ use Rattle.bits.specs.Tab.{over}
 use Rattle.bits.specs.Word.{Bytes}
 use Rattle.refusal.specs.Chain.{refuse, refuse-stops, refuse-passes}
 use Rattle.refusal.specs.declared.Refusal.{Refusal}
-use Rattle.refusal.specs.declared.Refusal.the-variants.{TypeVariable, SpecialSubset}
+use Rattle.refusal.specs.declared.Refusal.the-variants.{TypeVariable, SpecialSubset, EmptyImage}
 use Rattle.expression_file.specs.declared.files.Acceptance.{Acceptance}
 use Rattle.expression_file.specs.declared.files.Acceptance.the-variants.{Accepted, Refused as FileRefused}
 use Rattle.admission.specs.Admission.{after, sliced, admitted, formulaSize}
@@ -29,6 +29,7 @@ use Rattle.membership.specs.TableLaws.{items-stand}
 use Rattle.schema.specs.Schema.{schemaBytes, recordsOf, EntriesStand, WritesFrom, schemaSize}
 use Rattle.schema.specs.declared.reading.Judgement.{Judgement}
 use Rattle.schema.specs.declared.reading.Judgement.the-variants.{Read, Refused as ReadRefused}
+use Rattle.filled_schema.specs.FilledSchema.{tableFilled}
 use Rattle.instantiation.specs.Instantiation.{Instantiation, instantiationReading, readingOf}
 use Rattle.instantiation.specs.ReadLaws.{lists-read}
 use Rattle.instantiation.specs.EntriesLaws.{entries-below}
@@ -91,29 +92,58 @@ module _ (m : ℕ) (e : Expression) (subsets entries : List ℕ) where
       × ((tableImage m e subsets entries schema ≡ image)
       × (tableOutput m e subsets entries out ≡ written))
 
-  -- after each outcome of the two tests
-  fit-goes : {A : Type 0} (stop : Refusal → A) (go : A) → entriesFit m e entries ≡ true → specialsFit m e subsets ≡ true → afterFit m e subsets entries stop go ≡ go
-  fit-goes stop go fit special =
-      refuse-passes stop (not (entriesFit m e entries)) TypeVariable (refuse stop (not (specialsFit m e subsets)) SpecialSubset go) (ap not fit)
-      ∙ refuse-passes stop (not (specialsFit m e subsets)) SpecialSubset go (ap not special)
+  -- test 20
+  abbrev noVariable : Bool
+  noVariable = not (entriesFit m e entries)
 
-  fit-variable : {A : Type 0} (stop : Refusal → A) (go : A) → entriesFit m e entries ≡ false → afterFit m e subsets entries stop go ≡ stop TypeVariable
-  fit-variable stop go fails = refuse-stops stop (not (entriesFit m e entries)) TypeVariable (refuse stop (not (specialsFit m e subsets)) SpecialSubset go) (ap not fails)
+  -- test 21
+  abbrev notAllowed : Bool
+  notAllowed = not (specialsFit m e subsets)
 
-  fit-special : {A : Type 0} (stop : Refusal → A) (go : A) → entriesFit m e entries ≡ true → specialsFit m e subsets ≡ false → afterFit m e subsets entries stop go ≡ stop SpecialSubset
-  fit-special stop go fit fails =
-      refuse-passes stop (not (entriesFit m e entries)) TypeVariable (refuse stop (not (specialsFit m e subsets)) SpecialSubset go) (ap not fit)
-      ∙ refuse-stops stop (not (specialsFit m e subsets)) SpecialSubset go (ap not fails)
+  -- test 26
+  abbrev leftEmpty : Bool
+  leftEmpty = not (tableFilled m (mapsFrom subsets) entries)
 
-  -- both tests hold
+  -- after each outcome of the tests
+  module _ {A : Type 0} (stop : Refusal → A) (go : A) where
+    -- what follows 21
+    abbrev third : A
+    third = refuse stop leftEmpty EmptyImage go
+
+    -- what follows 20
+    abbrev second : A
+    second = refuse stop notAllowed SpecialSubset third
+
+    fit-variable : entriesFit m e entries ≡ false → afterFit m e subsets entries stop go ≡ stop TypeVariable
+    fit-variable fails = refuse-stops stop noVariable TypeVariable second (ap not fails)
+
+    module _ (fit : entriesFit m e entries ≡ true) where
+      fit-special : specialsFit m e subsets ≡ false → afterFit m e subsets entries stop go ≡ stop SpecialSubset
+      fit-special fails = refuse-passes stop noVariable TypeVariable second (ap not fit) ∙ refuse-stops stop notAllowed SpecialSubset third (ap not fails)
+
+      module _ (special : specialsFit m e subsets ≡ true) where
+        passed : afterFit m e subsets entries stop go ≡ third
+        passed = refuse-passes stop noVariable TypeVariable second (ap not fit) ∙ refuse-passes stop notAllowed SpecialSubset third (ap not special)
+
+        fit-empty : tableFilled m (mapsFrom subsets) entries ≡ false → afterFit m e subsets entries stop go ≡ stop EmptyImage
+        fit-empty fails = passed ∙ refuse-stops stop leftEmpty EmptyImage go (ap not fails)
+
+        fit-goes : tableFilled m (mapsFrom subsets) entries ≡ true → afterFit m e subsets entries stop go ≡ go
+        fit-goes filled = passed ∙ refuse-passes stop leftEmpty EmptyImage go (ap not filled)
+
+  -- the three tests hold
   pub table-fits :
       (schema out : List ℕ)
       → entriesFit m e entries ≡ true
       → specialsFit m e subsets ≡ true
+      → tableFilled m (mapsFrom subsets) entries ≡ true
       → TableGives schema out (Applied (length (imageBytes m subsets entries)) (recordSize (length (outputList e entries))))
       (over (imageBytes m subsets entries) schema) (over (outputBytes e subsets entries) out)
   unfolding tableApplied tableImage tableOutput
-  table-fits schema out fit special = (fit-goes Refused _ fit special, (fit-goes (λ r. schema) _ fit special, fit-goes (λ r. out) _ fit special))
+  table-fits schema out fit special filled = (
+    fit-goes Refused _ fit special filled,
+    (fit-goes (λ r. schema) _ fit special filled, fit-goes (λ r. out) _ fit special filled),
+  )
 
   -- the first fails
   pub entries-refused : (schema out : List ℕ) → entriesFit m e entries ≡ false → TableGives schema out (Refused TypeVariable) schema out
@@ -125,17 +155,38 @@ module _ (m : ℕ) (e : Expression) (subsets entries : List ℕ) where
   unfolding tableApplied tableImage tableOutput
   specials-refused schema out fit fails = (fit-special Refused _ fit fails, (fit-special (λ r. schema) _ fit fails, fit-special (λ r. out) _ fit fails))
 
-  -- and the other way: where it was applied, both hold
-  pub applied-fits : (size width : ℕ) → tableApplied m e subsets entries ≡ Applied size width → (entriesFit m e entries ≡ true) × (specialsFit m e subsets ≡ true)
-  applied-fits size width said = go (entriesFit m e entries) refl (specialsFit m e subsets) refl
+  -- both hold and the third fails
+  pub image-refused :
+      (schema out : List ℕ)
+      → entriesFit m e entries ≡ true
+      → specialsFit m e subsets ≡ true
+      → tableFilled m (mapsFrom subsets) entries ≡ false
+      → TableGives schema out (Refused EmptyImage) schema out
+  unfolding tableApplied tableImage tableOutput
+  image-refused schema out fit special fails = (
+    fit-empty Refused _ fit special fails,
+    (fit-empty (λ r. schema) _ fit special fails, fit-empty (λ r. out) _ fit special fails),
+  )
+
+  -- and the other way: where it was applied, all three hold
+  pub applied-fits : (size width : ℕ) → tableApplied m e subsets entries ≡ Applied size width → (entriesFit m e entries ≡ true) × (specialsFit m e subsets ≡ true) × (tableFilled m (mapsFrom subsets) entries ≡ true)
+  applied-fits size width said = go (entriesFit m e entries) refl (specialsFit m e subsets) refl (tableFilled m (mapsFrom subsets) entries) refl
     where
       never : (r : Refusal) → tableApplied m e subsets entries ≡ Refused r → ⊥
       never r refused = let both = sym refused ∙ said in let z : _≡_ {A = ℕ} 0 1 = cc in omega arith
 
-      go : (t : Bool) → entriesFit m e entries ≡ t → (u : Bool) → specialsFit m e subsets ≡ u → (entriesFit m e entries ≡ true) × (specialsFit m e subsets ≡ true)
-      go false fails u is = absurd (never TypeVariable (entries-refused entries entries fails .0))
-      go true fit false fails = absurd (never SpecialSubset (specials-refused entries entries fit fails .0))
-      go true fit true special = (fit, special)
+      go :
+          (t : Bool)
+          → entriesFit m e entries ≡ t
+          → (u : Bool)
+          → specialsFit m e subsets ≡ u
+          → (v : Bool)
+          → tableFilled m (mapsFrom subsets) entries ≡ v
+          → (entriesFit m e entries ≡ true) × (specialsFit m e subsets ≡ true) × (tableFilled m (mapsFrom subsets) entries ≡ true)
+      go false fails u u-is v v-is = absurd (never TypeVariable (entries-refused entries entries fails .0))
+      go true fit false fails v v-is = absurd (never SpecialSubset (specials-refused entries entries fit fails .0))
+      go true fit true special false fails = absurd (never EmptyImage (image-refused entries entries fit special fails .0))
+      go true fit true special true filled = (fit, special, filled)
 
 -- ---- over a table
 
@@ -172,7 +223,7 @@ module _ (file : List ℕ) (m k : ℕ) (few : m ≤ 8) (legal : Legal m (express
         let gives = specials-refused m (expressionAt file k) subsets (take count items) schema out (sym (entries-found t is) ∙ holds) (sym (specials-found u is′) ∙ fails) in
         (sym (gives .0), (sym (gives .1 .0), sym (gives .1 .1)))
 
-    -- both tests hold: the table types the node
+    -- both tests of the subsets hold: the table types the node
     module _ (t u : Bool) (holds : t ≡ true)
         (is : t ≡ allBelow count (λ i. typeVariable (allowedIn (columnAt work k 0)) (subsetOf (getD items i 0)))) (holds′ : u ≡ true)
         (is′ : u ≡ specialsAllowed work k subsets) (maps : List ℕ) (maps-are : maps ≡ mapsFrom subsets) where
@@ -189,8 +240,26 @@ module _ (file : List ℕ) (m k : ℕ) (few : m ≤ 8) (legal : Legal m (express
       pub output-even : (map : ℕ) → map ≡ storedMap work k subsets → map % 2 ≡ 0
       output-even map map-found = ap (λ (x : ℕ). x % 2) (map-found ∙ map-is) ∙ map-even m (expressionAt file k) legal (mapsFrom subsets) (maps-even subsets (table .none))
 
+      -- the test of the image, with the maps
+      image-found : (v : Bool) → v ≡ tableFilled m maps (take count items) → v ≡ tableFilled m (mapsFrom subsets) (take count items)
+      image-found v v-is = v-is ∙ ap (λ (x : List ℕ). tableFilled m x (take count items)) maps-are
+
+      pub empty-refused :
+          (v : Bool)
+          → v ≡ false
+          → v ≡ tableFilled m maps (take count items)
+          → (Refused EmptyImage ≡ tableApplied m (expressionAt file k) subsets (take count items))
+          × ((schema ≡ tableImage m (expressionAt file k) subsets (take count items) schema)
+          × (out ≡ tableOutput m (expressionAt file k) subsets (take count items) out))
+      empty-refused v fails v-is =
+          let gives = image-refused m (expressionAt file k) subsets (take count items) schema out fit special-fit (sym (image-found v v-is) ∙ fails) in
+          (sym (gives .0), (sym (gives .1 .0), sym (gives .1 .1)))
+
       pub table-applied :
-          (size outSize map : ℕ) (listed image written : List ℕ)
+          (v : Bool)
+          → v ≡ true
+          → v ≡ tableFilled m maps (take count items)
+          → (size outSize map : ℕ) (listed image written : List ℕ)
           → size ≡ length (schemaBytes (recordsOf m maps (take count items)))
           → image ≡ over (schemaBytes (recordsOf m maps (take count items))) schema
           → map ≡ storedMap work k subsets
@@ -200,9 +269,9 @@ module _ (file : List ℕ) (m k : ℕ) (few : m ≤ 8) (legal : Legal m (express
           → (Applied size outSize ≡ tableApplied m (expressionAt file k) subsets (take count items))
           × ((image ≡ tableImage m (expressionAt file k) subsets (take count items) schema)
           × (written ≡ tableOutput m (expressionAt file k) subsets (take count items) out))
-      table-applied size outSize map listed image written size-is image-is map-found list-found out-size wrote =
+      table-applied v whole v-is size outSize map listed image written size-is image-is map-found list-found out-size wrote =
           let list-is = list-found ∙ list-stored m few (expressionAt file k) legal work k (filled .columns) (take count items) fit in
-          let gives = table-fits m (expressionAt file k) subsets (take count items) schema out fit special-fit in (
+          let gives = table-fits m (expressionAt file k) subsets (take count items) schema out fit special-fit (sym (image-found v v-is) ∙ whole) in (
             ap₂ Applied (size-is ∙ ap (λ (x : List ℕ). length (schemaBytes (recordsOf m x (take count items)))) maps-are) (out-size ∙ ap (λ (l : List ℕ). recordSize (length l)) list-is) ∙ sym (gives .0),
             (
               image-is ∙ ap (λ (x : List ℕ). over (schemaBytes (recordsOf m x (take count items))) schema) maps-are ∙ sym (gives .1 .0),

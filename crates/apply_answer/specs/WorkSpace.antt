@@ -12,7 +12,7 @@ use Rattle.bits.specs.Tab.{over}
 use Rattle.refusal.specs.Chain.{refuse-has}
 use Rattle.refusal.specs.Number.{numberOf}
 use Rattle.refusal.specs.declared.Refusal.{Refusal}
-use Rattle.refusal.specs.declared.Refusal.the-variants.{TypeVariable, SpecialSubset}
+use Rattle.refusal.specs.declared.Refusal.the-variants.{TypeVariable, SpecialSubset, EmptyImage}
 use Rattle.expression_file.specs.declared.files.Acceptance.{Acceptance}
 use Rattle.expression_file.specs.declared.files.Acceptance.the-variants.{Accepted, Refused as FileRefused}
 use Rattle.admission.specs.Admission.{after, sliced, admitted}
@@ -35,9 +35,9 @@ use Rattle.type_record.specs.Record.{outputSize}
 
 -- ---- which answers come with a work space that is filled
 
--- FORMAT 8.6: the refusals with which the work space is filled, 20 and 21
+-- FORMAT 8.6: the refusals with which the work space is filled, 20, 21 and 26
 abbrev pub refusalFills : Refusal → Bool
-refusalFills r = eqb (numberOf r) 20 || eqb (numberOf r) 21
+refusalFills r = eqb (numberOf r) 20 || (eqb (numberOf r) 21 || eqb (numberOf r) 26)
 
 -- FORMAT 8.6: the answers of Apply with which it is filled
 abbrev pub applyFills : Application → Bool
@@ -46,7 +46,8 @@ applyFills (Refused r) = refusalFills r
 
 -- an earlier refusal does not
 early-leaves : (r : Refusal) → numberOf r ≤ 19 → refusalFills r ≡ false
-early-leaves r most = ap₂ _||_ (ne-eqb (numberOf r) 20 (λ e. omega arith)) (ne-eqb (numberOf r) 21 (λ e. omega arith))
+early-leaves r most =
+    ap₂ _||_ (ne-eqb (numberOf r) 20 (λ e. omega arith)) (ap₂ _||_ (ne-eqb (numberOf r) 21 (λ e. omega arith)) (ne-eqb (numberOf r) 26 (λ e. omega arith)))
 
 -- ---- it is filled
 
@@ -55,7 +56,8 @@ table-fills : (m : ℕ) (e : Expression) (subsets entries : List ℕ) → applyF
 unfolding tableApplied
 table-fills m e subsets entries =
     refuse-has (λ (a : Application). applyFills a ≡ true) Refused _ TypeVariable _ refl
-    (λ variables. refuse-has (λ (a : Application). applyFills a ≡ true) Refused _ SpecialSubset _ refl (λ specials. refl))
+    (λ variables. refuse-has (λ (a : Application). applyFills a ≡ true) Refused _ SpecialSubset _ refl
+    (λ specials. refuse-has (λ (a : Application). applyFills a ≡ true) Refused _ EmptyImage _ refl (λ filled. refl)))
 
 module _ (file : List ℕ) (k : ℕ) (bytes work : List ℕ) (size outSize : ℕ) where
   pub apply-space : applySpace file k bytes work size outSize ≡ cond (applyFills (applyAnswer file k bytes (length work) size outSize)) (formulaSpace file work) work

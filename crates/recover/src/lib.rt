@@ -6,7 +6,7 @@ ghost use Rattle.expression_file.specs.declared.files.Acceptance.the-variants.{
 ghost use Rattle.expression_file.specs.ReadFile.{acceptance};
 ghost use Rattle.node_expression.specs.NodeExpression.{expressionAt};
 ghost use Rattle.membership.specs.Entries.{RoomFor, SpareFor};
-ghost use Rattle.schema.specs.Schema.{schemaReading};
+ghost use Rattle.filled_schema.specs.FilledSchema.{filledReading};
 ghost use Rattle.apply_answer.specs.Apply.{readSpace};
 ghost use Rattle.recover_answer.specs.Recover.{readRecovered, readInstantiation, recoverAnswer, recoverSpace, recoverOut};
 ghost use Rattle.admission.specs.Admission.{formulaSize};
@@ -14,11 +14,11 @@ ghost use Rattle.instantiation.specs.Instantiation.{instantiationSize};
 use admission::admit;
 use admission::with_slice;
 use expression_file::Acceptance;
+use filled_schema::read_filled_schema;
 use filling::fill;
 use instantiation::INSTANTIATION_SIZE;
 use recover_answer::Recovery;
 use schema::Judgement;
-use schema::read_schema;
 use table_recovery::recover_table;
 
 // The schema in these bytes at a node of an accepted file, with two slices for its entries.
@@ -37,11 +37,11 @@ fn recover_bytes(
     requires { ⌜ (node < n) × (n * formulaSize ≤ length (now work)) ⌝ }
     requires { ⌜ RoomFor (length (now bytes)) (now items) × SpareFor (length (now bytes)) (now spare) ⌝ }
     requires { ⌜ instantiationSize ≤ length (now out) ⌝ }
-    ensures { λ r. ⌜ r ≡ readRecovered m (expressionAt (now (file .entry)) node) (schemaReading m (now (bytes .entry))) ⌝ }
-    ensures { λ _. ⌜ now (work .exit) ≡ readSpace (now (file .entry)) m n (schemaReading m (now (bytes .entry)) .judgement) (now (work .entry)) ⌝ }
-    ensures { λ _. ⌜ now (out .exit) ≡ readInstantiation m (expressionAt (now (file .entry)) node) (schemaReading m (now (bytes .entry))) (now (out .entry)) ⌝ }
+    ensures { λ r. ⌜ r ≡ readRecovered m (expressionAt (now (file .entry)) node) (filledReading m (now (bytes .entry))) ⌝ }
+    ensures { λ _. ⌜ now (work .exit) ≡ readSpace (now (file .entry)) m n (filledReading m (now (bytes .entry)) .judgement) (now (work .entry)) ⌝ }
+    ensures { λ _. ⌜ now (out .exit) ≡ readInstantiation m (expressionAt (now (file .entry)) node) (filledReading m (now (bytes .entry))) (now (out .entry)) ⌝ }
 {
-    let read = read_schema(bytes, m, items, spare);
+    let read = read_filled_schema(bytes, m, items, spare);
     let judgement = read.judgement;
     match judgement {
         Judgement::Refused(r) => Recovery::Refused(r),
@@ -67,9 +67,9 @@ fn recover_sized(
     requires { ⌜ acceptance (now file) ≡ Accepted m n ⌝ }
     requires { ⌜ (node < n) × (n * formulaSize ≤ length (now work)) ⌝ }
     requires { ⌜ instantiationSize ≤ length (now out) ⌝ }
-    ensures { λ r. ⌜ r ≡ readRecovered m (expressionAt (now (file .entry)) node) (schemaReading m (now (bytes .entry))) ⌝ }
-    ensures { λ _. ⌜ now (work .exit) ≡ readSpace (now (file .entry)) m n (schemaReading m (now (bytes .entry)) .judgement) (now (work .entry)) ⌝ }
-    ensures { λ _. ⌜ now (out .exit) ≡ readInstantiation m (expressionAt (now (file .entry)) node) (schemaReading m (now (bytes .entry))) (now (out .entry)) ⌝ }
+    ensures { λ r. ⌜ r ≡ readRecovered m (expressionAt (now (file .entry)) node) (filledReading m (now (bytes .entry))) ⌝ }
+    ensures { λ _. ⌜ now (work .exit) ≡ readSpace (now (file .entry)) m n (filledReading m (now (bytes .entry)) .judgement) (now (work .entry)) ⌝ }
+    ensures { λ _. ⌜ now (out .exit) ≡ readInstantiation m (expressionAt (now (file .entry)) node) (filledReading m (now (bytes .entry))) (now (out .entry)) ⌝ }
 {
     if bytes.len() <= 64 {
         let mut items = [0u32; 32];
@@ -86,7 +86,7 @@ fn recover_sized(
     recover_bytes(file, m, n, node, bytes, &mut items, &mut spare, work, out)
 }
 
-// Recover (FORMAT 7.11, 8.5): refusals 1 to 13, 14 to 18.
+// Recover (FORMAT 7.11, 8.5): refusals 1 to 13, 14 to 18, 25.
 pub fn recover(file: &[u8], node: usize, schema: &[u8], work: &mut [u8], out: &mut [u8]) -> Recovery
     ensures { λ r. ⌜ r ≡ recoverAnswer (now (file .entry)) node (now (schema .entry)) (length (now (work .entry))) (length (now (out .entry))) ⌝ }
     ensures { λ _. ⌜ now (work .exit) ≡ recoverSpace (now (file .entry)) node (now (schema .entry)) (now (work .entry)) (length (now (out .entry))) ⌝ }

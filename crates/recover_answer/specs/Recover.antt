@@ -7,7 +7,8 @@ use Rattle.bits.specs.Tab.{over}
 use Rattle.admission.specs.Admission.{after, sliced, admitted}
 use Rattle.algebra.specs.Expression.{Expression}
 use Rattle.node_expression.specs.NodeExpression.{expressionAt}
-use Rattle.schema.specs.Schema.{Schema, schemaReading}
+use Rattle.schema.specs.Schema.{Schema}
+use Rattle.filled_schema.specs.FilledSchema.{filledReading}
 use Rattle.instantiation.specs.Instantiation.{listsOf, instantiationBytes, instantiationSize}
 use Rattle.typing_answer.specs.Typing.{afterSchema}
 use Rattle.apply_answer.specs.Apply.{readSpace}
@@ -59,14 +60,14 @@ readInstantiation m e s out = afterSchema (s .judgement) (λ r. out) (tableInsta
 -- FORMAT 7.11: the answer, for a work space and an instantiation slice of so many bytes
 unfoldable pub recoverAnswer : List ℕ → ℕ → List ℕ → ℕ → ℕ → Recovery
 recoverAnswer file k bytes space size =
-    after (sliced (admitted file k space) size instantiationSize) Refused (λ m n. readRecovered m (expressionAt file k) (schemaReading m bytes))
+    after (sliced (admitted file k space) size instantiationSize) Refused (λ m n. readRecovered m (expressionAt file k) (filledReading m bytes))
 
 -- FORMAT 7.11, 8.6: the work space afterwards: after untyped it holds the formulas too
 unfoldable pub recoverSpace : List ℕ → ℕ → List ℕ → List ℕ → ℕ → List ℕ
 recoverSpace file k bytes work size =
-    after (sliced (admitted file k (length work)) size instantiationSize) (λ r. work) (λ m n. readSpace file m n (schemaReading m bytes .judgement) work)
+    after (sliced (admitted file k (length work)) size instantiationSize) (λ r. work) (λ m n. readSpace file m n (filledReading m bytes .judgement) work)
 
 -- FORMAT 7.11, 8.7: the instantiation slice afterwards
 unfoldable pub recoverOut : List ℕ → ℕ → List ℕ → ℕ → List ℕ → List ℕ
 recoverOut file k bytes space out =
-    after (sliced (admitted file k space) (length out) instantiationSize) (λ r. out) (λ m n. readInstantiation m (expressionAt file k) (schemaReading m bytes) out)
+    after (sliced (admitted file k space) (length out) instantiationSize) (λ r. out) (λ m n. readInstantiation m (expressionAt file k) (filledReading m bytes) out)

@@ -16,7 +16,8 @@ use Rattle.node_expression.specs.NodeExpression.{expressionAt}
 use Rattle.stored_formula.specs.ColumnPlace.{columnAt}
 use Rattle.stored_formula.specs.FormulaBytes.{formulasOf}
 use Rattle.membership.specs.Entries.{subsetOf}
-use Rattle.schema.specs.Schema.{Schema, schemaReading, WritesFrom as SchemaTable}
+use Rattle.schema.specs.Schema.{Schema, WritesFrom as SchemaTable}
+use Rattle.filled_schema.specs.FilledSchema.{filledReading}
 use Rattle.schema.specs.declared.reading.Judgement.the-variants.{Read, Refused as ReadRefused}
 use Rattle.special_maps.specs.Special.{subsetsFrom}
 use Rattle.instantiation.specs.Instantiation.{listsOf, instantiationBytes, WritesFrom, instantiationSize}
@@ -124,9 +125,9 @@ module _ (file : List ℕ) (k : ℕ) (bytes work out : List ℕ) where
       (m n : ℕ)
       → sliced (admitted file k (length work)) (length out) instantiationSize ≡ Accepted m n
       → (a : Recovery) (filled written : List ℕ)
-      → a ≡ readRecovered m (expressionAt file k) (schemaReading m bytes)
-      → filled ≡ readSpace file m n (schemaReading m bytes .judgement) work
-      → written ≡ readInstantiation m (expressionAt file k) (schemaReading m bytes) out
+      → a ≡ readRecovered m (expressionAt file k) (filledReading m bytes)
+      → filled ≡ readSpace file m n (filledReading m bytes .judgement) work
+      → written ≡ readInstantiation m (expressionAt file k) (filledReading m bytes) out
       → Answers a filled written
   unfolding recoverAnswer recoverSpace recoverOut
   recover-goes m n e a filled written answered space wrote = rw e (answered, (space, wrote))

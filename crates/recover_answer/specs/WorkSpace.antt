@@ -13,7 +13,7 @@ use Rattle.algebra.specs.Expression.{Expression}
 use Rattle.node_expression.specs.NodeExpression.{expressionAt}
 use Rattle.stored_formula.specs.Formula.{formulaSpace}
 use Rattle.stored_formula.specs.FormulaLaws.{admitted-space}
-use Rattle.schema.specs.Schema.{schemaReading}
+use Rattle.filled_schema.specs.FilledSchema.{filledReading}
 use Rattle.schema.specs.declared.reading.Judgement.{Judgement}
 use Rattle.schema.specs.declared.reading.Judgement.the-variants.{Read, Refused as ReadRefused}
 use Rattle.instantiation.specs.Instantiation.{instantiationSize}
@@ -52,22 +52,22 @@ module _ (file : List ℕ) (k : ℕ) (bytes work : List ℕ) (size : ℕ) where
           ≡ cond
           (recoverFills
           (afterSchema j RecoverRefused
-          (tableRecovered m (expressionAt file k) (schemaReading m bytes .special) (schemaReading m bytes .entries))))
+          (tableRecovered m (expressionAt file k) (filledReading m bytes .special) (filledReading m bytes .entries))))
           (formulaSpace file work) work
       read m n admits (ReadRefused r) = sym (space-stops file m n (ReadRefused r) work r refl)
       read m n admits Read =
           sym (space-goes file m n Read work refl) ∙ admitted-space file k work m n admits
-          ∙ sym (ap (λ (t : Bool). cond t (formulaSpace file work) work) (table-recovers m (expressionAt file k) (schemaReading m bytes .special) (schemaReading m bytes .entries)))
+          ∙ sym (ap (λ (t : Bool). cond t (formulaSpace file work) work) (table-recovers m (expressionAt file k) (filledReading m bytes .special) (filledReading m bytes .entries)))
 
       admission :
           (a : Acceptance)
           → sliced (admitted file k (length work)) size instantiationSize ≡ a
-          → after a (λ r. work) (λ m n. readSpace file m n (schemaReading m bytes .judgement) work)
+          → after a (λ r. work) (λ m n. readSpace file m n (filledReading m bytes .judgement) work)
           ≡ cond
           (recoverFills
           (after a RecoverRefused
-          (λ m n. afterSchema (schemaReading m bytes .judgement) RecoverRefused
-          (tableRecovered m (expressionAt file k) (schemaReading m bytes .special) (schemaReading m bytes .entries)))))
+          (λ m n. afterSchema (filledReading m bytes .judgement) RecoverRefused
+          (tableRecovered m (expressionAt file k) (filledReading m bytes .special) (filledReading m bytes .entries)))))
           (formulaSpace file work) work
       admission (FileRefused r) is = refl
-      admission (Accepted m n) is = read m n (sliced-passed (admitted file k (length work)) size instantiationSize is .0) (schemaReading m bytes .judgement)
+      admission (Accepted m n) is = read m n (sliced-passed (admitted file k (length work)) size instantiationSize is .0) (filledReading m bytes .judgement)

@@ -7,7 +7,7 @@ use lib.ListN.{getD}
 use Rattle.refusal.specs.declared.Refusal.{Refusal}
 use Rattle.refusal.specs.declared.Refusal.the-variants.{HeaderTruncated, RelationCount, NodeCount, NodeTruncated, NodeMap, OperatorCode, RelationNumber, Operand, Attribute, NodesFollowed}
 use Rattle.refusal.specs.declared.Refusal.the-variants.{NodeNumber, WorkSpace, ResultSlice, InputTruncated, CountZero, ListedAttribute, InputFollowed, TooManyAttributes, RepeatedAttribute}
-use Rattle.refusal.specs.declared.Refusal.the-variants.{TypeVariable, SpecialSubset, QuerySyntax, QueryLength, QueryNodes}
+use Rattle.refusal.specs.declared.Refusal.the-variants.{TypeVariable, SpecialSubset, QuerySyntax, QueryLength, QueryNodes, EmptyRecord, EmptyImage}
 
 -- FORMAT 8.1: the number of each name
 abbrev pub numberOf : Refusal → ℕ
@@ -35,13 +35,16 @@ numberOf SpecialSubset = 21
 numberOf QuerySyntax = 22
 numberOf QueryLength = 23
 numberOf QueryNodes = 24
+numberOf EmptyRecord = 25
+numberOf EmptyImage = 26
 
 -- the table's rows, first to last
 table : List Refusal
 table =
     HeaderTruncated ∷ RelationCount ∷ NodeCount ∷ NodeTruncated ∷ NodeMap ∷ OperatorCode ∷ RelationNumber ∷ Operand ∷ Attribute ∷
     NodesFollowed ∷ NodeNumber ∷ WorkSpace ∷ ResultSlice ∷ InputTruncated ∷ CountZero ∷ ListedAttribute ∷ InputFollowed ∷
-    TooManyAttributes ∷ RepeatedAttribute ∷ TypeVariable ∷ SpecialSubset ∷ QuerySyntax ∷ QueryLength ∷ QueryNodes ∷ []
+    TooManyAttributes ∷ RepeatedAttribute ∷ TypeVariable ∷ SpecialSubset ∷ QuerySyntax ∷ QueryLength ∷ QueryNodes ∷
+    EmptyRecord ∷ EmptyImage ∷ []
 
 -- the refusal with a number
 row : ℕ → Refusal
@@ -73,13 +76,15 @@ number-row SpecialSubset = refl
 number-row QuerySyntax = refl
 number-row QueryLength = refl
 number-row QueryNodes = refl
+number-row EmptyRecord = refl
+number-row EmptyImage = refl
 
 -- no two refusals have one number
 pub number-once : (a b : Refusal) → numberOf a ≡ numberOf b → a ≡ b
 number-once a b e = sym (number-row a) ∙ ap row e ∙ number-row b
 
--- they are 1 to 24
-number-range : (r : Refusal) → (1 ≤ numberOf r) × (numberOf r ≤ 24)
+-- they are 1 to 26
+number-range : (r : Refusal) → (1 ≤ numberOf r) × (numberOf r ≤ 26)
 number-range HeaderTruncated = (lit≤ tt, lit≤ tt)
 number-range RelationCount = (lit≤ tt, lit≤ tt)
 number-range NodeCount = (lit≤ tt, lit≤ tt)
@@ -104,10 +109,12 @@ number-range SpecialSubset = (lit≤ tt, lit≤ tt)
 number-range QuerySyntax = (lit≤ tt, lit≤ tt)
 number-range QueryLength = (lit≤ tt, lit≤ tt)
 number-range QueryNodes = (lit≤ tt, lit≤ tt)
+number-range EmptyRecord = (lit≤ tt, lit≤ tt)
+number-range EmptyImage = (lit≤ tt, lit≤ tt)
 
 -- 0 is no refusal's number
 pub number-positive : (r : Refusal) → 1 ≤ numberOf r
 number-positive r = number-range r .0
 
-pub number-most : (r : Refusal) → numberOf r ≤ 24
+pub number-most : (r : Refusal) → numberOf r ≤ 26
 number-most r = number-range r .1

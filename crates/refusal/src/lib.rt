@@ -51,6 +51,10 @@ pub enum Refusal {
     QueryLength,
     // a query has more than 64 nodes
     QueryNodes,
+    // a relation's record is empty
+    EmptyRecord,
+    // the image of an instantiation leaves a relation empty
+    EmptyImage,
 }
 
 impl Refusal {
@@ -83,6 +87,8 @@ impl Refusal {
             Refusal::QuerySyntax => 22,
             Refusal::QueryLength => 23,
             Refusal::QueryNodes => 24,
+            Refusal::EmptyRecord => 25,
+            Refusal::EmptyImage => 26,
         }
     }
 }

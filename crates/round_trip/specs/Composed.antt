@@ -53,7 +53,7 @@ roundTripOut a bytes recovered = cond (ltb (length recovered) instantiationSize)
 unfoldable pub roundTripSpace : List ℕ → ℕ → List ℕ → List ℕ → ℕ → ℕ → ℕ → List ℕ
 roundTripSpace file k bytes work size outSize recoveredSize = unlessShort recoveredSize work (applySpace file k bytes work size outSize)
 
--- FORMAT 8.6: which answers come with a work space that is filled: all but the refusals before 20
+-- FORMAT 8.6: which answers come with a work space that is filled: recovered, and the refusals 20, 21 and 26
 abbrev pub roundTripFills : Recovery → Bool
 roundTripFills (Recovered size) = true
 roundTripFills Untyped = false

@@ -1,6 +1,7 @@
 pub mod StandingFit
 pub mod Tables
 pub mod RoundTrip
+pub mod EmptyRelations
 pub mod Undoing
 pub mod Unrefused
 pub mod Link

@@ -12,7 +12,7 @@ use lib.ListN.{length, getD}
 use Rattle.bits.specs.AllBelow.{allBelow, in-all, all-in, not-all, all-fails}
 use Rattle.bits.specs.Booleans.{same-test, and-left, and-right}
 use Rattle.bits.specs.Word.{Bytes}
-use Rattle.refusal.specs.declared.Refusal.the-variants.{TypeVariable, SpecialSubset}
+use Rattle.refusal.specs.declared.Refusal.the-variants.{TypeVariable, SpecialSubset, EmptyImage}
 use Rattle.expression_file.specs.declared.files.Acceptance.the-variants.{Accepted}
 use Rattle.admission.specs.Admission.{sliced, admitted}
 use Rattle.algebra.specs.Expression.{Expression}
@@ -27,6 +27,8 @@ use Rattle.stored_formula.specs.StoredFormula.{formulaIn, stored-allowed}
 use Rattle.membership.specs.Entries.{subsetOf}
 use Rattle.schema.specs.Bounds.{Held, at-held}
 use Rattle.schema.specs.declared.reading.Judgement.the-variants.{Read}
+use Rattle.filled_schema.specs.FilledSchema.{tableFilled}
+use Rattle.special_maps.specs.Special.{mapsFrom}
 use Rattle.instantiation.specs.Instantiation.{Instantiation, standing, entriesIn, instantiationReading}
 use Rattle.instantiation.specs.ListZero.{list-zero}
 use Rattle.instantiation.specs.ReadLaws.{lists-read}
@@ -34,7 +36,7 @@ use Rattle.instantiation.specs.StandingBits.{zero-clear, standing-entry, entry-
 use Rattle.instantiation.specs.TableLaws.{ReadInstantiation, instantiation-read, read-entries}
 use Rattle.fitting.specs.Fit.{entriesFit, specialsFit, entry-fits, fit-entries}
 use Rattle.apply_answer.specs.Apply.{tableApplied, applyAnswer}
-use Rattle.apply_answer.specs.ApplyLaws.{table-fits, entries-refused, specials-refused, read-goes, apply-goes, apply-passed}
+use Rattle.apply_answer.specs.ApplyLaws.{table-fits, entries-refused, specials-refused, image-refused, read-goes, apply-goes, apply-passed}
 use Rattle.apply_answer.specs.declared.Application.{Application}
 use Rattle.apply_answer.specs.declared.Application.the-variants.{Refused}
 use Rattle.type_record.specs.Record.{outputSize}
@@ -127,24 +129,39 @@ module _ (file : List ℕ) (k : ℕ) (bytes work schema out : List ℕ) (m n : �
       sym (entries-standing m (expressionAt file k) bytes below (instantiationReading bytes) (found .0) (found .1))
       ∙ sym (ap (entriesFit m (expressionAt file k)) entries-are)
       ∙ go (entriesFit m (expressionAt file k) (instantiationReading bytes .entries)) refl (specialsFit m (expressionAt file k) (instantiationReading bytes .subsets)) refl
+      (tableFilled m (mapsFrom (instantiationReading bytes .subsets)) (instantiationReading bytes .entries)) refl
     where
       other : (a : Application) → tableApplied m (expressionAt file k) (instantiationReading bytes .subsets) (instantiationReading bytes .entries) ≡ a → a ≡ Refused TypeVariable
       other a is = sym is ∙ sym answer ∙ said
 
-      go : (t : Bool) → entriesFit m (expressionAt file k) (instantiationReading bytes .entries) ≡ t → (u : Bool) → specialsFit m (expressionAt file k) (instantiationReading bytes .subsets) ≡ u → t ≡ false
-      go false fails u is = refl
-      go true fit false fails =
+      go :
+          (t : Bool)
+          → entriesFit m (expressionAt file k) (instantiationReading bytes .entries) ≡ t
+          → (u : Bool)
+          → specialsFit m (expressionAt file k) (instantiationReading bytes .subsets) ≡ u
+          → (v : Bool)
+          → tableFilled m (mapsFrom (instantiationReading bytes .subsets)) (instantiationReading bytes .entries) ≡ v
+          → t ≡ false
+      go false fails u u-is v v-is = refl
+      go true fit false fails v v-is =
           absurd
           (let wrong = other (Refused SpecialSubset)
           (specials-refused m (expressionAt file k) (instantiationReading bytes .subsets) (instantiationReading bytes .entries)
           schema out fit fails .0)
           in
           let z : _≡_ {A = ℕ} 0 1 = cc in omega arith)
-      go true fit true special =
+      go true fit true special false fails =
+          absurd
+          (let wrong = other (Refused EmptyImage)
+          (image-refused m (expressionAt file k) (instantiationReading bytes .subsets) (instantiationReading bytes .entries)
+          schema out fit special fails .0)
+          in
+          let z : _≡_ {A = ℕ} 0 1 = cc in omega arith)
+      go true fit true special true filled =
           absurd
           (let wrong = other _
           (table-fits m (expressionAt file k) (instantiationReading bytes .subsets) (instantiationReading bytes .entries) schema
-          out fit special .0)
+          out fit special filled .0)
           in
           let z : _≡_ {A = ℕ} 0 1 = cc in omega arith)
 

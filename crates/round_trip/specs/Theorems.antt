@@ -7,6 +7,7 @@
 --   typingAnswer, typingOut               what Typing leaves, by its contract    (crate typing_answer, Typing)
 --   Typed                                 the typing rules                       (crate algebra, Rules)
 --   Recovers                              that Recover refuses nothing, and the records of the schema   (Undoing)
+--   Filled                                every relation has an attribute        (crate types, Types)
 --   readRecords, assignmentOf             a schema's records, and the assignment they mean   (crate schema, Schema)
 --   RecordOf                              the record of a type                   (crate typing_theorems, Theorems)
 --   Instantiation, HasImage, HasOutput    instantiations, image and output       (crate principal, Instantiation)
@@ -236,7 +237,7 @@ module _ (file : List ℕ) (k : ℕ) (schema work out : List ℕ) (below : Bytes
       × ((applyAnswer file k instantiationPart (length work′) (length schema′) (length out′) ≡ Applied (length schema) width)
       × (applySchema file k instantiationPart (length work′) schema′ (length out′) ≡ over schema schema′))
   recover-apply m n accepted work′ schema′ out′ space room slice =
-      let found = recovered-recovers file k schema work out size said in
+      let found = recovered-recovers file k schema work out below size said in
       let r = found .1 .1 .1 in
       let counts = sym (r .accepted) ∙ accepted in
       let nodes : found .1 .0 ≡ n = cc in
@@ -257,5 +258,5 @@ pub recover-typing :
     → (recoverAnswer file k schema (length work) (length out) ≡ Untyped) ↔ (typingAnswer file k schema (length out′) ≡ TypingUntyped)
 recover-typing file k schema work out below m n ts r out′ slice =
     let rules = recover-untyped file k schema work out m n ts below r in
-    let typing = typing-untyped file k schema out′ m n ts (record { accepted = r .accepted; node = r .node; slice = slice; bytes = below; read = r .read; few = r .few }) in
+    let typing = typing-untyped file k schema out′ m n ts (record { accepted = r .accepted; node = r .node; slice = slice; bytes = below; read = r .read; few = r .few; filled = r .filled }) in
     (λ said. typing .1 (rules .0 said), λ said. rules .1 (typing .0 said))

@@ -133,7 +133,7 @@ pub maps-none : mapsOf [] ≡ replicate 8 0
 unfolding mapsOf
 maps-none = tab-same 8 0
 
-all-at : (ts : List TypeRecord) → AllRecords ts → (r : ℕ) → r < length ts → IsRecord (getD ts r noRecord)
+pub all-at : (ts : List TypeRecord) → AllRecords ts → (r : ℕ) → r < length ts → IsRecord (getD ts r noRecord)
 all-at [] all r h = absurd (omega arith)
 all-at (t ∷ ts) all zero h = all .0
 all-at (t ∷ ts) all (suc r) h = all-at ts (all .1) r (omega arith)

@@ -1,4 +1,4 @@
-// The schema and the output record of a membership table that fits.
+// The schema and the output record of a membership table that fits and leaves no relation empty.
 ghost use mathlib.Core.Path.{_≡_};
 ghost use Prim.Native.Nat.{_≤_, _<_};
 ghost use lib.ListN.{length, take};
@@ -10,6 +10,7 @@ ghost use Rattle.apply_answer.specs.ApplyLaws.{ReadSubsets, Filled};
 ghost use Rattle.type_record.specs.Record.{outputSize};
 ghost use Rattle.schema.specs.Schema.{schemaSize};
 use apply_answer::Application;
+use filled_schema::is_filled;
 use fitting::entries_allowed;
 use fitting::list_output;
 use fitting::output_map;
@@ -46,10 +47,15 @@ pub fn apply_table(
     if !entries_allowed(work, node, items, count) {
         return Application::Refused(Refusal::TypeVariable);
     }
-    if !specials_allowed(work, node, subsets) {
+    let allowed = specials_allowed(work, node, subsets);
+    let special = maps_from(subsets);
+    let filled = is_filled(m, &special, items, count);
+    if !allowed {
         return Application::Refused(Refusal::SpecialSubset);
     }
-    let special = maps_from(subsets);
+    if !filled {
+        return Application::Refused(Refusal::EmptyImage);
+    }
     let size = write_schema(schema, m, &special, items, count, list);
     let map = output_map(work, node, subsets);
     let listed = list_output(work, node, items, count, list);

@@ -6,7 +6,7 @@ ghost use Rattle.typing_answer.specs.Numbers.{answerNumber, answerValue};
 use answer_numbers::write_answer;
 
 // Typing (FORMAT 7.9): 0 with the number of bytes written to the result slice, or 255 for untyped, or the number of the
-// first refusal of 1 to 11, 13 and 14 to 18; after untyped and after a refusal `value` is as it was.
+// first refusal of 1 to 11, 13, 14 to 18 and 25; after untyped and after a refusal `value` is as it was.
 #[no_mangle]
 pub extern "C" fn type_formula_typing(
     file: &[u8],

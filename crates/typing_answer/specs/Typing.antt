@@ -9,9 +9,10 @@ use Rattle.admission.specs.Admission.{after, asked, sliced}
 use Rattle.algebra.specs.Expression.{Expression}
 use Rattle.node_expression.specs.NodeExpression.{expressionAt}
 use Rattle.type_record.specs.Record.{recordSize, recordBytes, outputSize}
-use Rattle.schema.specs.Schema.{Schema, schemaReading}
+use Rattle.schema.specs.Schema.{Schema}
 use Rattle.schema.specs.declared.reading.Judgement.{Judgement}
 use Rattle.schema.specs.declared.reading.Judgement.the-variants.{Read, Refused as SchemaRefused}
+use Rattle.filled_schema.specs.FilledSchema.{filledReading}
 use Rattle.table_types.specs.Output.{typedIn, outputMap, outputList}
 use Rattle.typing_answer.specs.declared.Answer.{Answer}
 use Rattle.typing_answer.specs.declared.Answer.the-variants.{Typed, Untyped, Refused}
@@ -55,8 +56,8 @@ schemaOut e s out = afterSchema (s .judgement) (λ r. out) (tableOut e (s .speci
 
 -- FORMAT 7.9: the answer, for a result slice of so many bytes
 unfoldable pub typingAnswer : List ℕ → ℕ → List ℕ → ℕ → Answer
-typingAnswer file k schema size = after (sliced (asked file k) size outputSize) Refused (λ m n. schemaAnswer (expressionAt file k) (schemaReading m schema))
+typingAnswer file k schema size = after (sliced (asked file k) size outputSize) Refused (λ m n. schemaAnswer (expressionAt file k) (filledReading m schema))
 
 -- FORMAT 7.9, 8.7: the result slice afterwards
 unfoldable pub typingOut : List ℕ → ℕ → List ℕ → List ℕ → List ℕ
-typingOut file k schema out = after (sliced (asked file k) (length out) outputSize) (λ r. out) (λ m n. schemaOut (expressionAt file k) (schemaReading m schema) out)
+typingOut file k schema out = after (sliced (asked file k) (length out) outputSize) (λ r. out) (λ m n. schemaOut (expressionAt file k) (filledReading m schema) out)

@@ -18,10 +18,12 @@ use Rattle.admission.specs.Admission.{asked, sliced}
 use Rattle.algebra.specs.Expression.{Expression, Legal}
 use Rattle.node_expression.specs.NodeExpression.{expressionAt}
 use Rattle.type_record.specs.Record.{TypeRecord, recordSize, recordBytes, outputSize}
-use Rattle.schema.specs.Schema.{Schema, readRecords, entriesOf, mapsOf, schemaReading, readingOf, EntriesStand, WritesFrom}
-use Rattle.schema.specs.TableLaws.{schema-read, read-schema, read-entries, handed-on, read-table}
+use Rattle.schema.specs.Schema.{Schema, readRecords, entriesOf, mapsOf, readingOf, EntriesStand, WritesFrom}
+use Rattle.schema.specs.TableLaws.{read-entries, handed-on, read-table}
 use Rattle.schema.specs.declared.reading.Judgement.the-variants.{Read, Refused as SchemaRefused}
 use Rattle.schema.specs.declared.reading.SchemaReading.{SchemaReading}
+use Rattle.filled_schema.specs.FilledSchema.{tableFilled, filledReading}
+use Rattle.filled_schema.specs.FilledLaws.{filled-schema, schema-filled}
 use Rattle.type_sets.specs.Sets.{widthOf, TypeIn, wordsAt}
 use Rattle.type_sets.specs.FilledSets.{Filled}
 use Rattle.table_types.specs.Output.{typedIn, outputMap, outputList}
@@ -122,32 +124,32 @@ module _ (e : Expression) (s : Schema) (out : List ℕ) where
   schema-goes is t written answered wrote = rw is (answered, wrote)
 
 -- what is found in the bytes, by the reading that was handed on
-pub read-stopped : (m : ℕ) (bytes : List ℕ) (x : SchemaReading) (r : Refusal) → x ≡ readingOf (schemaReading m bytes) → x .judgement ≡ SchemaRefused r → schemaReading m bytes .judgement ≡ SchemaRefused r
-read-stopped m bytes x r is said = sym (handed-on (schemaReading m bytes) x is .judgement) ∙ said
+pub read-stopped : (m : ℕ) (bytes : List ℕ) (x : SchemaReading) (r : Refusal) → x ≡ readingOf (filledReading m bytes) → x .judgement ≡ SchemaRefused r → filledReading m bytes .judgement ≡ SchemaRefused r
+read-stopped m bytes x r is said = sym (handed-on (filledReading m bytes) x is .judgement) ∙ said
 
 -- a schema that was read has such a table
 pub record TableRead (m : ℕ) (bytes items : List ℕ) (x : SchemaReading) : Type 0 where
   pub table : WritesFrom (x .special) items (x .count)
-  pub special : x .special ≡ schemaReading m bytes .special
-  pub entries : take (x .count) items ≡ schemaReading m bytes .entries
-  pub judged : schemaReading m bytes .judgement ≡ Read
+  pub special : x .special ≡ filledReading m bytes .special
+  pub entries : take (x .count) items ≡ filledReading m bytes .entries
+  pub judged : filledReading m bytes .judgement ≡ Read
 
 pub schema-table :
     (m : ℕ) (bytes items : List ℕ) (x : SchemaReading)
     → m ≤ 8
     → Bytes bytes
-    → x ≡ readingOf (schemaReading m bytes)
-    → EntriesStand (x .judgement) (schemaReading m bytes .entries) items
+    → x ≡ readingOf (filledReading m bytes)
+    → EntriesStand (x .judgement) (filledReading m bytes .entries) items
     → x .judgement ≡ Read
     → TableRead m bytes items x
 schema-table m bytes items x most below is stands read =
-    let handed = handed-on (schemaReading m bytes) x is in
+    let handed = handed-on (filledReading m bytes) x is in
     let judged = sym (handed .judgement) ∙ read in
     let special = handed .special in
     let number = handed .count in
-    let found = schema-read m bytes judged in
+    let found = filled-schema m bytes judged in
     record {
-      table = rw (special, number) (read-table m bytes (schemaReading m bytes) (found .0) items most below (found .1) (stands read));
+      table = rw (special, number) (read-table m bytes (filledReading m bytes) (found .0) items most below (found .1 .0) (stands read));
       special = special;
       entries = rw number (stands read);
       judged = judged;
@@ -163,8 +165,8 @@ module _ (file : List ℕ) (k : ℕ) (schema out : List ℕ) where
   pub typing-goes :
       (m n : ℕ) (t : Answer) (written : List ℕ)
       → sliced (asked file k) (length out) outputSize ≡ Accepted m n
-      → t ≡ schemaAnswer (expressionAt file k) (schemaReading m schema)
-      → written ≡ schemaOut (expressionAt file k) (schemaReading m schema) out
+      → t ≡ schemaAnswer (expressionAt file k) (filledReading m schema)
+      → written ≡ schemaOut (expressionAt file k) (filledReading m schema) out
       → (t ≡ typingAnswer file k schema (length out)) × (written ≡ typingOut file k schema out)
   unfolding typingAnswer typingOut
   typing-goes m n t written e answered wrote = rw e (answered, wrote)
@@ -175,14 +177,15 @@ module _ (file : List ℕ) (k : ℕ) (schema out : List ℕ) where
       → sliced (asked file k) (length out) outputSize ≡ Accepted m n
       → readRecords m schema ≡ recordsRead ts
       → length (entriesOf ts) ≤ 255
+      → tableFilled m (mapsOf ts) (entriesOf ts) ≡ true
       → (typingAnswer file k schema (length out) ≡ tableAnswer (expressionAt file k) (mapsOf ts) (entriesOf ts))
       × (typingOut file k schema out ≡ tableOut (expressionAt file k) (mapsOf ts) (entriesOf ts) out)
-  typing-records m n ts e read few =
-      let made = read-schema m schema ts read few in
+  typing-records m n ts e read few filled =
+      let made = schema-filled m schema ts read few filled in
       let goes = typing-goes m n _ _ e refl refl in
-      let table = schema-goes (expressionAt file k) (schemaReading m schema) out (ap (λ (s : Schema). s .judgement) (made .is)) _ _ refl refl in
+      let table = schema-goes (expressionAt file k) (filledReading m schema) out (ap (λ (s : Schema). s .judgement) (made .is)) _ _ refl refl in
       let special = ap (λ (s : Schema). s .special) (made .is) in
-      let entries = read-entries m schema (schemaReading m schema) ts made in (
+      let entries = read-entries m schema (filledReading m schema) ts made in (
         sym (goes .0) ∙ sym (table .0) ∙ ap₂ (tableAnswer (expressionAt file k)) special entries,
         sym (goes .1) ∙ sym (table .1) ∙ ap₂ (λ (x y : List ℕ). tableOut (expressionAt file k) x y out) special entries,
       )

@@ -8,12 +8,15 @@ use Rattle.bits.specs.Word.{Bytes}
 use Rattle.refusal.specs.declared.Refusal.{Refusal}
 use Rattle.expression_file.specs.declared.files.Acceptance.{Acceptance}
 use Rattle.expression_file.specs.declared.files.Acceptance.the-variants.{Accepted, Refused as FileRefused}
+use Rattle.expression_file.specs.Accepted.{accepted-file}
 use Rattle.admission.specs.Admission.{asked, sliced}
 use Rattle.admission.specs.AdmissionLaws.{sliced-passed, asked-passed}
 use Rattle.node_expression.specs.NodeExpression.{expressionAt}
 use Rattle.type_record.specs.Record.{TypeRecord, outputSize}
-use Rattle.schema.specs.Schema.{schemaReading}
-use Rattle.schema.specs.TableLaws.{schema-read}
+use Rattle.schema.specs.RecordsLaws.{records-read}
+use Rattle.filled_schema.specs.FilledSchema.{filledReading}
+use Rattle.filled_schema.specs.FilledRecords.{table-filled}
+use Rattle.filled_schema.specs.FilledLaws.{filled-schema}
 use Rattle.schema.specs.declared.reading.Judgement.{Judgement}
 use Rattle.schema.specs.declared.reading.Judgement.the-variants.{Read, Refused as SchemaRefused}
 use Rattle.typing_answer.specs.Typing.{typingAnswer}
@@ -29,17 +32,35 @@ module _ (file : List ℕ) (k : ℕ) (schema out : List ℕ) (below : Bytes sche
   pub answered-unrefused : ((r : Refusal) → typingAnswer file k schema (length out) ≡ Refused r → ⊥) → Found
   answered-unrefused other = admission (sliced (asked file k) (length out) outputSize) refl
     where
-      read : (m n : ℕ) → sliced (asked file k) (length out) outputSize ≡ Accepted m n → (j : Judgement) → schemaReading m schema .judgement ≡ j → Found
-      read m n goes (SchemaRefused r) is = absurd (other r (sym (typing-goes file k schema out m n _ _ goes refl refl .0) ∙ sym (schema-stops (expressionAt file k) (schemaReading m schema) out r is .0)))
+      read : (m n : ℕ) → sliced (asked file k) (length out) outputSize ≡ Accepted m n → (j : Judgement) → filledReading m schema .judgement ≡ j → Found
+      read m n goes (SchemaRefused r) is = absurd (other r (sym (typing-goes file k schema out m n _ _ goes refl refl .0) ∙ sym (schema-stops (expressionAt file k) (filledReading m schema) out r is .0)))
       read m n goes Read is =
           let slice = sliced-passed (asked file k) (length out) outputSize goes in
           let node = asked-passed file k (slice .0) in
-          let records = schema-read m schema is in
-          (m, (n, (records .0, record { accepted = node .0; node = node .1; slice = slice .1; bytes = below; read = records .1 .read; few = records .1 .few })))
+          let found = filled-schema m schema is in
+          let records = records-read m schema (found .0) below (found .1 .0 .read) in
+          let few = accepted-file file m n (node .0) .counts .relations .1 in (
+            m,
+            (
+              n,
+              (
+                found .0,
+                record {
+                  accepted = node .0;
+                  node = node .1;
+                  slice = slice .1;
+                  bytes = below;
+                  read = found .1 .0 .read;
+                  few = found .1 .0 .few;
+                  filled = table-filled m few (found .0) (records .0) (records .1) .0 (found .1 .1);
+                },
+              ),
+            ),
+          )
 
       admission : (a : Acceptance) → sliced (asked file k) (length out) outputSize ≡ a → Found
       admission (FileRefused r) is = absurd (other r (sym (typing-stops file k schema out r is .0)))
-      admission (Accepted m n) is = read m n is (schemaReading m schema .judgement) refl
+      admission (Accepted m n) is = read m n is (filledReading m schema .judgement) refl
 
   -- typed was answered
   pub typed-unrefused : (size : ℕ) → typingAnswer file k schema (length out) ≡ Typed size → Found

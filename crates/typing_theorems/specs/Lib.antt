@@ -3,3 +3,4 @@ pub mod Theorems
 pub mod Agreement
 pub mod Answered
 pub mod Witness
+pub mod EmptyRecord

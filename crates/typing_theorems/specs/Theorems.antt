@@ -4,6 +4,7 @@
 --   Typed                 the typing rules                                  (crate algebra, Rules)
 --   expressionAt          the expression of a node                          (crate node_expression, NodeExpression)
 --   readRecords, assignmentOf   a schema's records, and the assignment that they mean   (crate schema, Schema)
+--   Filled                every relation has an attribute                   (crate types, Types)
 --   typeOf, recordBytes   the type of a record, and its bytes               (crate type_record, Record)
 --   typingAnswer, typingOut     what Typing leaves, by its contract         (crate typing_answer, Typing)
 use Prim.Native.Nat.{ℕ, _≤_, _<_}
@@ -15,7 +16,7 @@ use native.Mathlib.Omega.{arith}
 use lib.ListN.{length, take}
 use Rattle.bits.specs.Tab.{over, take-over}
 use Rattle.bits.specs.Word.{Bytes}
-use Rattle.types.specs.Types.{Attrs}
+use Rattle.types.specs.Types.{Attrs, Filled}
 use Rattle.algebra.specs.Expression.{Legal}
 use Rattle.algebra.specs.Rules.{Typed}
 use Rattle.expression_file.specs.declared.files.Acceptance.the-variants.{Accepted}
@@ -30,6 +31,7 @@ use Rattle.type_record.specs.RecordRoundTrip.{bytes-once}
 use Rattle.type_record.specs.RecordTypes.{type-once}
 use Rattle.schema.specs.Schema.{readRecords, assignmentOf, entriesOf, mapsOf}
 use Rattle.schema.specs.RecordsLaws.{AllRecords, records-read}
+use Rattle.filled_schema.specs.FilledRecords.{table-filled}
 use Rattle.table_types.specs.Output.{typedIn, outputMap, outputList}
 use Rattle.table_types.specs.OutputRecord.{outputRecord, output-parts}
 use Rattle.typing_theorems.specs.TableTyped.{table-rules, rules-table, rules-output, output-record}
@@ -57,8 +59,8 @@ type-one t u bytes r q =
     let same = bytes-once (r .record-is) (q .record-is) (r .is) (q .is) (sym (r .bytes-are) ∙ q .bytes-are) in
     fun-ext (λ a. sym (r .means a) ∙ ap (λ (x : TypeRecord). typeOf x a) same ∙ q .means a)
 
--- nothing is refused: node k of an accepted file with m relations, a schema with these records, and a
--- result slice of so many bytes
+-- nothing is refused: node k of an accepted file with m relations, a schema with these records, none of them empty, and
+-- a result slice of so many bytes
 pub record Unrefused (file : List ℕ) (k : ℕ) (schema : List ℕ) (size m n : ℕ) (records : List TypeRecord) : Type 0 where
   pub accepted : acceptance file ≡ Accepted m n
   pub node : k < n
@@ -66,6 +68,7 @@ pub record Unrefused (file : List ℕ) (k : ℕ) (schema : List ℕ) (size m n :
   pub bytes : Bytes schema
   pub read : readRecords m schema ≡ recordsRead records
   pub few : length (entriesOf records) ≤ 255
+  pub filled : Filled m (assignmentOf records)
 
 module _ (file : List ℕ) (k : ℕ) (schema out : List ℕ) (m n : ℕ) (ts : List TypeRecord) (un : Unrefused file k schema (length out) m n ts) where
   -- ---- Typing in the table of the records
@@ -80,7 +83,7 @@ module _ (file : List ℕ) (k : ℕ) (schema out : List ℕ) (m n : ℕ) (ts : L
   read = records-read m schema ts (un .bytes) (un .read)
 
   results : (typingAnswer file k schema (length out) ≡ tableAnswer (expressionAt file k) (mapsOf ts) (entriesOf ts)) × (typingOut file k schema out ≡ tableOut (expressionAt file k) (mapsOf ts) (entriesOf ts) out)
-  results = typing-records file k schema out m n ts (sliced-passes (asked file k) (length out) outputSize (asked-passes file k (un .accepted) (un .node)) (un .slice)) (un .read) (un .few)
+  results = typing-records file k schema out m n ts (sliced-passes (asked file k) (length out) outputSize (asked-passes file k (un .accepted) (un .node)) (un .slice)) (un .read) (un .few) (table-filled m few ts (read .0) (read .1) .1 (un .filled))
 
   -- the output record of the schema's table
   abbrev outputOf : TypeRecord

@@ -1,0 +1,3 @@
+mod HoldersResumed
+mod RelationsTested
+mod Tested

@@ -1,0 +1,3 @@
+pub mod FilledSchema
+pub mod FilledRecords
+pub mod FilledLaws
