@@ -1,5 +1,5 @@
 -- The table of costs in memory: sixteen rows of 256 bytes, row k for variables and the last k special attributes.
-use Prim.Native.Nat.{ℕ, zero, suc, _+_, _-_, _*_, _≤_, _<_}
+use Prim.Native.Nat.{ℕ, zero, suc, _+_, _-_, _*_, _^_, _≤_, _<_}
 use mathlib.Core.Path.{_≡_, refl, sym, ap, _∙_}
 use mathlib.Core.Bool.{Bool, true, false, cond}
 use mathlib.Core.List.{List}
@@ -9,6 +9,7 @@ use native.Mathlib.Numerals.{add-one}
 use native.Mathlib.Omega.{arith}
 use lib.Arith.{digits-lt}
 use lib.ListN.{length, getD, set, replicate, length-set, length-replicate}
+use lib.Pow.{pow-mono, pow-pos, ones-lt}
 use lib.Seq.{paste, length-paste}
 use Rattle.planes.specs.Storage.{columnAt, column-byte, column-is, column-size, paste-inside, paste-outside}
 use Rattle.column.specs.Column.{allowedIn}
@@ -17,6 +18,7 @@ use Rattle.set_cover.specs.Cost.{cost}
 use Rattle.set_cover.specs.Shortcuts.{covering, covering-is, covering-settled, skip-cost}
 use Rattle.cover_rows.specs.Rows.{Costs, costRow, row-length, row-costs}
 use Rattle.cover_rows.specs.Holding.{Holds, Allows, rows-hold, startRow, start-costs, covering-start, covering-row}
+use Rattle.verdict_answer.specs.Witness.{costIn}
 use Rattle.cover_table.specs.Alike.{alike, alike-at, alike-allowed}
 
 -- row k of the table
@@ -69,6 +71,20 @@ module _ (N : ℕ) (allowed : ℕ → ℕ → Bool) where
   -- what a row says, byte by byte
   pub table-byte : (c k need : ℕ) (table : List ℕ) → TableHolds N allowed c table → k < c → need < N → N ≤ 256 → getD table (k * 256 + need) 0 ≡ cost N allowed k need
   table-byte c k need table t h below few = sym (column-byte 256 table k need (omega arith)) ∙ t .rows k h .holds need below
+
+-- the last row says what it costs to fill all m relations
+pub whole-cost :
+    (m count : ℕ) (allowed : ℕ → ℕ → Bool)
+    → m ≤ 8
+    → count ≡ 2 ^ m
+    → (table : List ℕ)
+    → TableHolds count allowed 16 table
+    → (getD table (15 * 256 + count - 1) 0 ≡ costIn m allowed) × TableHolds (2 ^ m) allowed 16 table
+whole-cost m count allowed few is table t =
+    let some = pow-pos m in
+    let place : 15 * 256 + count - 1 ≡ 15 * 256 + (2 ^ m - 1) = omega arith in
+    let same : TableHolds (2 ^ m) allowed 16 table = rw is at t in
+    (ap (λ (i : ℕ). getD table i 0) place ∙ table-byte (2 ^ m) allowed 16 15 (2 ^ m - 1) table same (omega arith) (ones-lt m) (pow-mono {j = 8} few), same)
 
 -- ---- the row of the variables
 

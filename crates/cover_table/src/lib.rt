@@ -4,4 +4,4 @@ mod storage;
 mod table;
 
 pub use storage::read_row;
-pub use table::fill_table;
+pub use table::fill_costs;

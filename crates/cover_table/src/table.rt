@@ -1,12 +1,14 @@
 // The rows of the table of costs, one from the other.
 ghost use mathlib.Core.Path.{_≡_};
 ghost use mathlib.Core.Bool.{true, cond};
-ghost use Prim.Native.Nat.{_+_, _*_, _≤_};
+ghost use Prim.Native.Nat.{_+_, _*_, _^_, _≤_};
 ghost use lib.ListN.{length};
 ghost use Rattle.column.specs.Column.{allowedIn};
 ghost use Rattle.set_cover.specs.Shortcuts.{covering};
 ghost use Rattle.cover_rows.specs.Rows.{Costs, costRow};
 ghost use Rattle.verdict_answer.specs.First.{allowedAt};
+ghost use Rattle.verdict_answer.specs.Formed.{Formed};
+ghost use Rattle.verdict_answer.specs.Witness.{costIn};
 ghost use Rattle.cover_table.specs.Alike.{alike};
 ghost use Rattle.cover_table.specs.Table.{IsRow, TableHolds};
 ghost use Rattle.admission.specs.Admission.{formulaSize};
@@ -46,7 +48,7 @@ fn next_row(first: [u8; 64], column: [u8; 64], row: [u8; 256], blocks: u8, count
 }
 
 // The table of a node whose formula stands in the work space, for so many subsets and blocks of sixteen of them.
-pub fn fill_table(work: &[u8], node: u8, blocks: u8, count: u16, table: &mut [u8])
+fn fill_table(work: &[u8], node: u8, blocks: u8, count: u16, table: &mut [u8])
     requires { ⌜ (node * formulaSize + formulaSize ≤ length (now work)) × (length (now table) ≡ 4096) ⌝ }
     requires { ⌜ (blocks ≤ 16) × (count ≤ blocks * 16) × (allowedAt (now work) node 0 0 ≡ true) ⌝ }
     ensures { λ _. ⌜ TableHolds count (allowedAt (now (work .entry)) node) 16 (now (table .exit)) ⌝ }
@@ -62,4 +64,24 @@ pub fn fill_table(work: &[u8], node: u8, blocks: u8, count: u16, table: &mut [u8
         k += 1;
         write_row(table, k, row);
     }
+}
+
+// How many subsets m relations have.
+fn subset_count(m: u8) -> u16
+    requires { ⌜ m ≤ 8 ⌝ }
+    ensures { λ r. ⌜ r ≡ 2 ^ m ⌝ }
+{
+    1 << m
+}
+
+// The same for m relations. Gives what it costs to fill them all.
+pub fn fill_costs(work: &[u8], node: u8, m: u8, table: &mut [u8]) -> u8
+    requires { ⌜ (node * formulaSize + formulaSize ≤ length (now work)) × (length (now table) ≡ 4096) ⌝ }
+    requires { ⌜ (m ≤ 8) × Formed m (allowedAt (now work) node) ⌝ }
+    ensures { λ r. ⌜ r ≡ costIn m (allowedAt (now (work .entry)) node) ⌝ }
+    ensures { λ _. ⌜ TableHolds (2 ^ m) (allowedAt (now (work .entry)) node) 16 (now (table .exit)) ⌝ }
+{
+    let count = subset_count(m);
+    fill_table(work, node, ((count + 15) / 16) as u8, count, table);
+    table[15 * 256 + count as usize - 1]
 }

@@ -39,10 +39,13 @@ use Rattle.membership.specs.EnterLaws.{holders-below as holders-before}
 use Rattle.membership.specs.HolderLaws.{held-member}
 use Rattle.special_maps.specs.Special.{mapsFrom}
 use Rattle.special_maps.specs.SpecialLaws.{map-bit}
-use Rattle.schema.specs.Schema.{readRecords, noRecord, assignmentOf, schemaReading}
+use Rattle.schema.specs.Schema.{readRecords, assignmentOf, schemaBytes}
 use Rattle.schema.specs.RecordsLaws.{schema-bytes}
 use Rattle.schema.specs.TableLaws.{ReadSchema}
 use Rattle.schema.specs.Image.{image-size, image-at, image-records, image-schema}
+use Rattle.filled_schema.specs.FilledSchema.{filledReading}
+use Rattle.filled_schema.specs.FilledRecords.{table-filled}
+use Rattle.filled_schema.specs.FilledLaws.{schema-filled}
 use Rattle.refusal.specs.Several.{severalRead as recordsRead}
 use Rattle.set_cover.specs.Least.{infinity}
 use Rattle.set_cover.specs.Cheapest.{best-right}
@@ -63,7 +66,7 @@ use Rattle.verdict_answer.specs.VerdictLaws.{untypable-blocked, untypable-unfil
 pub record Witness (m : ℕ) (e : Expression) (bytes : List ℕ) : Type 0 where
   pub below : Bytes bytes
   pub records : List TypeRecord
-  pub reading : ReadSchema m bytes (schemaReading m bytes) records
+  pub reading : ReadSchema m bytes (filledReading m bytes) records
   pub filled : Filled m (assignmentOf records)
   pub type : Attrs
   pub isType : IsType type
@@ -283,11 +286,15 @@ module _ (m : ℕ) (few : m ≤ 8) (e : Expression) (legal : Legal m e) where
     pub witness-typed : Witness m e (witnessBytes m (choiceIn m (allowedBit m e)))
     witness-typed =
         let table = choice-table m few choice is-choice in
+        let image = image-schema m few (mapsFrom (specialsOf choice)) (ordinariesOf choice) table in
         rw (witness-bytes m choice)
         (record {
           below = schema-bytes records (image-records m few (mapsFrom (specialsOf choice)) (ordinariesOf choice) table);
           records = records;
-          reading = image-schema m few (mapsFrom (specialsOf choice)) (ordinariesOf choice) table;
+          reading =
+              schema-filled m (schemaBytes records) records (image .read) (image .few)
+              (table-filled m few records (image-size m few (mapsFrom (specialsOf choice)) (ordinariesOf choice) table) (image-records m few (mapsFrom (specialsOf choice)) (ordinariesOf choice) table)
+              .1 witness-filled);
           filled = witness-filled;
           type = witnessType;
           isType = witness-type;
