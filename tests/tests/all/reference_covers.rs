@@ -89,12 +89,13 @@ impl Counts {
         }
     }
 
-    /// Prints the counts and asserts that each is at least a part of all.
-    fn assert_each(&self, name: &str, part: u64) {
-        let Counts { none, one, several } = self;
+    /// Prints the counts and asserts that several covers are at least a tenth of all, and that the
+    /// others are at least so many.
+    fn assert_each(&self, name: &str, least: u64) {
+        let Counts { none, one, several } = *self;
         println!("{name}: {none} without, {one} with one, {several} with several best covers");
-        let least = (none + one + several) / part;
-        assert!(*none >= least && *one >= least && *several >= least);
+        assert!(several >= (none + one + several) / 10);
+        assert!(none >= least && one >= least);
     }
 }
 
@@ -115,7 +116,7 @@ fn every_three_columns_of_one_and_two_relations() {
             }
         }
     }
-    counts.assert_each("one and two relations", 20);
+    counts.assert_each("one and two relations", 40);
 }
 
 /// Every column 0 and every column 1 of three relations.
@@ -129,7 +130,7 @@ fn every_two_columns_of_three_relations() {
             counts.count(assert_best(&choices));
         }
     }
-    counts.assert_each("three relations", 50);
+    counts.assert_each("three relations", 500);
 }
 
 /// Random columns 0, 1 and 2 of three relations, and a later one that allows one subset.
@@ -147,8 +148,7 @@ fn random_columns_of_three_relations() {
         }
         counts.count(assert_best(&choices));
     }
-    let Counts { several, .. } = counts;
-    assert!(several >= 2_000, "{several}");
+    counts.assert_each("random columns of three relations", 5);
 }
 
 /// Random columns of up to eight relations: both ways give the same, also where some attributes are
@@ -172,7 +172,7 @@ fn both_ways_agree_on_random_columns() {
         }
         counts.count(count);
     }
-    counts.assert_each("random columns", 10);
+    counts.assert_each("random columns", 50);
 }
 
 /// Of every kind of file: the best cover is that of all choices, sought in both ways; there is one
@@ -223,5 +223,5 @@ fn all_smallest_files_have_the_best_cover() {
             }
         }
     }
-    counts.assert_each("smallest files", 50);
+    counts.assert_each("smallest files", 100);
 }

@@ -9,8 +9,8 @@ use type_formula_tests::reference::{
     FORMULA_LENGTH, SCHEMA_LENGTH,
 };
 
-/// The ordinary attributes of the random assignments.
-const ORDINARY: [u32; 4] = [16, 17, 300, 70_000];
+/// The ordinary attributes of the random assignments and of witnesses.
+const ORDINARY: [u32; 10] = [16, 17, 18, 19, 20, 21, 22, 23, 300, 70_000];
 
 /// How many cases of each kind come up at least.
 const TYPED: u64 = 20_000;
