@@ -204,11 +204,7 @@ fn e7() -> FormulaExample {
         columns: &[],
         other_columns: "00-",
         verdict: Err(0),
-        typings: &[
-            ("02 00", None),
-            ("00 80", None),
-            ("01 00 01 14 00", None),
-        ],
+        typings: &[("02 00", None), ("00 80", None), ("01 00 01 14 00", None)],
         listing: "\
 node 1 untypable
 r0:

@@ -3,8 +3,8 @@
 use crate::input::Input;
 use crate::pseudorandom::Random;
 use crate::reference::{
-    allowed_subsets, best_cover, encode_instantiation, type_variables, untypable_attribute, Formula,
-    Instantiation, Type, COLUMN_LENGTH, OUTPUT_START,
+    allowed_subsets, best_cover, encode_instantiation, type_variables, untypable_attribute,
+    Formula, Instantiation, Type, COLUMN_LENGTH, OUTPUT_START,
 };
 
 /// The most ordinary attributes of an instantiation that is disturbed, so that none of its
@@ -24,11 +24,14 @@ fn is_member(relation: u8, s: usize) -> bool {
     s >> relation & 1 == 1
 }
 
-/// The relations that have no attribute in the image.
+/// The relations that have no attribute in the image: they are in no subset and in none of the
+/// lists.
 fn empty_relations(instantiation: &Instantiation, relations: u8) -> Vec<u8> {
-    let image = instantiation.image(relations);
+    let subsets = instantiation.subsets.map(usize::from).into_iter();
+    let all = subsets.chain(instantiation.lists.keys().copied());
+    let filled = all.fold(0, |filled, s| filled | s);
     (0..relations)
-        .filter(|&relation| image[usize::from(relation)].is_empty())
+        .filter(|&relation| !is_member(relation, filled))
         .collect()
 }
 
@@ -41,9 +44,11 @@ fn strictest_typable(formulas: &[Formula]) -> usize {
         bytes.map(|byte| byte.count_ones()).sum()
     };
     let is_typable = |node: &usize| untypable_attribute(&formulas[*node], relations).is_none();
-    (0..formulas.len())
-        .filter(is_typable)
-        .min_by_key(allowed)
+    let mut nodes: Vec<usize> = (0..formulas.len()).collect();
+    nodes.sort_by_cached_key(allowed);
+    nodes
+        .into_iter()
+        .find(is_typable)
         .expect("node 0 is typable")
 }
 
@@ -88,7 +93,12 @@ impl Random {
     fn new_attribute(&mut self, instantiation: &Instantiation) -> u32 {
         loop {
             let attribute = self.ordinary_attribute();
-            if !instantiation.lists.values().flatten().any(|&each| each == attribute) {
+            if !instantiation
+                .lists
+                .values()
+                .flatten()
+                .any(|&each| each == attribute)
+            {
                 return attribute;
             }
         }
@@ -101,14 +111,15 @@ impl Random {
         let variables = type_variables(formula);
         let declared = |relation| variables.iter().any(|&s| is_member(relation, s));
         let empty = empty_relations(instantiation, relations);
-        if !empty.is_empty() && instantiation.lists.values().flatten().count() > MOST_BEFORE_FILLED {
+        if !empty.is_empty() && instantiation.lists.values().flatten().count() > MOST_BEFORE_FILLED
+        {
             instantiation.lists.clear();
         }
         if let (false, Some(cover)) = (
             empty.into_iter().all(declared),
             best_cover(formula, relations),
         ) {
-            instantiation.subsets = cover.subsets.map(|s| s as u8);
+            instantiation.subsets = cover.subsets;
         }
         for relation in 0..relations {
             let is_empty = empty_relations(instantiation, relations).contains(&relation);

@@ -74,14 +74,7 @@ const INSTANCES_OF_EXAMPLES: [(&str, &str, Subsets, Lists, &str, &str); 11] = [
         "0b 00 02 64 00 2c 01 0d 00 02 64 00 2c 01 01 00 02 64 00 c8 00",
         "0d 00 03 64 00 c8 00 2c 01",
     ),
-    (
-        "one attribute",
-        "E8",
-        &[(1, 0x01)],
-        &[],
-        "02 00",
-        "00 00",
-    ),
+    ("one attribute", "E8", &[(1, 0x01)], &[], "02 00", "00 00"),
     (
         "one ordinary attribute",
         "E8",
@@ -237,10 +230,7 @@ fn instances_of_long_lists() -> [Instance; 3] {
         ),
         instance_of_join(
             "254 and one",
-            instantiation_bytes(
-                &[(15, 0x7e)],
-                &[(1, list(16..270)), (128, list(270..271))],
-            ),
+            instantiation_bytes(&[(15, 0x7e)], &[(1, list(16..270)), (128, list(270..271))]),
             &two_sets,
             15..271,
         ),

@@ -9,7 +9,13 @@ use crate::typing_examples::{typing_cases, E4_SCHEMA};
 /// Calls of Recover for E1: name, node, schema, lengths of the slices, refusal.
 const CALLS_OF_RECOVER: [(&str, usize, &str, [usize; 2], u8); 13] = [
     ("11 before 12 to 14", 7, "", [0, 0], 11),
-    ("greatest number", usize::MAX, FILLED_SCHEMA, [7_168, 812], 11),
+    (
+        "greatest number",
+        usize::MAX,
+        FILLED_SCHEMA,
+        [7_168, 812],
+        11,
+    ),
     ("12 before 13, 14", 6, "", [7_167, 0], 12),
     ("12 before 13", 6, FILLED_SCHEMA, [7_167, 811], 12),
     ("12 before untyped", 6, E4_SCHEMA, [7_167, 812], 12),

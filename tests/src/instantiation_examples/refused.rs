@@ -208,8 +208,11 @@ pub(super) fn emptied_for_join() -> Vec<ApplyCase> {
     let mut cases = Vec::new();
     for relation in 0..8 {
         let others = 0xff ^ 1 << relation;
-        for (attribute, lists) in [(1, vec![]), (15, vec![]), (8, vec![(usize::from(others), [16])])]
-        {
+        for (attribute, lists) in [
+            (1, vec![]),
+            (15, vec![]),
+            (8, vec![(usize::from(others), [16])]),
+        ] {
             let file = encode_file(8, &join_of_eight());
             let bytes = instantiation_bytes(&[(attribute, others)], &lists);
             let name = format!("r{relation} has no attribute");

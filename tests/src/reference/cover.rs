@@ -3,7 +3,7 @@
 //! taking up the best cover so far, and by the sets of relations that are filled.
 
 use std::cmp::Reverse;
-use std::collections::{BinaryHeap, HashSet};
+use std::collections::BinaryHeap;
 
 use super::{allowed_subsets, type_variables, Formula, COLUMNS};
 
@@ -14,9 +14,7 @@ const FEW_RELATIONS: u8 = 3;
 
 /// How many relations belong to a subset.
 pub fn members(subset: usize) -> usize {
-    (0..8)
-        .filter(|relation| subset >> relation & 1 == 1)
-        .count()
+    subset.count_ones() as usize
 }
 
 /// What there is to choose from.
@@ -35,7 +33,7 @@ pub struct Choices {
 pub struct Cover {
     pub memberships: usize,
     /// The subset of each of attributes 1 to 15; empty where none is chosen yet.
-    pub subsets: [usize; SPECIAL],
+    pub subsets: [u8; SPECIAL],
     /// The variables taken, rising.
     pub variables: Vec<usize>,
 }
@@ -45,7 +43,7 @@ impl Cover {
     fn with_subset(&self, place: usize, subset: usize) -> Cover {
         let mut next = self.clone();
         next.memberships += members(subset);
-        next.subsets[place] = subset;
+        next.subsets[place] = subset as u8;
         next
     }
 
@@ -77,10 +75,11 @@ impl Choices {
     /// type variables, has none: an ordinary attribute can have the subset in its place, with as
     /// many memberships, and then the empty subset is the lower one.
     fn without_needless(mut self) -> Self {
-        let variables = &self.variables;
+        let mut is_ordinary = [false; 256];
+        is_ordinary[0] = true;
+        self.variables.iter().for_each(|&s| is_ordinary[s] = true);
         for subsets in &mut self.special {
-            let is_other = |s: &usize| *s > 0 && !variables.contains(s);
-            if subsets.contains(&0) && !subsets.iter().any(is_other) {
+            if subsets.contains(&0) && subsets.iter().all(|&s| is_ordinary[s]) {
                 *subsets = vec![0];
             }
         }
@@ -105,9 +104,9 @@ impl Choices {
     pub fn best_by_search(&self) -> Option<Cover> {
         let places = SPECIAL + self.variables.len();
         let mut waiting = BinaryHeap::from([Reverse((Cover::default(), 0, 0))]);
-        let mut met = HashSet::new();
+        let mut met = vec![vec![false; 1 << self.relations]; places + 1];
         while let Some(Reverse((cover, place, filled))) = waiting.pop() {
-            if !met.insert((place, filled)) {
+            if std::mem::replace(&mut met[place][filled], true) {
                 continue;
             }
             if place < places {

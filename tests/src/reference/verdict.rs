@@ -41,7 +41,7 @@ pub fn untypable_attribute(formula: &Formula, relations: u8) -> Option<u8> {
 /// attribute in the relations of its subset, and ordinary ones from 16 on in those of the variables.
 pub fn witness(formula: &Formula, relations: u8) -> Option<(Vec<u8>, u8)> {
     let cover = best_cover(formula, relations)?;
-    let special = (1..).zip(cover.subsets);
+    let special = (1..).zip(cover.subsets.map(usize::from));
     let ordinary = (LOWEST_ORDINARY..).zip(cover.variables);
     let assignment = assignment_of(relations, special.chain(ordinary));
     Some((encode_schema(&assignment), cover.memberships as u8))

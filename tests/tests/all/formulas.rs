@@ -16,8 +16,8 @@ use type_formula_tests::test_run::{TestRun, FAR_TOO_LONG};
 /// The least number of comparisons of each test.
 const IN_EVERY_M_AND_N: u64 = 90_000;
 const IN_SMALL_FILES: u64 = 150_000;
-const IN_EVERY_NODE: u64 = 110_000;
-const IN_TREES: u64 = 150_000;
+const IN_EVERY_NODE: u64 = 75_000;
+const IN_TREES: u64 = 45_000;
 const IN_ALL_SMALLEST_FILES: u64 = 10_000;
 const IN_CASES: u64 = 40_000;
 const IN_PREFIXES: u64 = 30_000;
@@ -180,14 +180,14 @@ fn random_accepted_files_of_few_nodes() {
 fn every_node_of_random_accepted_files() {
     let mut random = Random::new(25);
     let mut run = test_run();
-    for round in 0..12_000 {
+    for round in 0..8_000 {
         let (relations, count) = (random.between(1, 8), random.between(1, 16));
         run.verdict_of_every_node(&match round % 2 {
             0 => random.accepted_file(relations, count),
             _ => random.mild_file(relations, count),
         });
     }
-    assert_verdicts(&run, 50_000, 15_000);
+    assert_verdicts(&run, 40_000, 15_000);
     run.finish("every node", IN_EVERY_NODE);
 }
 
@@ -215,7 +215,7 @@ fn every_node_of_trees_of_relations() {
     let mut random = Random::new(26);
     let mut run = test_run();
     let (mut filled, mut ties) = (0, 0);
-    for _ in 0..8_000 {
+    for _ in 0..5_000 {
         let relations = random.between(1, 8);
         let bytes = random.tree_file(relations);
         let (is_filled, is_tie) = choices(&infer(&bytes).expect("accepted"));
@@ -224,7 +224,7 @@ fn every_node_of_trees_of_relations() {
         run.verdict_of_every_node(&bytes);
     }
     println!("{filled} filled by the fewest members, {ties} with a tie");
-    assert!((800..7_200).contains(&filled) && ties >= 800);
+    assert!((500..4_500).contains(&filled) && ties >= 500);
     run.finish("trees of relations", IN_TREES);
 }
 

@@ -19,9 +19,7 @@ fn without_special(relations: u8, variables: Vec<usize>) -> Choices {
 
 /// The subsets of so many relations that are bits of a number: s stands for bit s.
 fn subsets_of(relations: u8, bits: usize) -> Vec<usize> {
-    (0..1 << relations)
-        .filter(|s| bits >> s & 1 == 1)
-        .collect()
+    (0..1 << relations).filter(|s| bits >> s & 1 == 1).collect()
 }
 
 /// Every list of variables, with the relations that it fills.
@@ -49,7 +47,7 @@ fn all_covers(choices: &Choices) -> Vec<Cover> {
                     let all = subsets.iter().chain(variables);
                     covers.push(Cover {
                         memberships: all.map(|&s| members(s)).sum(),
-                        subsets,
+                        subsets: subsets.map(|s| s as u8),
                         variables: variables.clone(),
                     });
                 }
@@ -108,7 +106,8 @@ fn every_three_columns_of_one_and_two_relations() {
         for variables in 0..columns / 2 {
             for first in 1..columns {
                 for second in 1..columns {
-                    let mut choices = without_special(relations, subsets_of(relations, variables << 1));
+                    let mut choices =
+                        without_special(relations, subsets_of(relations, variables << 1));
                     choices.special[0] = subsets_of(relations, first);
                     choices.special[1] = subsets_of(relations, second);
                     counts.count(assert_best(&choices));
@@ -165,10 +164,12 @@ fn both_ways_agree_on_random_columns() {
         let count = choices.count_best();
         assert_eq!(count > 0, best.is_some());
         if let Some(cover) = best {
-            let all = cover.subsets.iter().chain(&cover.variables);
-            let filled = all.clone().fold(0, |filled, s| filled | s);
+            let all = cover.subsets.map(usize::from).into_iter();
+            let all: Vec<usize> = all.chain(cover.variables).collect();
+            let filled = all.iter().fold(0, |filled, s| filled | s);
             assert_eq!(filled, (1 << relations) - 1);
-            assert_eq!(all.map(|&s| members(s)).sum::<usize>(), cover.memberships);
+            let counted: usize = all.into_iter().map(members).sum();
+            assert_eq!(counted, cover.memberships);
         }
         counts.count(count);
     }

@@ -9,6 +9,7 @@ use type_formula_tests::examples::{
 use type_formula_tests::extreme_inputs::{extreme_assignments, join_input, join_of_64_nodes};
 use type_formula_tests::formula_examples::FILLED_SCHEMA;
 use type_formula_tests::pseudorandom::Random;
+use type_formula_tests::random_covers::FileKind;
 use type_formula_tests::random_instantiations::MOST_IN_DISTURBED;
 use type_formula_tests::reference::{
     assignment_of, encode_file, encode_schema, infer, read_schema, untypable_attribute, witness,
@@ -159,9 +160,12 @@ fn every_node_under_one_schema() {
 fn random_schemas_near_witnesses() {
     let mut random = Random::new(72);
     let mut run = test_run();
-    for _ in 0..8_000 {
+    for round in 0..10_000 {
         let (relations, count) = (random.between(1, 8), random.between(4, 20));
-        let bytes = random.mild_file(relations, count);
+        let bytes = match round % 2 {
+            0 => random.mild_file(relations, count),
+            _ => random.file_of_kind(FileKind::ALL[round % FileKind::ALL.len()], relations),
+        };
         let formulas = infer(&bytes).expect("accepted").formulas;
         let node = formulas.len() - 1;
         if untypable_attribute(&formulas[node], relations).is_some() {
@@ -170,9 +174,11 @@ fn random_schemas_near_witnesses() {
         let (witness, _) = witness(&formulas[node], relations).expect("typable");
         let typing = run.typing_by_schema(&bytes, node, &witness);
         assert!(matches!(typing, Typing::Typed { .. }));
-        let mut sets = read_schema(relations, &witness).expect("a schema");
-        for _ in 0..4 {
-            random.disturb_assignment(&mut sets);
+        for steps in [1, 2, 3, 4] {
+            let mut sets = read_schema(relations, &witness).expect("a schema");
+            for _ in 0..steps {
+                random.disturb_assignment(&mut sets);
+            }
             run.typing_by_sets(&bytes, node, &sets);
         }
     }

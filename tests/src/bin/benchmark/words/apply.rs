@@ -51,8 +51,14 @@ fn write<const WORDS: usize>(
 #[inline(always)]
 fn check_filled(relations: u8, of: &Instantiation) -> Result<(), u8> {
     let special = of.subsets.iter().fold(0, |filled, s| filled | s);
-    let filled = of.entries.iter().fold(special, |filled, &entry| filled | entry as u8);
-    refuse_if(filled != (255_u16 >> (8 - relations)) as u8, IMAGE_NOT_FILLED)
+    let filled = of
+        .entries
+        .iter()
+        .fold(special, |filled, &entry| filled | entry as u8);
+    refuse_if(
+        filled != (255_u16 >> (8 - relations)) as u8,
+        IMAGE_NOT_FILLED,
+    )
 }
 
 /// The lengths of schema and output record, or the first refusal.

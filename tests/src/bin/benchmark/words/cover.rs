@@ -64,7 +64,9 @@ const LACKING: [u64; 3] = [
 #[inline(always)]
 fn drop_relation(blocks: &mut [[u8; 16]], relation: usize) {
     let Some(lacking) = LACKING.get(relation) else {
-        blocks.iter_mut().for_each(|block| block.copy_within(..8, 8));
+        blocks
+            .iter_mut()
+            .for_each(|block| block.copy_within(..8, 8));
         return;
     };
     for word in blocks.as_flattened_mut().as_chunks_mut().0 {
@@ -114,7 +116,10 @@ fn step<const BLOCKS: usize>(allowed: &Bits, next: &Row<BLOCKS>) -> Row<BLOCKS> 
         let mut table = *next;
         drop_lower_part(&mut table, low);
         let members = low.count_ones() as u8;
-        table.as_flattened_mut().iter_mut().for_each(|byte| *byte += members);
+        table
+            .as_flattened_mut()
+            .iter_mut()
+            .for_each(|byte| *byte += members);
         for (place, block) in row.iter_mut().enumerate() {
             for &high in parts {
                 let high = usize::from(high) % BLOCKS;
@@ -162,8 +167,8 @@ fn choose<const BLOCKS: usize>(
 #[inline(always)]
 fn first_subsets(allowed: &Allowed, all: u8) -> Result<Option<Cover>, u8> {
     let (mut cover, mut filled) = (Cover::default(), 0);
-    for column in 1..COLUMNS {
-        let s = fewest(&allowed[column]).ok_or(column as u8)?;
+    for (column, subsets) in (1..COLUMNS).zip(&allowed[1..]) {
+        let s = fewest(subsets).ok_or(column as u8)?;
         cover.subsets[column] = s;
         cover.memberships += s.count_ones() as u8;
         filled |= s;
