@@ -120,10 +120,11 @@ fn step<const BLOCKS: usize>(allowed: &Bits, next: &Row<BLOCKS>) -> Row<BLOCKS> 
             .as_flattened_mut()
             .iter_mut()
             .for_each(|byte| *byte += members);
-        for (place, block) in row.iter_mut().enumerate() {
-            for &high in parts {
-                let high = usize::from(high) % BLOCKS;
-                *block = lower(*block, &table[place & !high], &MEMBERS[high]);
+        for &high in parts {
+            let high = usize::from(high) % BLOCKS;
+            let members = &MEMBERS[high];
+            for (place, block) in row.iter_mut().enumerate() {
+                *block = lower(*block, &table[place & !high], members);
             }
         }
     }
