@@ -1,7 +1,7 @@
 /*
  * Layouts of a query: prints, for the last node of an expression file, the witness schema with the
- * number of its memberships, the output record under it, its instantiation, the schema that the
- * instantiation gives back, and the witness by lowest subsets.
+ * number of its memberships, the output record under it, its instantiation, and the schema that the
+ * instantiation gives back; or that no schema in which every relation has an attribute types it.
  * Bytes are hexadecimal. The file is named on the command line; without a name it is examples/e1.
  * gcc -std=c99 -Iinclude examples/layouts.c target/staticlib/libtype_formula.a -o target/layouts
  */
@@ -61,19 +61,6 @@ static int print_round_trip(const struct file *file, size_t node, const uint8_t 
     return 0;
 }
 
-/* The witness by lowest subsets, of a typable node. */
-static int print_lowest(const struct file *file, size_t node)
-{
-    static uint8_t schema[TYPE_FORMULA_SCHEMA_SIZE];
-    size_t value;
-    uint8_t answer = type_formula_lowest_verdict(file->bytes, file->size, node, work, sizeof work, schema,
-                                                 sizeof schema, &value);
-    if (answer != 0)
-        return refused("Verdict by lowest subsets", answer);
-    print_bytes("witness by lowest subsets", schema, value);
-    return 0;
-}
-
 static int print_layouts(const struct file *file, size_t node)
 {
     static uint8_t schema[TYPE_FORMULA_SCHEMA_SIZE], out[TYPE_FORMULA_OUTPUT_SIZE];
@@ -93,7 +80,7 @@ static int print_layouts(const struct file *file, size_t node)
     if (answer != 0)
         return refused("Typing", answer);
     print_bytes("output", out, length);
-    return print_round_trip(file, node, schema, value) || print_lowest(file, node);
+    return print_round_trip(file, node, schema, value);
 }
 
 int main(int count, char **arguments)

@@ -24,9 +24,9 @@ extern "C" {
 
 /* The version of this header and of the archive, and as one number: 10,000 major + 100 minor + patch. */
 #define TYPE_FORMULA_VERSION_MAJOR 0
-#define TYPE_FORMULA_VERSION_MINOR 3
+#define TYPE_FORMULA_VERSION_MINOR 4
 #define TYPE_FORMULA_VERSION_PATCH 0
-#define TYPE_FORMULA_VERSION 300
+#define TYPE_FORMULA_VERSION 400
 
 /* The most relations of an expression file. */
 #define TYPE_FORMULA_MOST_RELATIONS 8
@@ -49,7 +49,7 @@ extern "C" {
 
 /* The answer of Typing and Recover where the schema does not type the node. */
 #define TYPE_FORMULA_UNTYPED 255
-/* The answer of Verdict, and of the verdict by lowest subsets, where no schema types the node. */
+/* The answer of Verdict where no schema types the node. */
 #define TYPE_FORMULA_UNTYPABLE 255
 
 /* The refusals (FORMAT 8.1). An answer is the number of the first that applies (FORMAT 8.5). */
@@ -104,7 +104,11 @@ enum type_formula_refusal {
     /* The text has more than 512 bytes. */
     TYPE_FORMULA_QUERY_LENGTH = 23,
     /* The query has more than 64 nodes. */
-    TYPE_FORMULA_QUERY_NODES = 24
+    TYPE_FORMULA_QUERY_NODES = 24,
+    /* A relation's record in a schema is empty: every relation has an attribute. */
+    TYPE_FORMULA_EMPTY_RECORD = 25,
+    /* The image of an instantiation leaves a relation without an attribute. */
+    TYPE_FORMULA_EMPTY_IMAGE = 26
 };
 
 /*
@@ -133,34 +137,34 @@ uint64_t type_formula_read_node(uint8_t relations, uint8_t number, const uint8_t
 uint8_t type_formula_formula(const uint8_t *file, size_t file_len, uint8_t *work, size_t work_len);
 
 /*
- * Verdict: whether some schema types the node. Answers 0, writes the witness to the schema slice, its
- * length to the value and the number of its memberships, of which no schema that types the node has
- * fewer; or answers TYPE_FORMULA_UNTYPABLE and writes to the value the lowest special attribute whose
- * column allows nothing, and schema slice and memberships stay; or answers a refusal, 1 to 13, and
- * everything stays. Unless it refuses, it fills the work space as Formula does.
+ * Verdict: whether some schema types the node, of those in which every relation has an attribute.
+ * Answers 0, writes the witness to the schema slice, its length to the value and the number of its
+ * memberships, of which no such schema has fewer. The witness may have ordinary attributes, from 16
+ * on, each in the relations of a type variable, in rising order of these. Of several with as few
+ * memberships it is the one with the lower subset at the first of attributes 1 to 15 that differs,
+ * and then the one whose list of variables is lower at the first difference. Or answers
+ * TYPE_FORMULA_UNTYPABLE and writes to the value the lowest special attribute whose column allows
+ * nothing, or 0 where each allows something and the relations cannot all get an attribute; schema
+ * slice and memberships stay. Or answers a refusal, 1 to 13, and everything stays. Unless it refuses,
+ * it fills the work space as Formula does.
+ * Verdict uses up to about 6 KiB of stack.
  */
 uint8_t type_formula_verdict(const uint8_t *file, size_t file_len, size_t node, uint8_t *work, size_t work_len,
                              uint8_t *schema, size_t schema_len, size_t *value, uint8_t *memberships);
 
 /*
- * The verdict by lowest subsets: as Verdict, with the witness in which each special attribute has the
- * lowest subset that its column allows, and without the number of memberships.
- */
-uint8_t type_formula_lowest_verdict(const uint8_t *file, size_t file_len, size_t node, uint8_t *work,
-                                    size_t work_len, uint8_t *schema, size_t schema_len, size_t *value);
-
-/*
  * Typing: the type of the node under a schema. Answers 0, writes the output record to the result
- * slice and its length to the value; or answers TYPE_FORMULA_UNTYPED, or a refusal, 1 to 11 or 13 to
- * 18, and everything stays.
+ * slice and its length to the value; or answers TYPE_FORMULA_UNTYPED, or a refusal, 1 to 11, 13 to 18
+ * or 25, and everything stays.
  */
 uint8_t type_formula_typing(const uint8_t *file, size_t file_len, size_t node, const uint8_t *schema,
                             size_t schema_len, uint8_t *out, size_t out_len, size_t *value);
 
 /*
  * Apply: the schema and the output record of an instantiation of the node's formula. Answers 0, and
- * writes both and their lengths; or answers a refusal, 1 to 21, and slices and lengths stay. With 0,
- * 20 and 21 it fills the work space as Formula does; with each other refusal that stays too.
+ * writes both and their lengths; or answers a refusal, 1 to 21 or 26, and slices and lengths stay.
+ * With 0, 20, 21 and 26 it fills the work space as Formula does; with each other refusal that stays
+ * too.
  */
 uint8_t type_formula_apply(const uint8_t *file, size_t file_len, size_t node, const uint8_t *instantiation,
                            size_t instantiation_len, uint8_t *work, size_t work_len, uint8_t *schema,
@@ -169,8 +173,8 @@ uint8_t type_formula_apply(const uint8_t *file, size_t file_len, size_t node, co
 
 /*
  * Recover: the instantiation of the node's formula whose image is the schema. Answers 0, writes it to
- * the result slice and its length to the value; or answers TYPE_FORMULA_UNTYPED, or a refusal, 1 to
- * 18, and slice and value stay. Unless it refuses, it fills the work space as Formula does.
+ * the result slice and its length to the value; or answers TYPE_FORMULA_UNTYPED, or a refusal, 1 to 18
+ * or 25, and slice and value stay. Unless it refuses, it fills the work space as Formula does.
  */
 uint8_t type_formula_recover(const uint8_t *file, size_t file_len, size_t node, const uint8_t *schema,
                              size_t schema_len, uint8_t *work, size_t work_len, uint8_t *instantiation,
@@ -243,6 +247,10 @@ static inline const char *type_formula_refusal_text(int answer)
         return "the text has more than 512 bytes (FORMAT 9.14)";
     case TYPE_FORMULA_QUERY_NODES:
         return "the query has more than 64 nodes (FORMAT 9.3)";
+    case TYPE_FORMULA_EMPTY_RECORD:
+        return "a relation's record is empty: every relation has an attribute (FORMAT 5.5)";
+    case TYPE_FORMULA_EMPTY_IMAGE:
+        return "the image of the instantiation leaves a relation without an attribute (FORMAT 6.9)";
     default:
         return "no refusal";
     }

@@ -2,7 +2,8 @@
 # Prints the instructions of one call of each operation and its alternatives as a markdown
 # table, and those of the engine and of the hand-written code as nodes double and as the text of
 # a query doubles. Sizes are those of the benchmark: a number of nodes, so many with an untypable
-# last node, 64 nodes of which most are unions (64unionsofeight, 64unionsofone), or 64 nodes with
+# last node, relations that the fewest subsets fill (fewest) or that others must be sought for
+# (coverofthree, coverofeight, coverofdense), 64 nodes of which most are unions (64unionsofeight, 64unionsofone), or 64 nodes with
 # 255 ordinary attributes in three lists (64x255) or with one in each list (64x255each); of a query
 # a number of bytes, E1 (24), 63 prefixes (191deep), or lists of 15 attributes (512lists). Each is
 # counted by callgrind for two numbers of calls; the difference divided by that of the calls leaves
@@ -31,7 +32,7 @@ per_call() {
 sizes() {
     case $1 in
         formula) echo 7 64 64unionsofeight 64unionsofone ;;
-        verdict | lowestverdict) echo 7 7untypable 64 64untypable ;;
+        verdict) echo 7 7untypable 64 64untypable fewest coverofthree coverofeight coverofdense ;;
         parsequery) echo 24 191deep 512lists 512 ;;
         *) echo 7 64 64x255 64x255each ;;
     esac
@@ -40,7 +41,7 @@ sizes() {
 echo "| Operation | size | engine | other implementation | hand-written | copy |" \
     "copy by a 64-bit loop |"
 echo "|---|---|---|---|---|---|---|"
-for operation in formula verdict lowestverdict typing apply recover parsequery; do
+for operation in formula verdict typing apply recover parsequery; do
     for size in $(sizes $operation); do
         row="| $operation | $size |"
         for by in engine reference words copy copyloop; do

@@ -14,7 +14,7 @@ pub(crate) mod calls;
 /// The answer of Typing and Recover where the schema does not type the node.
 pub const UNTYPED: u8 = 255;
 
-/// The answer of Verdict, and of the verdict by lowest subsets, where no schema types the node.
+/// The answer of Verdict where no schema types the node.
 pub const UNTYPABLE: u8 = 255;
 
 extern "C" {
@@ -57,12 +57,18 @@ extern "C" {
         work_len: usize,
     ) -> u8;
 
-    /// Verdict: whether some schema types the node. Answers 0, writes the witness to the schema
-    /// slice, its length to the value and the number of its memberships, of which no schema that
-    /// types the node has fewer; or answers [`UNTYPABLE`] and writes to the value the lowest special
-    /// attribute whose column allows nothing, and schema slice and memberships stay; or answers a
-    /// refusal, 1 to 13, and everything stays. Unless it refuses, it fills the work space as Formula
-    /// does.
+    /// Verdict: whether some schema types the node, of those in which every relation has an
+    /// attribute. Answers 0, writes the witness to the schema slice, its length to the value and the
+    /// number of its memberships, of which no such schema has fewer. The witness may have ordinary
+    /// attributes, from 16 on, each in the relations of a type variable, in rising order of these.
+    /// Of several with as few memberships it is the one with the lower subset at the first of
+    /// attributes 1 to 15 that differs, and then the one whose list of variables is lower at the
+    /// first difference. Or answers [`UNTYPABLE`] and writes to the value the lowest special
+    /// attribute whose column allows nothing, or 0 where each allows something and the relations
+    /// cannot all get an attribute; schema slice and memberships stay. Or answers a refusal, 1 to
+    /// 13, and everything stays. Unless it refuses, it fills the work space as Formula does.
+    ///
+    /// Verdict uses up to about 6 KiB of stack.
     pub fn type_formula_verdict(
         file: *const u8,
         file_len: usize,
@@ -75,22 +81,9 @@ extern "C" {
         memberships: *mut u8,
     ) -> u8;
 
-    /// The verdict by lowest subsets: as Verdict, with the witness in which each special attribute
-    /// has the lowest subset that its column allows, and without the number of memberships.
-    pub fn type_formula_lowest_verdict(
-        file: *const u8,
-        file_len: usize,
-        node: usize,
-        work: *mut u8,
-        work_len: usize,
-        schema: *mut u8,
-        schema_len: usize,
-        value: *mut usize,
-    ) -> u8;
-
     /// Typing: the type of the node under a schema. Answers 0, writes the output record to the
-    /// result slice and its length to the value; or answers [`UNTYPED`], or a refusal, 1 to 11 or
-    /// 13 to 18, and everything stays.
+    /// result slice and its length to the value; or answers [`UNTYPED`], or a refusal, 1 to 11, 13
+    /// to 18 or 25, and everything stays.
     pub fn type_formula_typing(
         file: *const u8,
         file_len: usize,
@@ -103,9 +96,9 @@ extern "C" {
     ) -> u8;
 
     /// Apply: the schema and the output record of an instantiation of the node's formula. Answers
-    /// 0, and writes both and their lengths; or answers a refusal, 1 to 21, and slices and lengths
-    /// stay. With 0, 20 and 21 it fills the work space as Formula does; with each other refusal
-    /// that stays too.
+    /// 0, and writes both and their lengths; or answers a refusal, 1 to 21 or 26, and slices and
+    /// lengths stay. With 0, 20, 21 and 26 it fills the work space as Formula does; with each other
+    /// refusal that stays too.
     pub fn type_formula_apply(
         file: *const u8,
         file_len: usize,
@@ -124,8 +117,8 @@ extern "C" {
 
     /// Recover: the instantiation of the node's formula whose image is the schema. Answers 0,
     /// writes it to the result slice and its length to the value; or answers [`UNTYPED`], or a
-    /// refusal, 1 to 18, and slice and value stay. Unless it refuses, it fills the work space as
-    /// Formula does.
+    /// refusal, 1 to 18 or 25, and slice and value stay. Unless it refuses, it fills the work space
+    /// as Formula does.
     pub fn type_formula_recover(
         file: *const u8,
         file_len: usize,

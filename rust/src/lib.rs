@@ -14,8 +14,7 @@
 //! | [`record`] | a file, a node | the part of the file that holds the node |
 //! | [`read_node`] | bytes | the [`Node`] at their front, and its length |
 //! | [`formula`] | a file | the [`Formulas`] of all nodes, in the work space |
-//! | [`verdict`] | a file, a node | a [`Schema`] that types the node with the fewest columns, and their number, or that there is none |
-//! | [`lowest_verdict`] | a file, a node | the same by the lowest subsets, without a number |
+//! | [`verdict`] | a file, a node | a [`Schema`] that types the node, with the fewest columns but one at least in each table, and their number, or that there is none |
 //! | [`typing`] | a file, a node, a schema | the output [`TypeRecord`], or untyped |
 //! | [`apply`] | a file, a node, an instantiation | its [`Schema`] and output [`TypeRecord`] |
 //! | [`recover`] | a file, a node, a schema | its [`Instantiation`], or untyped |
@@ -29,7 +28,7 @@
 //! # A whole use
 //!
 //! A report author has the query σ{2,3}((ρ1/2(r0) ∪ r1) ⋈ r2). A database keeper has the tables
-//! r0(a1, a3), r1(a2, a3) and r2(), and wants to add the column 20.
+//! r0(a1, a3), r1(a2, a3) and r2(a4), and wants to add the column 20.
 //!
 //! ```
 //! use type_formula::*;
@@ -62,20 +61,20 @@
 //! ";
 //! assert_eq!(formula(file, &mut work)?.last().to_string(), text);
 //!
-//! // Under the keeper's schema the result has the columns 2 and 3.
+//! // Under the keeper's schema the result has the columns 2 to 4.
 //! let mut tables = SchemaBuilder::new();
-//! for columns in [&[1, 3][..], &[2, 3], &[]] {
+//! for columns in [&[1, 3][..], &[2, 3], &[4]] {
 //!     tables.relation(columns.iter().copied())?;
 //! }
 //! let tables = tables.schema()?.bytes();
 //! match typing(file, last, tables, &mut out)? {
-//!     Typing::Typed(output) => assert_eq!(output.to_string(), "(a2, a3)"),
+//!     Typing::Typed(output) => assert_eq!(output.to_string(), "(a2, a3, a4)"),
 //!     Typing::Untyped => panic!("the query is typed"),
 //! }
 //!
 //! // With column 20 in r0 alone the query would no longer be typed.
 //! let mut wider = SchemaBuilder::new();
-//! for columns in [&[1, 3, 20][..], &[2, 3], &[]] {
+//! for columns in [&[1, 3, 20][..], &[2, 3], &[4]] {
 //!     wider.relation(columns.iter().copied())?;
 //! }
 //! let wider = wider.schema()?.bytes();
@@ -86,12 +85,12 @@
 //!     Recovery::Recovered(instantiation) => instantiation,
 //!     Recovery::Untyped => panic!("the query is typed"),
 //! };
-//! assert_eq!(recovered.to_string(), "a1: 01\na2: 02\na3: 03\n");
+//! assert_eq!(recovered.to_string(), "a1: 01\na2: 02\na3: 03\na4: 04\n");
 //! let mut with_20 = InstantiationBuilder::from(recovered);
 //! with_20.add_to_list(0b011, 20)?;
 //! let applied = apply(file, last, with_20.bytes(), &mut work, &mut schema, &mut out)?;
-//! assert_eq!(applied.schema.to_string(), "r0(a1, a3, 20), r1(a2, a3, 20), r2()");
-//! assert_eq!(applied.output.to_string(), "(a2, a3, 20)");
+//! assert_eq!(applied.schema.to_string(), "r0(a1, a3, 20), r1(a2, a3, 20), r2(a4)");
+//! assert_eq!(applied.output.to_string(), "(a2, a3, a4, 20)");
 //! # Ok::<(), Refusal>(())
 //! ```
 //!
@@ -130,8 +129,8 @@ mod views;
 pub use builders::{ExpressionBuilder, InstantiationBuilder, SchemaBuilder};
 pub use node::{BinaryOp, Node, SetOp};
 pub use operations::{
-    accept, apply, formula, lowest_verdict, parse_query, read_node, record, recover, typing,
-    verdict, Application, LowestVerdict, Recovery, Typing, Verdict,
+    accept, apply, formula, parse_query, read_node, record, recover, typing, verdict, Application,
+    Recovery, Typing, Verdict,
 };
 pub use refusal::{Refusal, UnknownRefusal};
 pub use sizes::{

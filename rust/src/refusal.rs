@@ -58,10 +58,14 @@ pub enum Refusal {
     QueryLength = 23,
     /// The query has more than 64 nodes.
     QueryNodes = 24,
+    /// A relation's record in a schema is empty: every relation has an attribute.
+    EmptyRecord = 25,
+    /// The image of an instantiation leaves a relation without an attribute.
+    EmptyImage = 26,
 }
 
 /// Each refusal with its text, by number from 1. `include/type_formula.h` has the same texts.
-const TEXTS: [(Refusal, &str); 24] = [
+const TEXTS: [(Refusal, &str); 26] = [
     (
         Refusal::HeaderTruncated,
         "the file has fewer than two bytes (FORMAT 1.1)",
@@ -157,10 +161,18 @@ const TEXTS: [(Refusal, &str); 24] = [
         Refusal::QueryNodes,
         "the query has more than 64 nodes (FORMAT 9.3)",
     ),
+    (
+        Refusal::EmptyRecord,
+        "a relation's record is empty: every relation has an attribute (FORMAT 5.5)",
+    ),
+    (
+        Refusal::EmptyImage,
+        "the image of the instantiation leaves a relation without an attribute (FORMAT 6.9)",
+    ),
 ];
 
 impl Refusal {
-    /// The number, 1 to 24.
+    /// The number, 1 to 26.
     ///
     /// ```
     /// use type_formula::Refusal;
@@ -209,7 +221,7 @@ impl Error for UnknownRefusal {}
 /// ```
 /// use type_formula::{Refusal, UnknownRefusal};
 ///
-/// assert_eq!(Refusal::try_from(24), Ok(Refusal::QueryNodes));
+/// assert_eq!(Refusal::try_from(26), Ok(Refusal::EmptyImage));
 /// assert_eq!(Refusal::try_from(0), Err(UnknownRefusal(0)));
 /// ```
 impl TryFrom<u8> for Refusal {
@@ -240,7 +252,7 @@ mod tests {
 
     #[test]
     fn other_numbers_are_no_refusals() {
-        for number in [0].into_iter().chain(25..=255) {
+        for number in [0].into_iter().chain(27..=255) {
             assert_eq!(Refusal::try_from(number), Err(UnknownRefusal(number)));
         }
     }

@@ -114,6 +114,7 @@ fn a_refused_relation_changes_nothing() {
         Err(Refusal::TooManyAttributes)
     );
     assert_eq!(builder.relation([5, 0]), Err(Refusal::Attribute));
+    assert_eq!(builder.relation([]), Err(Refusal::EmptyRecord));
     assert_eq!(builder.relation([5, 16, 5, 16]), Ok(1));
     let schema = builder.schema().expect("a schema");
     let record = schema.record(1).expect("a record");

@@ -10,12 +10,12 @@ const E1: &[u8] = include_bytes!("../../examples/e1");
 const E1_TEXT: &str = "S[2,3]((N[1>2]r0+r1)*r2)";
 /// The witness of E1.
 const FEWEST: [u8; 6] = [2, 0, 4, 0, 8, 0];
-/// E2, the witness of E1 by lowest subsets.
-const WITNESS: [u8; 6] = [10, 0, 12, 0, 0, 0];
-/// The instantiation of the witness.
+/// Another schema that types E1: r0(a1, a3), r1(a2, a3), r2(a4).
+const SCHEMA: [u8; 6] = [10, 0, 12, 0, 16, 0];
+/// Its instantiation.
 const INSTANTIATION: [u8; 47] = {
     let mut bytes = [0; 47];
-    (bytes[0], bytes[1], bytes[2]) = (1, 2, 3);
+    (bytes[0], bytes[1], bytes[2], bytes[3]) = (1, 2, 3, 4);
     bytes
 };
 /// What slices hold before a call.
@@ -117,41 +117,58 @@ fn verdict_writes_the_witness() {
 }
 
 #[test]
-fn lowest_verdict_writes_the_witness_of_lowest_subsets() {
+fn verdict_fills_relations_with_ordinary_attributes() {
+    // E10: the selection {1} of r0 join r1, join ((r0 product r2) minus r3).
+    let file = [
+        4, 9, 1, 0, 1, 1, 14, 0, 1, 3, 26, 2, 5, 2, 0, 1, 2, 14, 0, 4, 4, 1, 3, 14, 5, 6, 2, 14, 3,
+        7, 3,
+    ];
     let (mut work, mut schema) = ([BEFORE; WORK_SIZE], [BEFORE; SCHEMA_SIZE]);
-    let given = lowest_verdict(E1, 7, &mut work, &mut schema);
-    assert_eq!(given, Err(Refusal::NodeNumber));
-    assert_stays(&work);
-    assert_stays(&schema);
-    let given = lowest_verdict(E1, 6, &mut work, &mut schema);
-    let witness = Schema::read(3, &WITNESS).expect("a schema");
-    assert_eq!(given, Ok(LowestVerdict::Typable(witness)));
-    assert_stays(&schema[WITNESS.len()..]);
+    let given = verdict(&file, 8, &mut work, &mut schema);
+    let Ok(Verdict::Typable {
+        witness,
+        memberships,
+    }) = given
+    else {
+        panic!("{given:?}")
+    };
+    assert_eq!(witness.to_string(), "r0(16), r1(a1), r2(17), r3(16, 17)");
+    assert_eq!(memberships, 5);
+    let length = witness.bytes().len();
+    assert_eq!(length, 19);
+    assert_stays(&schema[length..]);
 }
 
 #[test]
-fn verdicts_name_the_attribute_of_an_untypable_node() {
+fn verdict_names_the_attribute_of_an_untypable_node() {
     // E5: the selection {1,2} of the projection {2,3} of r0.
-    let file = [1, 3, 1, 0, 26, 0, 6, 12, 0, 26, 1, 5, 6, 0];
+    let blocked = [1, 3, 1, 0, 26, 0, 6, 12, 0, 26, 1, 5, 6, 0];
+    // E7: the product of r0 with itself.
+    let empty = [1, 2, 1, 0, 14, 0, 0, 4];
     let (mut work, mut schema) = ([BEFORE; WORK_SIZE], [BEFORE; SCHEMA_SIZE]);
-    let given = verdict(&file, 2, &mut work, &mut schema);
-    assert_eq!(given, Ok(Verdict::Untypable { attribute: 1 }));
-    let given = lowest_verdict(&file, 2, &mut work, &mut schema);
-    assert_eq!(given, Ok(LowestVerdict::Untypable { attribute: 1 }));
-    assert_stays(&schema);
+    for (file, node, attribute) in [(&blocked[..], 2, 1), (&empty, 1, 0)] {
+        let given = verdict(file, node, &mut work, &mut schema);
+        assert_eq!(given, Ok(Verdict::Untypable { attribute }));
+        assert_stays(&schema);
+        let formulas = Formulas::in_work_space(accept(file).expect("accepted"), &work);
+        let last = formulas.expect("long enough").last();
+        assert_eq!(last.untypable_attribute(), Some(attribute));
+    }
 }
 
 #[test]
 fn typing_writes_the_output_record() {
     let mut out = [BEFORE; OUTPUT_SIZE];
-    let e4 = [11, 0, 1, 20, 0, 12, 0, 0, 0];
+    let e4 = [11, 0, 1, 20, 0, 12, 0, 16, 0];
     assert_eq!(typing(E1, 6, &e4, &mut out), Ok(Typing::Untyped));
-    let given = typing(E1, 6, &WITNESS[..5], &mut out);
+    let given = typing(E1, 6, &SCHEMA[..5], &mut out);
     assert_eq!(given, Err(Refusal::InputTruncated));
+    let given = typing(E1, 6, &[10, 0, 12, 0, 0, 0], &mut out);
+    assert_eq!(given, Err(Refusal::EmptyRecord));
     assert_stays(&out);
-    let e3 = [11, 0, 1, 20, 0, 13, 0, 1, 20, 0, 0, 0];
+    let e3 = [11, 0, 1, 20, 0, 13, 0, 1, 20, 0, 16, 0];
     let given = typing(E1, 6, &e3, &mut out);
-    let output = TypeRecord::read(&[13, 0, 1, 20, 0]).expect("a record");
+    let output = TypeRecord::read(&[29, 0, 1, 20, 0]).expect("a record");
     assert_eq!(given, Ok(Typing::Typed(output)));
     assert_stays(&out[5..]);
 }
@@ -162,13 +179,17 @@ fn apply_writes_schema_and_output_record() {
     let (mut schema, mut out) = ([BEFORE; SCHEMA_SIZE], [BEFORE; OUTPUT_SIZE]);
     let given = apply(E1, 6, &[0; 47], &mut work, &mut schema, &mut out);
     assert_eq!(given, Err(Refusal::SpecialSubset));
+    let mut empty = INSTANTIATION;
+    empty[3] = 0;
+    let given = apply(E1, 6, &empty, &mut work, &mut schema, &mut out);
+    assert_eq!(given, Err(Refusal::EmptyImage));
     assert_stays(&schema);
     assert_stays(&out);
     let given = apply(E1, 6, &INSTANTIATION, &mut work, &mut schema, &mut out);
     let given = given.expect("applied");
-    assert_eq!(given.schema.bytes(), WITNESS);
-    assert_eq!(given.output.bytes(), [12, 0]);
-    assert_stays(&schema[WITNESS.len()..]);
+    assert_eq!(given.schema.bytes(), SCHEMA);
+    assert_eq!(given.output.bytes(), [28, 0]);
+    assert_stays(&schema[SCHEMA.len()..]);
     assert_stays(&out[2..]);
 }
 
@@ -176,12 +197,14 @@ fn apply_writes_schema_and_output_record() {
 fn recover_writes_the_instantiation() {
     let mut work = [BEFORE; WORK_SIZE];
     let mut result = [BEFORE; INSTANTIATION_SIZE];
-    let given = recover(E1, 6, &[0; 6], &mut work, &mut result);
+    let given = recover(E1, 6, &[2; 6], &mut work, &mut result);
     assert_eq!(given, Ok(Recovery::Untyped));
+    let given = recover(E1, 6, &[0; 6], &mut work, &mut result);
+    assert_eq!(given, Err(Refusal::EmptyRecord));
     let given = recover(E1, 6, &[0; 7], &mut work, &mut result);
     assert_eq!(given, Err(Refusal::InputFollowed));
     assert_stays(&result);
-    let given = recover(E1, 6, &WITNESS, &mut work, &mut result);
+    let given = recover(E1, 6, &SCHEMA, &mut work, &mut result);
     let wanted = Instantiation::read(&INSTANTIATION).expect("an instantiation");
     assert_eq!(given, Ok(Recovery::Recovered(wanted)));
     assert_stays(&result[INSTANTIATION.len()..]);

@@ -10,7 +10,6 @@ pub enum Operation {
     ReadNode,
     Formula,
     Verdict,
-    LowestVerdict,
     Typing,
     Apply,
     Recover,
@@ -18,13 +17,12 @@ pub enum Operation {
 }
 
 /// All operations, each at the place of its number.
-pub const OPERATIONS: [Operation; 10] = [
+pub const OPERATIONS: [Operation; 9] = [
     Operation::Accept,
     Operation::Record,
     Operation::ReadNode,
     Operation::Formula,
     Operation::Verdict,
-    Operation::LowestVerdict,
     Operation::Typing,
     Operation::Apply,
     Operation::Recover,
@@ -39,7 +37,6 @@ impl Operation {
             Operation::ReadNode => "read node",
             Operation::Formula => "Formula",
             Operation::Verdict => "Verdict",
-            Operation::LowestVerdict => "Verdict by lowest subsets",
             Operation::Typing => "Typing",
             Operation::Apply => "Apply",
             Operation::Recover => "Recover",
@@ -51,7 +48,7 @@ impl Operation {
 /// The number for a result.
 pub const RESULT: u8 = 0;
 /// The greatest refusal number.
-pub const GREATEST_REFUSAL: u8 = 24;
+pub const GREATEST_REFUSAL: u8 = 26;
 /// The number for untyped and for untypable.
 pub const NO_TYPE: u8 = 255;
 

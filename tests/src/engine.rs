@@ -4,9 +4,9 @@
 //! The wrappers are inline, so that the benchmark measures the C functions alone.
 
 use type_formula::c::{
-    type_formula_accept, type_formula_apply, type_formula_formula, type_formula_lowest_verdict,
-    type_formula_parse_query, type_formula_read_node, type_formula_record, type_formula_recover,
-    type_formula_typing, type_formula_verdict,
+    type_formula_accept, type_formula_apply, type_formula_formula, type_formula_parse_query,
+    type_formula_read_node, type_formula_record, type_formula_recover, type_formula_typing,
+    type_formula_verdict,
 };
 pub use type_formula::c::{UNTYPABLE, UNTYPED};
 
@@ -82,31 +82,6 @@ pub fn verdict(
             schema.len(),
             &mut found.value,
             &mut found.memberships,
-        )
-    }
-}
-
-/// The verdict by lowest subsets: as Verdict, without the number of memberships.
-#[inline]
-pub fn lowest_verdict(
-    file: &[u8],
-    node: usize,
-    work: &mut [u8],
-    schema: &mut [u8],
-    value: &mut usize,
-) -> u8 {
-    // SAFETY: pointers and lengths are those of slices; work space, schema and value
-    // are writable.
-    unsafe {
-        type_formula_lowest_verdict(
-            file.as_ptr(),
-            file.len(),
-            node,
-            work.as_mut_ptr(),
-            work.len(),
-            schema.as_mut_ptr(),
-            schema.len(),
-            value,
         )
     }
 }

@@ -1,4 +1,4 @@
-//! Examples of document 01 with the formula, verdicts, typings and listing of their last
+//! Examples of documents 01 and 02 with the formula, verdict, typings and listing of their last
 //! node.
 
 use crate::examples::{e10_nodes, e1_nodes};
@@ -16,32 +16,13 @@ pub struct FormulaExample {
     pub columns: &'static [(usize, &'static str)],
     /// The allowed subsets of each column that is not listed.
     pub other_columns: &'static str,
-    /// What the verdicts give, or the attribute whose column allows nothing.
-    pub verdict: Result<Witnesses, u8>,
+    /// The witness as hexadecimal pairs and how many memberships it has, or the attribute with
+    /// which the node is untypable.
+    pub verdict: Result<(&'static str, u8), u8>,
     /// Schemas with the output record under them, none if untyped; hexadecimal pairs.
     pub typings: &'static [(&'static str, Option<&'static str>)],
     /// The text that the listing program prints.
     pub listing: &'static str,
-}
-
-/// The witnesses of a typable node, as hexadecimal pairs.
-#[derive(Clone, Copy)]
-pub struct Witnesses {
-    /// Verdict's.
-    pub fewest: &'static str,
-    /// How many memberships it has.
-    pub memberships: u8,
-    /// That by lowest subsets.
-    pub lowest: &'static str,
-}
-
-/// Both verdicts have this witness.
-const fn one_witness(witness: &'static str, memberships: u8) -> Result<Witnesses, u8> {
-    Ok(Witnesses {
-        fewest: witness,
-        memberships,
-        lowest: witness,
-    })
 }
 
 impl FormulaExample {
@@ -98,11 +79,14 @@ a2: 02+ 06+
 a3: 03+ 04+ 07+
 ";
 
-/// Verdict's witness of E1.
+/// The witness of E1.
 pub const E1_WITNESS: &str = "02 00 04 00 08 00";
 
-/// The witness of E1 by lowest subsets.
+/// The schema of E2, in which r2 has no attribute.
 pub const E2_SCHEMA: &str = "0a 00 0c 00 00 00";
+
+/// The same with attribute 4 in r2, to which E3 and E4 add.
+pub const FILLED_SCHEMA: &str = "0a 00 0c 00 10 00";
 
 /// The columns of E1's last node: the first byte of the allowed and of the output
 /// subsets; all other bytes are zero.
@@ -128,7 +112,7 @@ pub fn assert_e1_columns(work: &[u8]) {
     }
 }
 
-/// E1 with Verdict's witness and that of E2.
+/// E1 with its witness.
 fn e1() -> FormulaExample {
     FormulaExample {
         name: "E1",
@@ -136,14 +120,10 @@ fn e1() -> FormulaExample {
         nodes: e1_nodes(),
         columns: &[(1, "01- 05+"), (2, "02+ 06+"), (3, "03+ 04+ 07+")],
         other_columns: "00- 03+ 04+ 07+",
-        verdict: Ok(Witnesses {
-            fewest: E1_WITNESS,
-            memberships: 3,
-            lowest: E2_SCHEMA,
-        }),
+        verdict: Ok((E1_WITNESS, 3)),
         typings: &[
             (E1_WITNESS, Some("0c 00")),
-            ("0a 00 0d 00 01 14 00 00 00", None),
+            ("0a 00 0d 00 01 14 00 10 00", None),
             ("0a 00 0c 00 01 00 01 14 00", Some("0d 00 01 14 00")),
             ("0b 00 01 14 00 0c 00 01 00 01 14 00", None),
             (
@@ -155,12 +135,12 @@ fn e1() -> FormulaExample {
                 Some("0d 00 03 10 00 00 01 ff ff"),
             ),
             ("0a 00 0c 00 fe ff", Some("fe ff")),
-            ("fa ff fc ff 00 00", Some("fc ff")),
-            ("08 00 0c 00 00 00", None),
-            ("0e 00 0c 00 00 00", None),
-            ("0a 00 0e 00 00 00", None),
-            ("02 00 04 00 00 00", None),
-            ("00 00 00 00 00 00", None),
+            ("fa ff fc ff 10 00", Some("fc ff")),
+            ("08 00 0c 00 10 00", None),
+            ("0e 00 0c 00 10 00", None),
+            ("0a 00 0e 00 10 00", None),
+            ("02 00 04 00 10 00", None),
+            ("10 00 10 00 10 00", None),
         ],
         listing: E1_LISTING,
     }
@@ -179,7 +159,7 @@ fn e5() -> FormulaExample {
         columns: &[(1, ""), (2, "01+"), (3, "01+")],
         other_columns: "00- 01-",
         verdict: Err(1),
-        typings: &[("00 00", None), ("0e 00", None), ("fe ff", None)],
+        typings: &[("0c 00", None), ("0e 00", None), ("fe ff", None)],
         listing: "\
 node 2 untypable
 r0: 01
@@ -205,7 +185,7 @@ fn e6() -> FormulaExample {
         columns: &[(1, "")],
         other_columns: "00- 01+",
         verdict: Err(1),
-        typings: &[("00 00", None), ("02 00", None), ("04 00", None)],
+        typings: &[("02 00", None), ("04 00", None), ("06 00", None)],
         listing: "\
 node 1 untypable
 r0: 01
@@ -223,15 +203,10 @@ fn e7() -> FormulaExample {
         nodes: vec![relation(0), Node::Product { left: 0, right: 0 }],
         columns: &[],
         other_columns: "00-",
-        verdict: one_witness("00 00", 0),
-        typings: &[
-            ("00 00", Some("00 00")),
-            ("02 00", None),
-            ("00 80", None),
-            ("01 00 01 14 00", None),
-        ],
+        verdict: Err(0),
+        typings: &[("02 00", None), ("00 80", None), ("01 00 01 14 00", None)],
         listing: "\
-node 1 typable
+node 1 untypable
 r0:
 out:
 ",
@@ -246,9 +221,10 @@ fn e8() -> FormulaExample {
         nodes: vec![relation(0), projection(0, 0)],
         columns: &[],
         other_columns: "00- 01-",
-        verdict: one_witness("00 00", 0),
+        verdict: Ok(("01 00 01 10 00", 1)),
         typings: &[
-            ("00 00", Some("00 00")),
+            ("01 00 01 10 00", Some("00 00")),
+            ("02 00", Some("00 00")),
             ("fe ff", Some("00 00")),
             ("ff ff 02 10 00 ff ff", Some("00 00")),
         ],
@@ -269,15 +245,15 @@ fn e9() -> FormulaExample {
         nodes: vec![relation(0), relation(1), projection(1, 0b10), union],
         columns: &[(1, "03+")],
         other_columns: "00- 02-",
-        verdict: one_witness("02 00 02 00", 2),
+        verdict: Ok(("02 00 02 00", 2)),
         typings: &[
             ("02 00 02 00", Some("02 00")),
             ("02 00 03 00 01 14 00", Some("02 00")),
             ("02 00 fe ff", Some("02 00")),
             ("03 00 01 14 00 03 00 01 14 00", None),
             ("03 00 01 14 00 02 00", None),
-            ("02 00 00 00", None),
-            ("00 00 02 00", None),
+            ("02 00 04 00", None),
+            ("04 00 02 00", None),
             ("06 00 06 00", None),
         ],
         listing: "\
@@ -298,17 +274,25 @@ fn e10() -> FormulaExample {
         nodes: e10_nodes(),
         columns: &[(1, "02+ 09+ 0b+ 0e+")],
         other_columns: "00- 02+ 09+ 0b+ 0c+ 0e+",
-        verdict: one_witness("00 00 02 00 00 00 00 00", 1),
+        verdict: Ok((
+            "01 00 01 10 00 02 00 01 00 01 11 00 01 00 02 10 00 11 00",
+            5,
+        )),
         typings: &[
-            ("00 00 02 00 00 00 00 00", Some("02 00")),
-            ("02 00 00 00 00 00 02 00", Some("02 00")),
             (
                 "01 00 01 10 00 02 00 01 00 01 11 00 01 00 02 10 00 11 00",
                 Some("03 00 02 10 00 11 00"),
             ),
-            ("00 00 00 00 00 00 00 00", None),
-            ("02 00 00 00 02 00 02 00", None),
-            ("00 00 00 00 02 00 02 00", None),
+            (
+                "02 00 01 00 01 10 00 01 00 01 11 00 03 00 01 11 00",
+                Some("03 00 02 10 00 11 00"),
+            ),
+            (
+                "01 00 01 10 00 04 00 01 00 01 11 00 01 00 02 10 00 11 00",
+                None,
+            ),
+            ("02 00 04 00 02 00 02 00", None),
+            ("01 00 01 10 00 04 00 02 00 03 00 01 10 00", None),
             ("04 00 02 00 04 00 04 00", None),
         ],
         listing: "\
@@ -323,8 +307,8 @@ a1: 02+ 09+ 0b+ 0e+
     }
 }
 
-/// Selection {1} of ((r0 union r1) join r2) join r3: two subsets have the fewest members,
-/// and neither is the lowest.
+/// Selection {1} of ((r0 union r1) join r2) join r3: attribute 1 may be in any part of a partition
+/// of the relations; the lowest subset wins, and then the lower variables.
 fn tie() -> FormulaExample {
     let (union, join) = (
         Node::Union { left: 0, right: 1 },
@@ -347,16 +331,18 @@ fn tie() -> FormulaExample {
         ],
         columns: &[(1, "03+ 04+ 07+ 08+ 0b+ 0c+ 0f+")],
         other_columns: "00- 03+ 04+ 07+ 08+ 0b+ 0c+ 0f+",
-        verdict: Ok(Witnesses {
-            fewest: "00 00 00 00 02 00 00 00",
-            memberships: 1,
-            lowest: "02 00 02 00 00 00 00 00",
-        }),
+        verdict: Ok(("02 00 02 00 01 00 01 10 00 01 00 01 11 00", 4)),
         typings: &[
-            ("00 00 00 00 02 00 00 00", Some("02 00")),
-            ("02 00 02 00 00 00 00 00", Some("02 00")),
-            ("02 00 00 00 00 00 00 00", None),
-            ("00 00 00 00 00 00 00 00", None),
+            (
+                "02 00 02 00 01 00 01 10 00 01 00 01 11 00",
+                Some("03 00 02 10 00 11 00"),
+            ),
+            (
+                "01 00 01 10 00 01 00 01 10 00 02 00 01 00 01 11 00",
+                Some("03 00 02 10 00 11 00"),
+            ),
+            ("02 00 04 00 02 00 02 00", None),
+            ("04 00 04 00 08 00 08 00", None),
         ],
         listing: "\
 node 7 typable
@@ -370,7 +356,7 @@ a1: 03+ 04+ 07+ 08+ 0b+ 0c+ 0f+
     }
 }
 
-/// E1 with the witness of E2, E5 to E10, and one with a tie.
+/// E1, E5 to E10, and one with a tie.
 pub fn formula_examples() -> Vec<FormulaExample> {
     vec![e1(), e5(), e6(), e7(), e8(), e9(), e10(), tie()]
 }

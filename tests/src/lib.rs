@@ -33,6 +33,8 @@ pub mod query_examples;
 pub mod query_trees;
 /// Random attributes and assignments.
 pub mod random_assignments;
+/// Random columns to choose a cover from, and files by how their relations are filled.
+pub mod random_covers;
 /// Random nodes and expression files.
 pub mod random_expressions;
 /// Random instantiations, alone and with files.

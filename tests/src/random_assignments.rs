@@ -23,9 +23,11 @@ impl Random {
         attributes
     }
 
-    /// The image of an instantiation as above.
+    /// The image of an instantiation of the formula, in which most often every relation has an
+    /// attribute.
     pub fn image(&mut self, formula: &Formula, relations: u8, ordinary: usize) -> Vec<Type> {
-        self.instantiation(formula, ordinary).image(relations)
+        let instantiation = self.likely_instantiation(formula, relations, ordinary);
+        instantiation.image(relations)
     }
 
     /// An attribute that some relation has, if there is one; one time in four any.
@@ -52,10 +54,14 @@ impl Random {
         }
     }
 
-    /// The bytes of m type records without ordinary attributes.
+    /// The bytes of m type records without ordinary attributes; one time in eight one is empty.
     pub fn records_of_maps(&mut self, relations: u8) -> Vec<u8> {
         let mut maps = self.bytes(2 * usize::from(relations));
         maps.iter_mut().step_by(2).for_each(|low| *low &= 0xfe);
+        if self.below(8) == 0 {
+            let start = 2 * self.below(usize::from(relations));
+            maps[start..start + 2].fill(0);
+        }
         maps
     }
 

@@ -3,25 +3,52 @@
 use crate::input::Input;
 use crate::pseudorandom::Random;
 use crate::reference::{
-    allowed_subsets, encode_instantiation, type_variables, untypable_attribute, Formula,
-    Instantiation, Type, COLUMN_LENGTH, OUTPUT_START,
+    allowed_subsets, best_cover, encode_instantiation, type_variables, untypable_attribute,
+    Formula, Instantiation, Type, COLUMN_LENGTH, OUTPUT_START,
 };
 
 /// The most ordinary attributes of an instantiation that is disturbed, so that none of its
 /// lists and none of its image's records gets more than 255.
 pub const MOST_IN_DISTURBED: usize = 250;
 
+/// The most ordinary attributes of an instantiation that gets one for each of some relations.
+const MOST_BEFORE_FILLED: usize = 240;
+
+/// The relation count of a file with these formulas: node 0 is a relation, which allows all subsets.
+fn relation_count(formulas: &[Formula]) -> u8 {
+    allowed_subsets(&formulas[0], 0).len().ilog2() as u8
+}
+
+/// Whether the relation belongs to the subset.
+fn is_member(relation: u8, s: usize) -> bool {
+    s >> relation & 1 == 1
+}
+
+/// The relations that have no attribute in the image: they are in no subset and in none of the
+/// lists.
+fn empty_relations(instantiation: &Instantiation, relations: u8) -> Vec<u8> {
+    let subsets = instantiation.subsets.map(usize::from).into_iter();
+    let all = subsets.chain(instantiation.lists.keys().copied());
+    let filled = all.fold(0, |filled, s| filled | s);
+    (0..relations)
+        .filter(|&relation| !is_member(relation, filled))
+        .collect()
+}
+
 /// The typable node whose columns allow the fewest subsets in all.
 fn strictest_typable(formulas: &[Formula]) -> usize {
+    let relations = relation_count(formulas);
     let allowed = |node: &usize| -> u32 {
         let columns = formulas[*node].chunks_exact(COLUMN_LENGTH);
         let bytes = columns.flat_map(|column| &column[..OUTPUT_START]);
         bytes.map(|byte| byte.count_ones()).sum()
     };
-    let is_typable = |node: &usize| untypable_attribute(&formulas[*node]).is_none();
-    (0..formulas.len())
-        .filter(is_typable)
-        .min_by_key(allowed)
+    let is_typable = |node: &usize| untypable_attribute(&formulas[*node], relations).is_none();
+    let mut nodes: Vec<usize> = (0..formulas.len()).collect();
+    nodes.sort_by_cached_key(allowed);
+    nodes
+        .into_iter()
+        .find(is_typable)
         .expect("node 0 is typable")
 }
 
@@ -60,6 +87,95 @@ impl Random {
             }
         }
         instantiation
+    }
+
+    /// An ordinary attribute that no list has.
+    fn new_attribute(&mut self, instantiation: &Instantiation) -> u32 {
+        loop {
+            let attribute = self.ordinary_attribute();
+            if !instantiation
+                .lists
+                .values()
+                .flatten()
+                .any(|&each| each == attribute)
+            {
+                return attribute;
+            }
+        }
+    }
+
+    /// Gives every relation an attribute, if that can be: a relation that has none gets an ordinary
+    /// one, in the list of a variable that it declares; where it declares none, the special
+    /// attributes have the subsets of the best cover.
+    fn fill(&mut self, formula: &Formula, relations: u8, instantiation: &mut Instantiation) {
+        let variables = type_variables(formula);
+        let declared = |relation| variables.iter().any(|&s| is_member(relation, s));
+        let empty = empty_relations(instantiation, relations);
+        if !empty.is_empty() && instantiation.lists.values().flatten().count() > MOST_BEFORE_FILLED
+        {
+            instantiation.lists.clear();
+        }
+        if let (false, Some(cover)) = (
+            empty.into_iter().all(declared),
+            best_cover(formula, relations),
+        ) {
+            instantiation.subsets = cover.subsets;
+        }
+        for relation in 0..relations {
+            let is_empty = empty_relations(instantiation, relations).contains(&relation);
+            if is_empty && declared(relation) {
+                let with = variables.iter().filter(|&&s| is_member(relation, s));
+                let with: Vec<usize> = with.copied().collect();
+                let attribute = self.new_attribute(instantiation);
+                instantiation.insert(with[self.below(with.len())], attribute);
+            }
+        }
+    }
+
+    /// An instantiation as above whose image gives every relation an attribute, if that can be.
+    pub fn filled_instantiation(
+        &mut self,
+        formula: &Formula,
+        relations: u8,
+        ordinary: usize,
+    ) -> Instantiation {
+        let mut instantiation = self.instantiation(formula, ordinary);
+        self.fill(formula, relations, &mut instantiation);
+        instantiation
+    }
+
+    /// An instantiation as above whose image gives one relation no attribute, if that can be.
+    pub fn emptied_instantiation(
+        &mut self,
+        formula: &Formula,
+        relations: u8,
+        ordinary: usize,
+    ) -> Instantiation {
+        let mut instantiation = self.instantiation(formula, ordinary);
+        let relation = self.between(0, relations - 1);
+        for (column, subset) in (1..).zip(&mut instantiation.subsets) {
+            let mut without = allowed_subsets(formula, column);
+            without.retain(|&s| !is_member(relation, s));
+            if is_member(relation, usize::from(*subset)) && !without.is_empty() {
+                *subset = without[self.below(without.len())] as u8;
+            }
+        }
+        instantiation.lists.retain(|&s, _| !is_member(relation, s));
+        instantiation
+    }
+
+    /// An instantiation as above, most often filled.
+    pub fn likely_instantiation(
+        &mut self,
+        formula: &Formula,
+        relations: u8,
+        ordinary: usize,
+    ) -> Instantiation {
+        match self.below(16) {
+            0 => self.emptied_instantiation(formula, relations, ordinary),
+            1 => self.instantiation(formula, ordinary),
+            _ => self.filled_instantiation(formula, relations, ordinary),
+        }
     }
 
     /// A subset of m relations; sometimes the empty one, sometimes any of 256.
@@ -124,7 +240,8 @@ impl Random {
         let input = Input::new(self.likely_file(relations, count));
         let node = self.likely_node(input.formulas());
         let ordinary = self.ordinary_count(most);
-        let instantiation = self.instantiation(&input.formulas()[node], ordinary);
+        let formula = &input.formulas()[node];
+        let instantiation = self.likely_instantiation(formula, relations, ordinary);
         (input, node, instantiation)
     }
 

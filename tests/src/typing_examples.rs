@@ -1,10 +1,12 @@
-//! Calls of Typing with their answers: examples, edges and orders of document 01.
+//! Calls of Typing with their answers: examples, edges and orders of documents 01 and 02.
 
 use std::ops::Range;
 
 use crate::examples::{e1, from_hexadecimal, join_of_eight};
-use crate::formula_examples::{formula_examples, E2_SCHEMA};
-use crate::reference::{encode_file, encode_record, encode_schema, Type, OUTPUT_LENGTH};
+use crate::formula_examples::{formula_examples, E2_SCHEMA, FILLED_SCHEMA};
+use crate::reference::{
+    encode_file, encode_record, encode_schema, read_schema, Type, OUTPUT_LENGTH,
+};
 
 /// The output record, none if untyped, or the first refusal.
 pub type Answer<Record> = Result<Option<Record>, u8>;
@@ -19,10 +21,10 @@ pub struct TypingCase {
     pub answer: Answer<Vec<u8>>,
 }
 
-/// E2's schema with 20 added to r0 and r1.
-pub const E3_SCHEMA: &str = "0b 00 01 14 00 0d 00 01 14 00 00 00";
-/// E2's schema with 20 added to r0 only.
-pub const E4_SCHEMA: &str = "0b 00 01 14 00 0c 00 00 00";
+/// E2's schema with 4 in r2, and with 20 added to r0 and r1.
+pub const E3_SCHEMA: &str = "0b 00 01 14 00 0d 00 01 14 00 10 00";
+/// E2's schema with 4 in r2, and with 20 added to r0 only.
+pub const E4_SCHEMA: &str = "0b 00 01 14 00 0c 00 10 00";
 
 /// A call for E1's last node; schema and output record as hexadecimal pairs.
 fn e1_case(name: &'static str, schema: &str, answer: Answer<&str>) -> TypingCase {
@@ -39,8 +41,8 @@ fn e1_case(name: &'static str, schema: &str, answer: Answer<&str>) -> TypingCase
 /// E2, E3 and E4, which are about E1's last node.
 pub fn e2_to_e4() -> [TypingCase; 3] {
     [
-        e1_case("E2", E2_SCHEMA, Ok(Some("0c 00"))),
-        e1_case("E3", E3_SCHEMA, Ok(Some("0d 00 01 14 00"))),
+        e1_case("E2", E2_SCHEMA, Err(25)),
+        e1_case("E3", E3_SCHEMA, Ok(Some("1d 00 01 14 00"))),
         e1_case("E4", E4_SCHEMA, Ok(None)),
     ]
 }
@@ -182,7 +184,7 @@ const NODES_UNDER_E4: [(&str, usize, Option<&str>); 7] = [
     ("E4, renaming", 1, Some("0d 00 01 14 00")),
     ("E4, r1", 2, Some("0c 00")),
     ("E4, union", 3, None),
-    ("E4, r2", 4, Some("00 00")),
+    ("E4, r2", 4, Some("10 00")),
     ("E4, join", 5, None),
     ("E4, selection", 6, None),
 ];
@@ -196,7 +198,7 @@ fn nodes_under_e4() -> impl Iterator<Item = TypingCase> {
         })
 }
 
-/// Calls for E1 with E2's or another schema: name, bytes after the file, node, schema,
+/// Calls for E1 with a schema that types it or another one: name, bytes after the file, node, schema,
 /// length of the result slice, answer.
 type Call = (
     &'static str,
@@ -207,19 +209,27 @@ type Call = (
     Answer<&'static str>,
 );
 
-const CALLS_FOR_E1: [Call; 12] = [
+const CALLS_FOR_E1: [Call; 13] = [
     ("10 before 11, 13, 14", &[0], 7, "", 0, Err(10)),
     ("11 before 13, 14", &[], 7, "", 0, Err(11)),
-    ("node 64", &[], 64, E2_SCHEMA, 513, Err(11)),
-    ("node 262", &[], 262, E2_SCHEMA, 513, Err(11)),
-    ("greatest number", &[], usize::MAX, E2_SCHEMA, 513, Err(11)),
+    ("node 64", &[], 64, FILLED_SCHEMA, 513, Err(11)),
+    ("node 262", &[], 262, FILLED_SCHEMA, 513, Err(11)),
+    (
+        "greatest number",
+        &[],
+        usize::MAX,
+        FILLED_SCHEMA,
+        513,
+        Err(11),
+    ),
     ("13 before 14", &[], 6, "", 512, Err(13)),
     ("13 before 15", &[], 6, "01 00 00", 0, Err(13)),
     ("13 before 16", &[], 6, "01 00 01 0f 00", 512, Err(13)),
     ("13 before 17", &[], 6, "00 00 00 00 00 00 00", 512, Err(13)),
     ("13 before untyped", &[], 6, E4_SCHEMA, 512, Err(13)),
-    ("13 before typed", &[], 6, E2_SCHEMA, 2, Err(13)),
-    ("514 bytes", &[], 6, E2_SCHEMA, 514, Ok(Some("0c 00"))),
+    ("13 before 25", &[], 6, E2_SCHEMA, 512, Err(13)),
+    ("13 before typed", &[], 6, FILLED_SCHEMA, 2, Err(13)),
+    ("514 bytes", &[], 6, FILLED_SCHEMA, 514, Ok(Some("1c 00"))),
 ];
 
 fn calls_for_e1() -> impl Iterator<Item = TypingCase> {
@@ -248,11 +258,11 @@ pub fn in_each_of_eight(attributes: Range<u32>) -> Vec<Type> {
     vec![attributes.collect(); 8]
 }
 
-/// Eight sets, the first and the last with these attributes.
+/// Eight sets with attribute 15, the first and the last with these attributes too.
 fn in_first_and_last(first: Range<u32>, last: Range<u32>) -> Vec<Type> {
-    let mut schema = vec![Type::new(); 8];
-    schema[0] = first.collect();
-    schema[7] = last.collect();
+    let mut schema = vec![Type::from([15]); 8];
+    schema[0].extend(first);
+    schema[7].extend(last);
     schema
 }
 
@@ -276,8 +286,8 @@ fn in_some_relations() -> [Joined; 7] {
     let some = in_first_and_last;
     let spread = spread_over_eight;
     [
-        ("255 in r0", some(16..271, 0..0), Ok(16..271)),
-        ("255 in r0 and r7", some(16..270, 270..271), Ok(16..271)),
+        ("255 in r0", some(16..271, 0..0), Ok(15..271)),
+        ("255 in r0 and r7", some(16..270, 270..271), Ok(15..271)),
         ("256 in r0 and r7", some(16..271, 271..272), Err(18)),
         ("510 in r0 and r7", some(16..271, 271..526), Err(18)),
         ("255 spread over eight", spread(16..271), Ok(16..271)),
@@ -312,7 +322,7 @@ fn in_each_relation_or_with_special() -> [Joined; 6] {
             spread(1..272),
             Err(18),
         ),
-        ("eight empty records", each(0..0), Ok(0..0)),
+        ("eight empty records", each(0..0), Err(25)),
     ]
 }
 
@@ -352,6 +362,58 @@ fn changed_schemas_for_join_of_eight() -> Vec<TypingCase> {
     ]
 }
 
+/// An empty record at each place, or at all but one, of a schema of E1 that its last node is typed
+/// or not typed under: the answer is the same for each node.
+fn empty_records_for_e1() -> Vec<TypingCase> {
+    let mut cases = Vec::new();
+    for schema in [FILLED_SCHEMA, E3_SCHEMA, E4_SCHEMA, "02 00 04 00 08 00"] {
+        for place in 0..3 {
+            for is_alone in [true, false] {
+                let mut sets = read_schema(3, &from_hexadecimal(schema)).expect("filled");
+                let others = (0..3).filter(|&other| (other == place) == is_alone);
+                others.for_each(|other| sets[other].clear());
+                let of_node = |node| TypingCase {
+                    node,
+                    schema: encode_schema(&sets),
+                    ..e1_case("an empty record", schema, Err(25))
+                };
+                cases.extend((0..7).map(of_node));
+            }
+        }
+    }
+    cases
+}
+
+/// Eight sets of which one is empty, and faults that come before that: over 255 attributes, bytes
+/// left over, and a record that is cut, has count byte 0 or lists 15.
+fn empty_records_for_join_of_eight() -> Vec<TypingCase> {
+    let mut cases = Vec::new();
+    for place in 0..8 {
+        let emptied = |mut sets: Vec<Type>| {
+            sets[place].clear();
+            encode_schema(&sets)
+        };
+        let (each, spread) = (in_each_of_eight, spread_over_eight);
+        for (name, attributes) in [("special", 1..16), ("ordinary", 16..17), ("255", 16..271)] {
+            cases.push(join_case(name, emptied(each(attributes)), Err(25)));
+        }
+        cases.push(join_case("255 spread", emptied(spread(16..271)), Err(25)));
+        cases.push(join_case("300 spread", emptied(spread(16..316)), Err(18)));
+        let special = emptied(each(1..2));
+        let with = |bytes: &[u8]| [&special[..], bytes].concat();
+        let front = |bytes: &[u8]| [&special[..14], bytes].concat();
+        cases.extend([
+            join_case("a byte left over", with(&[0]), Err(17)),
+            join_case("an empty record left over", with(&[0, 0]), Err(17)),
+            join_case("a byte cut", special[..15].to_vec(), Err(14)),
+            join_case("count byte 0", front(&[1, 0, 0]), Err(15)),
+            join_case("15 listed", front(&[1, 0, 1, 15, 0]), Err(16)),
+            join_case("no list", front(&[1, 0]), Err(14)),
+        ]);
+    }
+    cases
+}
+
 /// All calls of known answers.
 pub fn typing_cases() -> Vec<TypingCase> {
     e2_to_e4()
@@ -362,5 +424,7 @@ pub fn typing_cases() -> Vec<TypingCase> {
         .chain(calls_for_e1())
         .chain(schemas_for_join_of_eight())
         .chain(changed_schemas_for_join_of_eight())
+        .chain(empty_records_for_e1())
+        .chain(empty_records_for_join_of_eight())
         .collect()
 }

@@ -17,6 +17,7 @@ use crate::{Refusal, Schema, MOST_RELATIONS, SCHEMA_SIZE};
 /// assert_eq!(schema.schema()?.bytes(), [0x0a, 0, 0x0d, 0, 1, 20, 0]);
 ///
 /// assert_eq!(schema.relation([0]), Err(Refusal::Attribute));
+/// assert_eq!(schema.relation([]), Err(Refusal::EmptyRecord));
 /// # Ok::<(), Refusal>(())
 /// ```
 #[derive(Clone, Debug)]
@@ -64,7 +65,7 @@ impl SchemaBuilder {
     }
 
     /// Adds the next relation with these attributes, and gives its number. Refusals: 2 where there
-    /// are eight relations, 9 for attribute 0, and 18.
+    /// are eight relations, 9 for attribute 0, 18, and 25 without an attribute.
     pub fn relation(&mut self, attributes: impl IntoIterator<Item = u16>) -> Result<u8, Refusal> {
         if usize::from(self.relations) == MOST_RELATIONS {
             return Err(Refusal::RelationCount);

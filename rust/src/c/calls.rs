@@ -2,9 +2,9 @@
 //! of a slice belong together, no pointer is null, and exclusive references overlap nothing.
 
 use super::{
-    type_formula_accept, type_formula_apply, type_formula_formula, type_formula_lowest_verdict,
-    type_formula_parse_query, type_formula_read_node, type_formula_record, type_formula_recover,
-    type_formula_typing, type_formula_verdict,
+    type_formula_accept, type_formula_apply, type_formula_formula, type_formula_parse_query,
+    type_formula_read_node, type_formula_record, type_formula_recover, type_formula_typing,
+    type_formula_verdict,
 };
 
 /// The lengths that Apply writes.
@@ -54,28 +54,6 @@ pub fn verdict(
             schema.len(),
             value,
             memberships,
-        )
-    }
-}
-
-pub fn lowest_verdict(
-    file: &[u8],
-    node: usize,
-    work: &mut [u8],
-    schema: &mut [u8],
-    value: &mut usize,
-) -> u8 {
-    // SAFETY: as in `accept`.
-    unsafe {
-        type_formula_lowest_verdict(
-            file.as_ptr(),
-            file.len(),
-            node,
-            work.as_mut_ptr(),
-            work.len(),
-            schema.as_mut_ptr(),
-            schema.len(),
-            value,
         )
     }
 }

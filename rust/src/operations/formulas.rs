@@ -1,4 +1,4 @@
-//! Formula, Verdict and the verdict by lowest subsets.
+//! Formula and Verdict.
 
 use crate::c::{calls, UNTYPABLE};
 use crate::{Expression, Formulas, Refusal, Schema};
@@ -33,27 +33,32 @@ pub fn formula<'a>(file: &'a [u8], work: &'a mut [u8]) -> Result<Formulas<'a>, R
 /// What [`verdict`] answers.
 #[derive(Clone, Copy, Debug, PartialEq, Eq)]
 pub enum Verdict<'a> {
-    /// Some schema types the node.
+    /// Some schema in which every relation has an attribute types the node.
     Typable {
         /// The witness, which is the part written of the schema slice.
         witness: Schema<'a>,
-        /// How many attributes its tables have in all. No schema that types the node has fewer.
+        /// How many attributes its tables have in all. No such schema has fewer.
         memberships: u8,
     },
-    /// No schema types the node.
+    /// No such schema types the node.
     Untypable {
-        /// The lowest special attribute whose column allows nothing.
+        /// The lowest special attribute whose column allows nothing, or 0 where each allows
+        /// something and the relations cannot all get an attribute.
         attribute: u8,
     },
 }
 
-/// Verdict: whether some schema types the node. The witness is the schema in which each special
-/// attribute has the allowed subset with the fewest relations, of those the lowest, and no ordinary
-/// attribute occurs: load it as an empty database, and it has no column that the query does not
-/// need. Refusals: 1 to 13.
+/// Verdict: whether some schema types the node, of those in which every relation has an attribute.
+/// The witness is one with the fewest memberships: load it as an empty database, and no table lacks
+/// a column, and there is none that can be spared. Refusals: 1 to 13.
+///
+/// The witness may have ordinary attributes, from 16 on: each is in the relations of a type
+/// variable, in rising order of these. Of several schemas with as few memberships it is the one
+/// with the lower subset at the first of attributes 1 to 15 that differs, and then the one whose
+/// list of variables is lower at the first difference.
 ///
 /// Unless it refuses, it fills the work space as [`formula`] does. The schema slice stays beyond
-/// the witness, and whole where there is none.
+/// the witness, and whole where there is none. A call uses up to about 6 KiB of stack.
 ///
 /// ```
 /// use type_formula::{verdict, Refusal, Verdict, SCHEMA_SIZE, WORK_SIZE};
@@ -73,10 +78,25 @@ pub enum Verdict<'a> {
 ///     untypable => panic!("{untypable:?}"),
 /// }
 ///
+/// // σ{1}(r0) ⋈ r1. Attribute 1 is needed in r0; r1 gets an ordinary attribute.
+/// let join = [2, 4, 0x01, 0, 0x1a, 0, 5, 2, 0, 0x01, 1, 0x0e, 1, 2, 3];
+/// match verdict(&join, 3, &mut work, &mut schema)? {
+///     Verdict::Typable { witness, memberships } => {
+///         assert_eq!(witness.to_string(), "r0(a1), r1(16)");
+///         assert_eq!(memberships, 2);
+///     }
+///     untypable => panic!("{untypable:?}"),
+/// }
+///
 /// // E6: attribute 1 of r0 renamed into 1.
 /// let renaming = [1, 2, 0x01, 0, 0x62, 0, 1, 1];
 /// let given = verdict(&renaming, 1, &mut work, &mut schema);
 /// assert_eq!(given, Ok(Verdict::Untypable { attribute: 1 }));
+///
+/// // E7: r0 × r0. No attribute may be in r0, which would then be empty.
+/// let product = [1, 2, 0x01, 0, 0x0e, 0, 0, 4];
+/// let given = verdict(&product, 1, &mut work, &mut schema);
+/// assert_eq!(given, Ok(Verdict::Untypable { attribute: 0 }));
 /// # Ok::<(), Refusal>(())
 /// ```
 pub fn verdict<'a>(
@@ -92,58 +112,6 @@ pub fn verdict<'a>(
             memberships,
         }),
         UNTYPABLE => Ok(Verdict::Untypable {
-            attribute: value as u8,
-        }),
-        number => Err(Refusal::answered(number)),
-    }
-}
-
-/// What [`lowest_verdict`] answers.
-#[derive(Clone, Copy, Debug, PartialEq, Eq)]
-pub enum LowestVerdict<'a> {
-    /// Some schema types the node: the witness, which is the part written of the schema slice.
-    Typable(Schema<'a>),
-    /// No schema types the node.
-    Untypable {
-        /// The lowest special attribute whose column allows nothing.
-        attribute: u8,
-    },
-}
-
-/// The verdict by lowest subsets: as [`verdict`], with the witness in which each special attribute
-/// has the lowest subset that its column allows, and without a number of memberships.
-///
-/// ```
-/// use type_formula::{lowest_verdict, LowestVerdict, Refusal, SCHEMA_SIZE, WORK_SIZE};
-///
-/// let (mut work, mut schema) = ([0; WORK_SIZE], [0; SCHEMA_SIZE]);
-///
-/// // E2: of E1, σ{2,3}((ρ1/2(r0) ∪ r1) ⋈ r2).
-/// let query = [
-///     3, 7, 0x01, 0, 0x62, 0, 1, 2, 0x01, 1, 0x0e, 1, 2, 1, 0x01, 2, 0x0e, 3, 4, 3, 0x1a, 5, 5,
-///     0x0c, 0,
-/// ];
-/// match lowest_verdict(&query, 6, &mut work, &mut schema)? {
-///     LowestVerdict::Typable(witness) => {
-///         assert_eq!(witness.to_string(), "r0(a1, a3), r1(a2, a3), r2()");
-///     }
-///     untypable => panic!("{untypable:?}"),
-/// }
-/// # Ok::<(), Refusal>(())
-/// ```
-pub fn lowest_verdict<'a>(
-    file: &[u8],
-    node: usize,
-    work: &mut [u8],
-    schema: &'a mut [u8],
-) -> Result<LowestVerdict<'a>, Refusal> {
-    let mut value = 0;
-    match calls::lowest_verdict(file, node, work, schema, &mut value) {
-        0 => {
-            let witness = Schema::of_read(file[0], &schema[..value]);
-            Ok(LowestVerdict::Typable(witness))
-        }
-        UNTYPABLE => Ok(LowestVerdict::Untypable {
             attribute: value as u8,
         }),
         number => Err(Refusal::answered(number)),

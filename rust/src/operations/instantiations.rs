@@ -13,9 +13,9 @@ pub struct Application<'a> {
 }
 
 /// Apply: the schema and the output record of an instantiation of the node's formula. Refusals: 1
-/// to 21.
+/// to 21 and 26.
 ///
-/// With a result, and with the refusals 20 and 21, it fills the work space as
+/// With a result, and with the refusals 20, 21 and 26, it fills the work space as
 /// [`formula`](crate::formula) does. Schema slice and result slice stay beyond what is written, and
 /// whole after a refusal.
 ///
@@ -42,6 +42,11 @@ pub struct Application<'a> {
 /// builder.add_to_list(0b01, 21)?;
 /// let given = apply(&file, 3, builder.bytes(), &mut work, &mut schema, &mut out);
 /// assert_eq!(given, Err(Refusal::TypeVariable));
+///
+/// // E8: π{}(r0). Nothing is given to r0.
+/// let (file, nothing) = ([1, 2, 0x01, 0, 0x1a, 0, 6, 0, 0], InstantiationBuilder::new());
+/// let given = apply(&file, 1, nothing.bytes(), &mut work, &mut schema, &mut out);
+/// assert_eq!(given, Err(Refusal::EmptyImage));
 /// # Ok::<(), Refusal>(())
 /// ```
 pub fn apply<'a>(
@@ -72,7 +77,8 @@ pub enum Recovery<'a> {
     Untyped,
 }
 
-/// Recover: the instantiation of the node's formula whose image is the schema. Refusals: 1 to 18.
+/// Recover: the instantiation of the node's formula whose image is the schema. Refusals: 1 to 18 and
+/// 25.
 ///
 /// Unless it refuses, it fills the work space as [`formula`](crate::formula) does. The result slice
 /// stays beyond the instantiation, and whole where there is none.
@@ -92,9 +98,13 @@ pub enum Recovery<'a> {
 ///     Recovery::Untyped => panic!("E9 is typed"),
 /// }
 ///
-/// // r0(), r1()
-/// let given = recover(&file, 3, &[0, 0, 0, 0], &mut work, &mut result);
+/// // r0(a2), r1(a1)
+/// let given = recover(&file, 3, &[4, 0, 2, 0], &mut work, &mut result);
 /// assert_eq!(given, Ok(Recovery::Untyped));
+///
+/// // r0(), r1(a1)
+/// let given = recover(&file, 3, &[0, 0, 2, 0], &mut work, &mut result);
+/// assert_eq!(given, Err(Refusal::EmptyRecord));
 /// # Ok::<(), Refusal>(())
 /// ```
 pub fn recover<'a>(

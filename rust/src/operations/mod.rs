@@ -7,7 +7,7 @@ mod queries;
 mod schemas;
 
 pub use files::{accept, read_node, record};
-pub use formulas::{formula, lowest_verdict, verdict, LowestVerdict, Verdict};
+pub use formulas::{formula, verdict, Verdict};
 pub use instantiations::{apply, recover, Application, Recovery};
 pub use queries::parse_query;
 pub use schemas::{typing, Typing};

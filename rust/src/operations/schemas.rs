@@ -13,8 +13,8 @@ pub enum Typing<'a> {
     Untyped,
 }
 
-/// Typing: the type of the node under a schema, as an output record. Refusals: 1 to 11 and 13 to
-/// 18.
+/// Typing: the type of the node under a schema, as an output record. Refusals: 1 to 11, 13 to 18
+/// and 25.
 ///
 /// The result slice stays beyond the record, and whole where there is none.
 ///
@@ -37,8 +37,9 @@ pub enum Typing<'a> {
 /// let schema = [3, 0, 1, 20, 0, 3, 0, 1, 20, 0];
 /// assert_eq!(typing(&file, 3, &schema, &mut out), Ok(Typing::Untyped));
 ///
-/// // The record of r1 is missing.
+/// // The record of r1 is missing, or it is empty.
 /// assert_eq!(typing(&file, 3, &[2, 0], &mut out), Err(Refusal::InputTruncated));
+/// assert_eq!(typing(&file, 3, &[2, 0, 0, 0], &mut out), Err(Refusal::EmptyRecord));
 /// # Ok::<(), Refusal>(())
 /// ```
 pub fn typing<'a>(

@@ -3,7 +3,7 @@
 use core::fmt::{self, Display, Formatter};
 
 use crate::attributes::{specials, LAST_SPECIAL};
-use crate::{Expression, Refusal, FORMULA_SIZE};
+use crate::{Expression, Refusal, FORMULA_SIZE, MOST_RELATIONS};
 
 /// The bytes of a column: the allowed plane and then the output plane (FORMAT 3.5).
 const COLUMN_SIZE: usize = 64;
@@ -125,10 +125,29 @@ impl<'a> Formula<'a> {
         self.allowed(0).filter(|&subset| subset > 0)
     }
 
-    /// The lowest special attribute whose column allows nothing. If there is none, the node is
-    /// typable.
+    /// Whether the relations can all get an attribute: the variables are given to all that declare
+    /// one, and each special attribute to the relations of one subset that its column allows.
+    fn can_be_filled(self) -> bool {
+        let declared = self.type_variables().fold(0, |all, subset| all | subset);
+        let mut reached = [false; 1 << MOST_RELATIONS];
+        reached[usize::from(declared)] = true;
+        for column in 1..=LAST_SPECIAL {
+            let mut next = [false; 1 << MOST_RELATIONS];
+            for filled in (0..=u8::MAX).filter(|&filled| reached[usize::from(filled)]) {
+                for subset in self.allowed(column) {
+                    next[usize::from(filled | subset)] = true;
+                }
+            }
+            reached = next;
+        }
+        reached[(1 << self.expression.relation_count()) - 1]
+    }
+
+    /// The lowest special attribute whose column allows nothing; 0 where each allows something and
+    /// the relations cannot all get an attribute. If there is none, the node is typable.
     pub fn untypable_attribute(self) -> Option<u8> {
-        (1..=LAST_SPECIAL).find(|&column| self.allowed(column).next().is_none())
+        let blocked = (1..=LAST_SPECIAL).find(|&column| self.allowed(column).next().is_none());
+        blocked.or_else(|| (!self.can_be_filled()).then_some(0))
     }
 
     /// Writes the type variables for which this holds, and ends the line.

@@ -45,12 +45,15 @@ impl<'a> Instantiation<'a> {
     /// a list, since it is a type variable of no formula.
     pub fn read(bytes: &'a [u8]) -> Result<Self, Refusal> {
         // The formula of r0 allows every subset of eight relations, so that Apply refuses just
-        // the bytes that are no instantiation of any formula.
+        // the bytes that are no instantiation of any formula, and those, last of all, that leave
+        // one of the eight empty: a file may have fewer.
         let file = [MOST_RELATIONS as u8, 1, 1, 0];
         let (mut work, mut schema) = ([0; FORMULA_SIZE], [0; SCHEMA_SIZE]);
         let mut out = [0; OUTPUT_SIZE];
-        apply(&file, 0, bytes, &mut work, &mut schema, &mut out)?;
-        Ok(Instantiation::of_read(bytes))
+        match apply(&file, 0, bytes, &mut work, &mut schema, &mut out) {
+            Ok(_) | Err(Refusal::EmptyImage) => Ok(Instantiation::of_read(bytes)),
+            Err(refusal) => Err(refusal),
+        }
     }
 
     /// The bytes of the instantiation.

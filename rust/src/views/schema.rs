@@ -14,6 +14,7 @@ use crate::{typing, Refusal, TypeRecord, OUTPUT_SIZE};
 /// assert_eq!(schema.to_string(), "r0(a1, a3), r1(a2, a3, 20)");
 ///
 /// assert_eq!(Schema::read(1, schema.bytes()), Err(Refusal::InputFollowed));
+/// assert_eq!(Schema::read(2, &[0x0a, 0, 0, 0]), Err(Refusal::EmptyRecord));
 /// # Ok::<(), Refusal>(())
 /// ```
 #[derive(Clone, Copy, Debug, PartialEq, Eq, Hash)]
@@ -28,7 +29,7 @@ impl<'a> Schema<'a> {
         Schema { relations, bytes }
     }
 
-    /// The schema of so many relations that the bytes are. Refusals: 2, and 14 to 18.
+    /// The schema of so many relations that the bytes are. Refusals: 2, 14 to 18 and 25.
     pub fn read(relations: u8, bytes: &'a [u8]) -> Result<Self, Refusal> {
         // Every schema types r0, so that Typing refuses just the bytes that are none.
         let file = [relations, 1, 1, 0];

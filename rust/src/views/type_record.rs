@@ -15,6 +15,7 @@ use crate::{Refusal, Schema};
 /// assert_eq!(record.to_string(), "(a1, a3, 16, 256)");
 /// assert!(record.has(3) && record.has(256) && !record.has(2));
 ///
+/// assert_eq!(TypeRecord::read(&[0, 0])?.to_string(), "()");
 /// assert_eq!(TypeRecord::read(&[0x0b, 0, 0]), Err(Refusal::CountZero));
 /// # Ok::<(), Refusal>(())
 /// ```
@@ -29,9 +30,13 @@ impl<'a> TypeRecord<'a> {
         TypeRecord { bytes }
     }
 
-    /// The record that the bytes are. Refusals: 14 to 17, as for a schema of one relation.
+    /// The record that the bytes are. Refusals: 14 to 17, as for a schema of one relation; but it
+    /// may be empty, as an output record may.
     pub fn read(bytes: &'a [u8]) -> Result<Self, Refusal> {
-        Schema::read(1, bytes).map(|schema| TypeRecord::of_read(schema.bytes()))
+        match Schema::read(1, bytes) {
+            Ok(_) | Err(Refusal::EmptyRecord) => Ok(TypeRecord::of_read(bytes)),
+            Err(refusal) => Err(refusal),
+        }
     }
 
     /// The record that the bytes begin with, and the rest.

@@ -1,32 +1,35 @@
-//! Instantiations with several faults, of which the first in document 01's order is the
-//! answer.
+//! Instantiations with several faults, of which the first in the order of documents 01 and 02 is
+//! the answer.
 
 use super::refused::refused;
-use super::{example, instantiation_bytes, list, ApplyCase, WITNESS};
+use super::{example, instantiation_bytes, list, ApplyCase, UNFILLED};
 
-/// Faults that come in one instantiation, by their refusals, in document 01's order.
-const ORDER: [u8; 6] = [14, 17, 19, 18, 20, 21];
+/// Faults that come in one instantiation, by their refusals, in the order of the tests.
+const ORDER: [u8; 7] = [14, 17, 19, 18, 20, 21, 26];
 
 /// Subsets that are no type variables of E1's last node: the empty one, another, the
 /// lowest that is not below 2^m, and the greatest.
 const NO_VARIABLES: [usize; 4] = [0x00, 0x05, 0x08, 0xff];
 
 /// An instantiation for E1's last node with these faults: 18 by 255 attributes in one list
-/// and two in others, 19 by one of them in another list, 20 by a list of `other`, which
-/// stands before, between or after the others.
+/// and one or two in others, 19 by one of them in another list, 20 by a list of `other`, which
+/// stands before, between or after the others, and 26 by r2, which has no attribute but those that
+/// other faults need.
 pub fn with_faults(faults: &[u8], other: usize) -> Vec<u8> {
     let has = |fault: u8| faults.contains(&fault);
-    let mut lists = vec![
-        (0x03, list(16..if has(18) { 271 } else { 18 })),
-        (0x04, vec![300]),
-        (0x07, vec![if has(19) { 17 } else { 301 }]),
-    ];
+    let mut lists = vec![(0x03, list(16..if has(18) { 271 } else { 18 }))];
+    if has(18) || !has(26) {
+        lists.push((0x04, vec![300]));
+    }
+    if has(19) || !has(26) {
+        lists.push((0x07, vec![if has(19) { 17 } else { 301 }]));
+    }
     if has(20) {
         lists.push((other, vec![302]));
         lists.sort();
     }
     let attribute_15 = if has(21) { 0x01 } else { 0x00 };
-    let mut bytes = instantiation_bytes(&[WITNESS, &[(15, attribute_15)]].concat(), &lists);
+    let mut bytes = instantiation_bytes(&[UNFILLED, &[(15, attribute_15)]].concat(), &lists);
     if has(14) {
         bytes.pop();
     }
@@ -57,7 +60,7 @@ pub(super) fn sets_of_faults() -> Vec<ApplyCase> {
     cases
 }
 
-/// All faults from 17 on and, in the last list, 15 or 16.
+/// All faults from 17 to 21 and, in the last list, 15 or 16.
 pub(super) fn faults_in_the_last_list() -> Vec<ApplyCase> {
     let whole = with_faults(&[19, 18, 20, 21], 0xff);
     let front = &whole[..whole.len() - 3];

@@ -2,9 +2,9 @@
 
 use std::ops::Range;
 
-use super::{example, instantiation_bytes, list, lists_of_one, Lists, Subsets, WITNESS};
+use super::{example, instantiation_bytes, list, lists_of_one, Lists, Subsets, FILLED, UNFILLED};
 use crate::examples::{from_hexadecimal, join_of_eight};
-use crate::formula_examples::E2_SCHEMA;
+use crate::formula_examples::FILLED_SCHEMA;
 use crate::reference::{encode_file, encode_record, encode_schema, Type};
 use crate::typing_examples::{in_each_of_eight, E3_SCHEMA};
 
@@ -20,15 +20,15 @@ pub struct Instance {
 
 const NO_LISTS: Lists = &[];
 
-/// The instantiation of E2's schema.
-pub const E2_INSTANTIATION: &str = "\
-01 02 03 00 00 00 00 00 00 00 00 00 00 00 00 \
+/// The instantiation of the schema to which E3 adds.
+pub const FILLED_INSTANTIATION: &str = "\
+01 02 03 04 00 00 00 00 00 00 00 00 00 00 00 \
 00 00 00 00 00 00 00 00 00 00 00 00 00 00 00 00 \
 00 00 00 00 00 00 00 00 00 00 00 00 00 00 00 00";
 
 /// The instantiation of E3's schema.
 pub const E3_INSTANTIATION: &str = "\
-01 02 03 00 00 00 00 00 00 00 00 00 00 00 00 \
+01 02 03 04 00 00 00 00 00 00 00 00 00 00 00 \
 08 00 00 00 00 00 00 00 00 00 00 00 00 00 00 00 \
 00 00 00 00 00 00 00 00 00 00 00 00 00 00 00 00 \
 01 14 00";
@@ -36,19 +36,19 @@ pub const E3_INSTANTIATION: &str = "\
 /// Instantiations of the formula of an example's last node: name, example, subsets, lists,
 /// image and output record.
 const INSTANCES_OF_EXAMPLES: [(&str, &str, Subsets, Lists, &str, &str); 11] = [
-    ("E2", "E1", WITNESS, &[], E2_SCHEMA, "0c 00"),
+    ("filled", "E1", FILLED, &[], FILLED_SCHEMA, "1c 00"),
     (
         "E3",
         "E1",
-        WITNESS,
+        FILLED,
         &[(0x03, &[20])],
         E3_SCHEMA,
-        "0d 00 01 14 00",
+        "1d 00 01 14 00",
     ),
     (
         "16 and 65,535",
         "E1",
-        WITNESS,
+        UNFILLED,
         &[(0x04, &[16, 65_535])],
         "0a 00 0c 00 01 00 02 10 00 ff ff",
         "0d 00 02 10 00 ff ff",
@@ -56,7 +56,7 @@ const INSTANCES_OF_EXAMPLES: [(&str, &str, Subsets, Lists, &str, &str); 11] = [
     (
         "lists that interleave",
         "E1",
-        WITNESS,
+        UNFILLED,
         &[
             (0x03, &[16, 300]),
             (0x04, &[17, 65_535]),
@@ -69,13 +69,20 @@ const INSTANCES_OF_EXAMPLES: [(&str, &str, Subsets, Lists, &str, &str); 11] = [
     (
         "later lists of lower attributes",
         "E1",
-        WITNESS,
+        UNFILLED,
         &[(0x03, &[300]), (0x04, &[200]), (0x07, &[100])],
         "0b 00 02 64 00 2c 01 0d 00 02 64 00 2c 01 01 00 02 64 00 c8 00",
         "0d 00 03 64 00 c8 00 2c 01",
     ),
-    ("nothing", "E7", &[], &[], "00 00", "00 00"),
-    ("nothing", "E8", &[], &[], "00 00", "00 00"),
+    ("one attribute", "E8", &[(1, 0x01)], &[], "02 00", "00 00"),
+    (
+        "one ordinary attribute",
+        "E8",
+        &[],
+        &[(0x01, &[16])],
+        "01 00 01 10 00",
+        "00 00",
+    ),
     (
         "all is dropped",
         "E8",
@@ -96,9 +103,9 @@ const INSTANCES_OF_EXAMPLES: [(&str, &str, Subsets, Lists, &str, &str); 11] = [
         "attribute 1 in r0 and r3",
         "E10",
         &[(1, 0x09)],
-        &[],
-        "02 00 00 00 00 00 02 00",
-        "02 00",
+        &[(0x02, &[16]), (0x0c, &[17])],
+        "02 00 01 00 01 10 00 01 00 01 11 00 03 00 01 11 00",
+        "03 00 02 10 00 11 00",
     ),
     (
         "two lists",
@@ -185,9 +192,9 @@ fn instances_of_short_lists() -> [Instance; 3] {
     [
         instance_of_join(
             "shortest, 47 bytes",
-            instantiation_bytes(&[], NO_LISTS),
-            &in_each_of_eight(0..0),
-            0..0,
+            instantiation_bytes(&[(1, 255)], NO_LISTS),
+            &in_each_of_eight(1..2),
+            1..2,
         ),
         instance_of_join(
             "longest, 255 lists of one attribute",
@@ -206,8 +213,8 @@ fn instances_of_short_lists() -> [Instance; 3] {
 
 /// The same of long lists.
 fn instances_of_long_lists() -> [Instance; 3] {
-    let empty = vec![Type::new(); 6];
-    let two_sets = [vec![(16..270).collect()], empty, vec![Type::from([270])]].concat();
+    let others = vec![Type::from([15]); 6];
+    let two_sets = [vec![(16..270).collect()], others, vec![Type::from([270])]].concat();
     [
         instance_of_join(
             "one list of 255, longest schema",
@@ -223,9 +230,9 @@ fn instances_of_long_lists() -> [Instance; 3] {
         ),
         instance_of_join(
             "254 and one",
-            instantiation_bytes(&[], &[(1, list(16..270)), (128, list(270..271))]),
+            instantiation_bytes(&[(15, 0x7e)], &[(1, list(16..270)), (128, list(270..271))]),
             &two_sets,
-            16..271,
+            15..271,
         ),
     ]
 }

@@ -1,5 +1,5 @@
-//! Calls of Apply and Recover with their answers: examples, edges and orders of document
-//! 01.
+//! Calls of Apply and Recover with their answers: examples, edges and orders of documents 01
+//! and 02.
 
 mod faults;
 mod instances;
@@ -13,7 +13,7 @@ use crate::reference::{FORMULA_LENGTH, OUTPUT_LENGTH, SCHEMA_LENGTH};
 use crate::typing_examples::Answer;
 
 pub use faults::with_faults;
-pub use instances::{instances, Instance, E2_INSTANTIATION, E3_INSTANTIATION};
+pub use instances::{instances, Instance, E3_INSTANTIATION, FILLED_INSTANTIATION};
 pub use recover::recover_cases;
 
 /// A call of Apply with its answer: schema and output record, or the first refusal.
@@ -62,8 +62,10 @@ pub fn instantiation_bytes(
     bytes
 }
 
-/// The subsets of E1's witness.
-const WITNESS: Subsets = &[(1, 0x01), (2, 0x02), (3, 0x03)];
+/// The subsets of the schema to which E3 adds.
+const FILLED: Subsets = &[(1, 0x01), (2, 0x02), (3, 0x03), (4, 0x04)];
+/// The same without attribute 4, so that r2 has an attribute of a list only.
+const UNFILLED: Subsets = &[(1, 0x01), (2, 0x02), (3, 0x03)];
 
 /// File and last node of the example of this name.
 fn example(name: &str) -> (Vec<u8>, usize) {
@@ -107,6 +109,7 @@ pub fn apply_cases() -> Vec<ApplyCase> {
         .chain(faults::faults_in_the_last_list())
         .chain(refused::refused_for_join())
         .chain(refused::refused_for_examples())
+        .chain(refused::emptied_for_join())
         .chain(refused::calls_of_apply())
         .collect()
 }

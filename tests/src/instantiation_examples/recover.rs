@@ -2,23 +2,31 @@
 
 use super::{instances, work_length, RecoverCase};
 use crate::examples::{e1, from_hexadecimal};
-use crate::formula_examples::E2_SCHEMA;
+use crate::formula_examples::{E2_SCHEMA, FILLED_SCHEMA};
 use crate::reference::INSTANTIATION_LENGTH;
 use crate::typing_examples::{typing_cases, E4_SCHEMA};
 
 /// Calls of Recover for E1: name, node, schema, lengths of the slices, refusal.
-const CALLS_OF_RECOVER: [(&str, usize, &str, [usize; 2], u8); 11] = [
+const CALLS_OF_RECOVER: [(&str, usize, &str, [usize; 2], u8); 13] = [
     ("11 before 12 to 14", 7, "", [0, 0], 11),
-    ("greatest number", usize::MAX, E2_SCHEMA, [7_168, 812], 11),
+    (
+        "greatest number",
+        usize::MAX,
+        FILLED_SCHEMA,
+        [7_168, 812],
+        11,
+    ),
     ("12 before 13, 14", 6, "", [7_167, 0], 12),
-    ("12 before 13", 6, E2_SCHEMA, [7_167, 811], 12),
+    ("12 before 13", 6, FILLED_SCHEMA, [7_167, 811], 12),
     ("12 before untyped", 6, E4_SCHEMA, [7_167, 812], 12),
-    ("12 for node 0 too", 0, E2_SCHEMA, [1_024, 812], 12),
+    ("12 for node 0 too", 0, FILLED_SCHEMA, [1_024, 812], 12),
     ("13 before 14", 6, "", [7_168, 811], 13),
     ("13 before 15", 6, "01 00 00", [7_168, 0], 13),
     ("13 before 16", 6, "01 00 01 0f 00", [7_168, 811], 13),
     ("13 before untyped", 6, E4_SCHEMA, [7_168, 811], 13),
-    ("13 before typed", 6, E2_SCHEMA, [7_168, 47], 13),
+    ("12 before 25", 6, E2_SCHEMA, [7_167, 812], 12),
+    ("13 before 25", 6, E2_SCHEMA, [7_168, 811], 13),
+    ("13 before typed", 6, FILLED_SCHEMA, [7_168, 47], 13),
 ];
 
 fn calls_of_recover() -> impl Iterator<Item = RecoverCase> {

@@ -2,7 +2,7 @@
 
 use super::{
     example, instantiation_bytes, list, lists_of_one, with_faults, work_length, ApplyCase, Lists,
-    Subsets, WITNESS,
+    Subsets, FILLED, UNFILLED,
 };
 use crate::examples::{e1, join_of_eight};
 use crate::reference::{encode_file, OUTPUT_LENGTH, SCHEMA_LENGTH};
@@ -24,7 +24,7 @@ pub(super) fn refused(
     }
 }
 
-/// Lists after E1's witness with the refusal for its last node.
+/// Lists after subsets that E1's last node allows, with the refusal for it.
 const LISTS_FOR_E1: [(&str, Lists, u8); 19] = [
     ("count byte 0", &[(0x03, &[])], 15),
     (
@@ -95,9 +95,9 @@ pub(super) fn refused_for_e1() -> Vec<ApplyCase> {
     let case = |name, bytes, refusal| refused(name, example("E1"), bytes, refusal);
     let lists = LISTS_FOR_E1
         .iter()
-        .map(|&(name, lists, refusal)| case(name, instantiation_bytes(WITNESS, lists), refusal));
+        .map(|&(name, lists, refusal)| case(name, instantiation_bytes(FILLED, lists), refusal));
     let subsets = SUBSETS_FOR_E1.iter().map(|&(name, subset)| {
-        let subsets = [WITNESS, &[subset]].concat();
+        let subsets = [FILLED, &[subset]].concat();
         case(name, instantiation_bytes(&subsets, &[(0x03, [20])]), 21)
     });
     lists.chain(subsets).collect()
@@ -106,7 +106,7 @@ pub(super) fn refused_for_e1() -> Vec<ApplyCase> {
 /// The front of an instantiation with two lists, so many bytes of it, with the refusal for
 /// E1's last node.
 pub(super) fn cut_for_e1() -> Vec<ApplyCase> {
-    let whole = instantiation_bytes(WITNESS, &[(0x03, [20, 30]), (0x07, [10, 21])]);
+    let whole = instantiation_bytes(FILLED, &[(0x03, [20, 30]), (0x07, [10, 21])]);
     [
         ("no bytes", 0, 14),
         ("one byte", 1, 14),
@@ -169,7 +169,17 @@ pub(super) fn refused_for_join() -> Vec<ApplyCase> {
 
 /// Examples with subsets and lists and the refusal for the last node. Nothing types E5's
 /// and E6's, and E7's has no type variable.
-const REFUSED_FOR_EXAMPLES: [(&str, Subsets, Lists, u8); 12] = [
+const REFUSED_FOR_EXAMPLES: [(&str, Subsets, Lists, u8); 22] = [
+    ("E1", UNFILLED, &[], 26),
+    ("E1", UNFILLED, &[(0x03, &[20])], 26),
+    ("E1", UNFILLED, &[(0x03, &[20]), (0x05, &[21])], 20),
+    ("E7", &[], &[], 26),
+    ("E8", &[], &[], 26),
+    ("E8", &[], &[(0x02, &[16])], 20),
+    ("E8", &[(1, 2)], &[], 21),
+    ("E10", &[(1, 0x02)], &[], 26),
+    ("E10", &[(1, 0x09)], &[(0x02, &[16])], 26),
+    ("E10", &[(1, 0x0b)], &[], 26),
     ("E5", &[(1, 1), (2, 1), (3, 1)], &[], 21),
     ("E5", &[(2, 1), (3, 1)], &[(1, &[20])], 21),
     ("E5", &[(2, 1), (3, 1)], &[(2, &[20])], 20),
@@ -193,9 +203,28 @@ pub(super) fn refused_for_examples() -> impl Iterator<Item = ApplyCase> {
         })
 }
 
+/// The join of eight relations with one of them in no subset, one subset or list at a time.
+pub(super) fn emptied_for_join() -> Vec<ApplyCase> {
+    let mut cases = Vec::new();
+    for relation in 0..8 {
+        let others = 0xff ^ 1 << relation;
+        for (attribute, lists) in [
+            (1, vec![]),
+            (15, vec![]),
+            (8, vec![(usize::from(others), [16])]),
+        ] {
+            let file = encode_file(8, &join_of_eight());
+            let bytes = instantiation_bytes(&[(attribute, others)], &lists);
+            let name = format!("r{relation} has no attribute");
+            cases.push(refused(name, (file, 14), bytes, 26));
+        }
+    }
+    cases
+}
+
 /// Calls of Apply for E1: name, node, the fault of the instantiation or 0, lengths of the
 /// slices, refusal.
-const CALLS_OF_APPLY: [(&str, usize, u8, [usize; 3], u8); 18] = [
+const CALLS_OF_APPLY: [(&str, usize, u8, [usize; 3], u8); 20] = [
     ("11 before 12 to 14", 7, 14, [0, 0, 0], 11),
     ("node 64", 64, 0, [7_168, 4_104, 513], 11),
     ("node 262", 262, 0, [7_168, 4_104, 513], 11),
@@ -214,6 +243,8 @@ const CALLS_OF_APPLY: [(&str, usize, u8, [usize; 3], u8); 18] = [
     ("13 before 19", 6, 19, [7_168, 4_104, 512], 13),
     ("13 before 20", 6, 20, [7_168, 4_103, 513], 13),
     ("13 before 21", 6, 21, [7_168, 4_104, 512], 13),
+    ("12 before 26", 6, 26, [7_167, 4_104, 513], 12),
+    ("13 before 26", 6, 26, [7_168, 4_104, 512], 13),
 ];
 
 pub(super) fn calls_of_apply() -> impl Iterator<Item = ApplyCase> {

@@ -8,6 +8,7 @@ use crate::examples::{
 use crate::extreme_inputs::{join_input, join_of_64_nodes};
 use crate::input::Input;
 use crate::pseudorandom::Random;
+use crate::random_covers::FileKind;
 use crate::reference::{encode_node, File, LEGAL_MAPS};
 
 /// Files that are made once.
@@ -190,9 +191,14 @@ impl Files {
             0 => one_of(random, &self.greatest),
             1..=3 => one_of(random, &self.extreme),
             4..=31 => Rc::new(Input::new(damaged(random, size))),
-            32..=39 => {
+            32..=35 => {
                 let relations = random.between(1, 8);
                 Rc::new(Input::new(random.tree_file(relations)))
+            }
+            36..=43 => {
+                let kind = FileKind::ALL[random.below(FileKind::ALL.len())];
+                let relations = random.between(1, 8);
+                Rc::new(Input::new(random.file_of_kind(kind, relations)))
             }
             _ => Rc::new(Input::new(random.likely_file(size.0, size.1))),
         }

@@ -18,7 +18,7 @@ fn fitting(random: &mut Random, input: &Input, node: usize) -> Instantiation {
         return random.instantiation_near_255(formula);
     }
     let ordinary = random.ordinary_count(MOST_IN_DISTURBED);
-    random.instantiation(formula, ordinary)
+    random.likely_instantiation(formula, all.file.relations, ordinary)
 }
 
 /// That of an assignment to eight relations at the limits.
@@ -30,7 +30,7 @@ fn extreme(random: &mut Random) -> Vec<u8> {
 
 /// Two faults of an instantiation of E1, whose subsets fit no other file.
 fn faults(random: &mut Random) -> Vec<u8> {
-    let faults = [14, 17, 18, 19, 20, 21];
+    let faults = [14, 17, 18, 19, 20, 21, 26];
     let two = [0; 2].map(|_| faults[random.below(faults.len())]);
     with_faults(&two, random.below(256))
 }

@@ -14,7 +14,7 @@ use crate::answer::{Answer, Operation, OPERATIONS};
 use crate::input::Input;
 use crate::paired_calls::{Difference, PairedCalls};
 use crate::pseudorandom::Random;
-use crate::reference::{read_file, Order, FILE_LENGTH, OUTPUT_LENGTH, SCHEMA_LENGTH};
+use crate::reference::{read_file, FILE_LENGTH, OUTPUT_LENGTH, SCHEMA_LENGTH};
 use crate::slice_lengths::{least_for_apply, least_for_recover};
 
 /// The seed of what fills lent slices.
@@ -80,8 +80,7 @@ impl Mixture {
             Operation::Record => self.record(&mut random),
             Operation::ReadNode => self.read_node(&mut random),
             Operation::Formula => self.formula(&mut random),
-            Operation::Verdict => self.verdict(Order::FewestMembers, &mut random),
-            Operation::LowestVerdict => self.verdict(Order::LowestNumber, &mut random),
+            Operation::Verdict => self.verdict(&mut random),
             Operation::Typing => self.typing(&mut random),
             Operation::Apply => self.apply(&mut random),
             Operation::Recover => self.recover(&mut random),
@@ -119,12 +118,12 @@ impl Mixture {
         self.calls.formula(&input, length)
     }
 
-    fn verdict(&mut self, order: Order, random: &mut Random) -> Result<u8, Difference> {
+    fn verdict(&mut self, random: &mut Random) -> Result<u8, Difference> {
         let input = self.files.input(random);
         self.count_greatest(&input);
         let node = files::any_node_of(random, &input);
         let lengths = lengths(random, [input.work_length(), SCHEMA_LENGTH]);
-        number(self.calls.verdict(order, &input, node, lengths))
+        number(self.calls.verdict(&input, node, lengths))
     }
 
     /// A file with one of its nodes and a schema that is often near a typed one.

@@ -36,8 +36,8 @@ fn unrelated(random: &mut Random, relations: u8) -> Vec<u8> {
     }
 }
 
-/// A schema for the node: one that types it, one near such a one, a damaged, truncated or
-/// extended one, or other bytes.
+/// A schema for the node: one that types it, one near such a one, one with an empty record, a
+/// damaged, truncated or extended one, or other bytes.
 pub fn schema(random: &mut Random, input: &Input, node: usize) -> Vec<u8> {
     let kind = random.below(32);
     let relations = input.bytes.first().map_or(1, |&count| count.clamp(1, 8));
@@ -51,6 +51,10 @@ pub fn schema(random: &mut Random, input: &Input, node: usize) -> Vec<u8> {
         for _ in 0..random.between(1, 4) {
             random.disturb_assignment(&mut sets);
         }
+    }
+    if kind == 22 {
+        let relation = random.below(sets.len());
+        sets[relation].clear();
     }
     let mut bytes = encode_schema(&sets);
     damage(random, kind, &mut bytes);

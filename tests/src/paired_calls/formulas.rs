@@ -1,10 +1,10 @@
-//! Formula, Verdict and the verdict by lowest subsets.
+//! Formula and Verdict.
 
 use super::{prepare, Difference, Outcome, PairedCalls};
 use crate::answer::Answer;
 use crate::engine::{self, Found};
 use crate::input::Input;
-use crate::reference::{read_schema, Order, Verdict};
+use crate::reference::{read_schema, Verdict};
 
 impl PairedCalls {
     /// Compares Formula: the answer and every byte. Gives the answer.
@@ -26,13 +26,12 @@ impl PairedCalls {
         Ok(wanted)
     }
 
-    /// Compares a verdict: the answer, the numbers or that they stay, and every byte. The
-    /// lengths are those of work space and schema. Where the engine gives a number of
-    /// memberships, it is also compared with that counted off the bytes that the engine
-    /// wrote. Gives the reference's answer.
+    /// Compares Verdict: the answer, the numbers or that they stay, and every byte. The lengths
+    /// are those of work space and schema. The number of memberships is also compared with that
+    /// counted off the bytes that the engine wrote, which are a schema that is not refused. Gives
+    /// the reference's answer.
     pub fn verdict(
         &mut self,
-        order: Order,
         input: &Input,
         node: usize,
         lengths: [usize; 2],
@@ -42,7 +41,7 @@ impl PairedCalls {
         let before = input.bytes.clone();
         let (work, schema) = (self.work.for_reference(), self.schema.for_reference());
         let verdict = match &input.inferred {
-            Ok(inferred) => inferred.verdict(order, node, work, schema),
+            Ok(inferred) => inferred.verdict(node, work, schema),
             Err(number) => Verdict::Refused { number: *number },
         };
         let found_before = Found {
@@ -51,24 +50,19 @@ impl PairedCalls {
         };
         let mut found = found_before;
         let (work, schema) = (self.work.for_engine(), self.schema.for_engine());
-        let answer = match order {
-            Order::FewestMembers => engine::verdict(&input.bytes, node, work, schema, &mut found),
-            Order::LowestNumber => {
-                engine::lowest_verdict(&input.bytes, node, work, schema, &mut found.value)
-            }
-        };
-        let counted = match (order, answer) {
-            (Order::FewestMembers, 0) => memberships(&input.bytes, &schema[..found.value]),
+        let answer = engine::verdict(&input.bytes, node, work, schema, &mut found);
+        let counted = match answer {
+            0 => memberships(&input.bytes, &schema[..found.value]),
             _ => Ok(found.memberships),
         };
         let outcome = Outcome {
             given: (answer, found, counted),
-            wanted: wanted(order, verdict, found_before),
+            wanted: wanted(verdict, found_before),
             inputs: &[("file", &before, &input.bytes)],
             slices: &[("work space", &self.work), ("schema", &self.schema)],
         };
         outcome.check(|| {
-            format!("{order:?} verdict of node {node}, {lengths:?} bytes (answer, numbers, count)")
+            format!("Verdict of node {node}, {lengths:?} bytes (answer, numbers, count)")
         })?;
         Ok(verdict)
     }
@@ -82,7 +76,7 @@ fn memberships(file: &[u8], schema: &[u8]) -> Result<u8, u8> {
 
 /// The answer and the numbers that the engine is to give, and the memberships counted off
 /// what it wrote, or those that it was lent.
-fn wanted(order: Order, verdict: Verdict, before: Found) -> (u8, Found, Result<u8, u8>) {
+fn wanted(verdict: Verdict, before: Found) -> (u8, Found, Result<u8, u8>) {
     let mut found = before;
     match verdict {
         Verdict::Typable {
@@ -90,9 +84,7 @@ fn wanted(order: Order, verdict: Verdict, before: Found) -> (u8, Found, Result<u
             memberships,
         } => {
             found.value = length;
-            if order == Order::FewestMembers {
-                found.memberships = memberships;
-            }
+            found.memberships = memberships;
         }
         Verdict::Untypable { attribute } => found.value = attribute.into(),
         Verdict::Refused { .. } => {}

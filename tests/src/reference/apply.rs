@@ -1,7 +1,8 @@
-//! The operation Apply, written plainly from document 01.
+//! The operation Apply, written plainly from documents 01 and 02.
 
 use super::{
-    encode_record, encode_schema, infer, read_instantiation, Inferred, OUTPUT_LENGTH, SCHEMA_LENGTH,
+    encode_record, encode_schema, infer, read_instantiation, Inferred, Type, IMAGE_NOT_FILLED,
+    OUTPUT_LENGTH, SCHEMA_LENGTH,
 };
 
 /// An answer of Apply.
@@ -36,7 +37,12 @@ impl Inferred {
         if let Err(number) = instantiation.check(formula) {
             return Apply::Refused { number };
         }
-        let image = encode_schema(&instantiation.image(self.file.relations));
+        let image = instantiation.image(self.file.relations);
+        if image.iter().any(Type::is_empty) {
+            let number = IMAGE_NOT_FILLED;
+            return Apply::Refused { number };
+        }
+        let image = encode_schema(&image);
         let output = encode_record(&instantiation.output(formula));
         schema[..image.len()].copy_from_slice(&image);
         out[..output.len()].copy_from_slice(&output);
@@ -48,7 +54,7 @@ impl Inferred {
 }
 
 /// Apply: unless one of 1 to 19 applies, fills the work space as Formula does. Writes the
-/// image as schema and the output record unless 20 or 21 applies; else both slices stay.
+/// image as schema and the output record unless 20, 21 or 26 applies; else both slices stay.
 pub fn apply(
     bytes: &[u8],
     node: usize,

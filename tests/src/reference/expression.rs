@@ -27,6 +27,8 @@ pub const SUBSET_NOT_ALLOWED: u8 = 21;
 pub const TEXT_NOT_IN_LANGUAGE: u8 = 22;
 pub const TEXT_TOO_LONG: u8 = 23;
 pub const TOO_MANY_NODES: u8 = 24;
+pub const EMPTY_RECORD: u8 = 25;
+pub const IMAGE_NOT_FILLED: u8 = 26;
 
 /// The five legal bit maps of a node.
 pub const RELATION_MAP: u8 = 1;

@@ -1,4 +1,4 @@
-//! The text of the listing program, written plainly from document 01.
+//! The text of the listing program, written plainly from documents 01 and 02.
 
 use super::{
     allowed_subsets, formulas, is_output, read_file, type_variables, untypable_attribute, File,
@@ -62,7 +62,7 @@ fn attribute_line(formula: &Formula, attribute: usize) -> String {
 fn last_node(file: &File) -> String {
     let number = file.nodes.len() - 1;
     let formula = &formulas(file)[number];
-    let verdict = match untypable_attribute(formula) {
+    let verdict = match untypable_attribute(formula, file.relations) {
         None => "typable",
         Some(_) => "untypable",
     };

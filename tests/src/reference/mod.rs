@@ -1,6 +1,7 @@
 //! The other implementation, written plainly from documents 01 and 02.
 
 mod apply;
+mod cover;
 mod expression;
 mod formula;
 mod instantiation;
@@ -13,16 +14,17 @@ mod typing;
 mod verdict;
 
 pub use apply::{apply, Apply};
+pub use cover::{best_cover, can_be_filled, members, Choices, Cover};
 pub use expression::{
     encode_file, encode_node, read_file, read_node, record, File, Node, ATTRIBUTE_IN_TWO_LISTS,
     ATTRIBUTE_OUTSIDE_RANGE, BYTES_AFTER_LAST_NODE, BYTES_END_BEFORE_OR_WITHIN_NODE,
-    BYTES_END_EARLY, BYTES_LEFT_OVER, CODE_NOT_OF_MAP, COUNT_BYTE_ZERO, FEWER_THAN_TWO_BYTES,
-    LEGAL_MAPS, LISTED_ATTRIBUTE_TOO_LOW, MAP_NOT_LEGAL, NODE_COUNT_OUTSIDE_RANGE,
-    NODE_NOT_BELOW_COUNT, OPERAND_NOT_EARLIER, PAIR_MAP, PROJECTING_OUT_MAP,
-    RELATION_COUNT_OUTSIDE_RANGE, RELATION_MAP, RELATION_NOT_BELOW_COUNT, RENAMING_MAP,
-    RESULT_SLICE_TOO_SHORT, SET_MAP, STANDING_BIT_NO_TYPE_VARIABLE, SUBSET_NOT_ALLOWED,
-    TEXT_NOT_IN_LANGUAGE, TEXT_TOO_LONG, TOO_MANY_NODES, TOO_MANY_ORDINARY_ATTRIBUTES,
-    WORK_SPACE_TOO_SHORT,
+    BYTES_END_EARLY, BYTES_LEFT_OVER, CODE_NOT_OF_MAP, COUNT_BYTE_ZERO, EMPTY_RECORD,
+    FEWER_THAN_TWO_BYTES, IMAGE_NOT_FILLED, LEGAL_MAPS, LISTED_ATTRIBUTE_TOO_LOW, MAP_NOT_LEGAL,
+    NODE_COUNT_OUTSIDE_RANGE, NODE_NOT_BELOW_COUNT, OPERAND_NOT_EARLIER, PAIR_MAP,
+    PROJECTING_OUT_MAP, RELATION_COUNT_OUTSIDE_RANGE, RELATION_MAP, RELATION_NOT_BELOW_COUNT,
+    RENAMING_MAP, RESULT_SLICE_TOO_SHORT, SET_MAP, STANDING_BIT_NO_TYPE_VARIABLE,
+    SUBSET_NOT_ALLOWED, TEXT_NOT_IN_LANGUAGE, TEXT_TOO_LONG, TOO_MANY_NODES,
+    TOO_MANY_ORDINARY_ATTRIBUTES, WORK_SPACE_TOO_SHORT,
 };
 pub use formula::{
     allowed_subsets, formula, formulas, infer, is_allowed, is_output, pair_over, type_variables,
@@ -36,5 +38,5 @@ pub use rules::{assignment_of, holders, type_of, Type};
 pub use schema::{encode_record, encode_schema, read_schema};
 pub use typing::{typing, Typing, OUTPUT_LENGTH};
 pub use verdict::{
-    lowest_verdict, members, untypable_attribute, verdict, witness, Order, Verdict, SCHEMA_LENGTH,
+    blocked_attribute, untypable_attribute, verdict, witness, Verdict, SCHEMA_LENGTH,
 };

@@ -1,8 +1,8 @@
-//! Type records and schemas, written plainly from document 01.
+//! Type records and schemas, written plainly from documents 01 and 02.
 
 use super::{
-    Type, BYTES_END_EARLY, BYTES_LEFT_OVER, COUNT_BYTE_ZERO, LISTED_ATTRIBUTE_TOO_LOW,
-    TOO_MANY_ORDINARY_ATTRIBUTES,
+    Type, BYTES_END_EARLY, BYTES_LEFT_OVER, COUNT_BYTE_ZERO, EMPTY_RECORD,
+    LISTED_ATTRIBUTE_TOO_LOW, TOO_MANY_ORDINARY_ATTRIBUTES,
 };
 
 /// The lowest ordinary attribute.
@@ -87,7 +87,7 @@ pub(super) fn ordinary_attributes(schema: &[Type]) -> Type {
 }
 
 /// Reads a schema of m records: the set of each relation, or the first refusal: 14 to
-/// 16 as the bytes come, then 17, then 18.
+/// 16 as the bytes come, then 17, then 18, then 25.
 pub fn read_schema(relations: u8, bytes: &[u8]) -> Result<Vec<Type>, u8> {
     let mut reader = Reader::new(bytes);
     let mut schema = Vec::new();
@@ -97,6 +97,9 @@ pub fn read_schema(relations: u8, bytes: &[u8]) -> Result<Vec<Type>, u8> {
     reader.end()?;
     if ordinary_attributes(&schema).len() > MOST_ORDINARY {
         return Err(TOO_MANY_ORDINARY_ATTRIBUTES);
+    }
+    if schema.iter().any(Type::is_empty) {
+        return Err(EMPTY_RECORD);
     }
     Ok(schema)
 }

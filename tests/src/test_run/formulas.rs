@@ -1,4 +1,4 @@
-//! Formula and both verdicts with slices of several lengths.
+//! Formula and Verdict with slices of several lengths.
 
 use super::TestRun;
 use crate::input::Input;
@@ -24,40 +24,40 @@ fn work_lengths(input: &Input) -> [usize; 5] {
 }
 
 impl TestRun {
-    /// Compares Formula with each length of the work space, and both verdicts for the node
+    /// Compares Formula with each length of the work space, and Verdict for the node
     /// numbers of interest: with slices that are exactly long enough, and with any.
-    pub fn formula_and_verdicts(&mut self, bytes: &[u8]) {
+    pub fn formula_and_verdict(&mut self, bytes: &[u8]) {
         let input = Input::new(bytes.to_vec());
         let work_lengths = work_lengths(&input);
         for length in work_lengths {
             self.formula(&input, length);
         }
         for node in input.node_numbers() {
-            self.verdicts(&input, node, [input.work_length(), SCHEMA_LENGTH]);
+            self.verdict(&input, node, [input.work_length(), SCHEMA_LENGTH]);
             let lengths = [work_lengths, SCHEMA_LENGTHS].map(|all| all[self.random().below(5)]);
-            self.verdicts(&input, node, lengths);
+            self.verdict(&input, node, lengths);
         }
     }
 
-    /// Compares Formula, and both verdicts for each node, with slices exactly long enough.
-    pub fn verdicts_of_every_node(&mut self, bytes: &[u8]) {
+    /// Compares Formula, and Verdict for each node, with slices exactly long enough.
+    pub fn verdict_of_every_node(&mut self, bytes: &[u8]) {
         let input = Input::new(bytes.to_vec());
         let work_length = input.work_length();
         assert_eq!(self.formula(&input, work_length), 0);
         for node in 0..usize::from(bytes[1]) {
-            self.verdicts(&input, node, [work_length, SCHEMA_LENGTH]);
+            self.verdict(&input, node, [work_length, SCHEMA_LENGTH]);
         }
     }
 
-    /// Compares Formula with each length, and both verdicts for the node numbers of interest
+    /// Compares Formula with each length, and Verdict for the node numbers of interest
     /// with each pair of lengths.
-    pub fn formula_and_verdicts_with_every_length(&mut self, bytes: &[u8]) {
+    pub fn formula_and_verdict_with_every_length(&mut self, bytes: &[u8]) {
         let input = Input::new(bytes.to_vec());
         for work_length in work_lengths(&input) {
             self.formula(&input, work_length);
             for node in input.node_numbers() {
                 for schema_length in SCHEMA_LENGTHS {
-                    self.verdicts(&input, node, [work_length, schema_length]);
+                    self.verdict(&input, node, [work_length, schema_length]);
                 }
             }
         }

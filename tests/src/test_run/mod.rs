@@ -13,7 +13,7 @@ use crate::answer::{Answer, Counts, Operation, NO_TYPE, RESULT};
 use crate::input::Input;
 use crate::paired_calls::{Difference, PairedCalls};
 use crate::pseudorandom::Random;
-use crate::reference::{Apply, File, Order, ParseQuery, Recover, Typing, Verdict};
+use crate::reference::{Apply, File, ParseQuery, Recover, Typing, Verdict};
 
 /// The calls of a test and the counts of their answers.
 pub struct TestRun {
@@ -62,15 +62,8 @@ impl TestRun {
         self.made(Operation::Formula, compared)
     }
 
-    /// Compares both verdicts; gives the answer of Verdict.
-    pub fn verdicts(&mut self, input: &Input, node: usize, lengths: [usize; 2]) -> Verdict {
-        let compared = self
-            .calls
-            .verdict(Order::LowestNumber, input, node, lengths);
-        self.made(Operation::LowestVerdict, compared);
-        let compared = self
-            .calls
-            .verdict(Order::FewestMembers, input, node, lengths);
+    pub fn verdict(&mut self, input: &Input, node: usize, lengths: [usize; 2]) -> Verdict {
+        let compared = self.calls.verdict(input, node, lengths);
         self.made(Operation::Verdict, compared)
     }
 

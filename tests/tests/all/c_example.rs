@@ -76,6 +76,31 @@ fn the_example_prints_what_is_expected() {
     assert_eq!(text(run(&program, &[]), 0), wanted, "without a name");
 }
 
+/// The file of the example of this name.
+fn file_of(name: &str) -> Vec<u8> {
+    let examples = formula_examples();
+    let example = examples.iter().find(|example| example.name == name);
+    example.expect("an example").bytes()
+}
+
+/// E10's witness has two ordinary attributes, which come back from its instantiation.
+#[test]
+fn the_example_prints_witnesses_with_ordinary_attributes() {
+    let program = compile(C, &repository("examples/layouts.c"), "layouts_of_e10");
+    let file = written("e10_for_layouts");
+    fs::write(&file, file_of("E10")).expect("written");
+    let printed = text(run(&program, &[&file]), 0);
+    let schema = "01 00 01 10 00 02 00 01 00 01 11 00 01 00 02 10 00 11 00";
+    let lines: Vec<&str> = printed.lines().collect();
+    assert_eq!(lines[0], "node 8 typable, memberships 5");
+    assert_eq!(lines[1], format!("witness: {schema}"));
+    assert_eq!(lines[2], "output: 03 00 02 10 00 11 00");
+    assert!(lines[3].starts_with("instantiation: 02 00 "), "{printed}");
+    assert!(lines[3].ends_with(" 01 10 00 01 11 00"), "{printed}");
+    assert_eq!(lines[4], format!("schema: {schema}"));
+    assert_eq!(lines.len(), 5);
+}
+
 #[test]
 fn the_example_prints_untypable_and_refusals() {
     let program = compile(C, &repository("examples/layouts.c"), "layouts_of_others");
@@ -84,10 +109,10 @@ fn the_example_prints_untypable_and_refusals() {
         fs::write(&file, bytes).expect("written");
         text(run(&program, &[&file]), status)
     };
-    let examples = formula_examples();
-    let e5 = examples.iter().find(|example| example.name == "E5");
-    let mut bytes = e5.expect("an example").bytes();
+    let mut bytes = file_of("E5");
     assert_eq!(print(&bytes, 0), "node 2 untypable, attribute 1\n");
+    let e7 = print(&file_of("E7"), 0);
+    assert_eq!(e7, "node 1 untypable, attribute 0\n");
     bytes.push(0);
     for (file, refusal) in [
         (&bytes[..], Refusal::NodesFollowed),
@@ -178,7 +203,7 @@ fn the_header_has_the_constants_of_the_crate() {
     let wanted: BTreeSet<String> = wanted
         .map(|(name, value)| format!("{name} {value}"))
         .collect();
-    assert_eq!(wanted.len(), 39);
+    assert_eq!(wanted.len(), 41);
     assert_eq!(given, wanted);
 }
 

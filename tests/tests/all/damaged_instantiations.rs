@@ -5,10 +5,10 @@ use type_formula_tests::alone;
 use type_formula_tests::answer::Operation;
 use type_formula_tests::examples::{cases, e1, from_hexadecimal, pairs_of_the_node_before};
 use type_formula_tests::extreme_inputs::{extreme_assignments, join_of_64_nodes};
-use type_formula_tests::formula_examples::E2_SCHEMA;
+use type_formula_tests::formula_examples::FILLED_SCHEMA;
 use type_formula_tests::input::Input;
 use type_formula_tests::instantiation_examples::{
-    instances, instantiation_bytes, E2_INSTANTIATION, E3_INSTANTIATION,
+    instances, instantiation_bytes, E3_INSTANTIATION, FILLED_INSTANTIATION,
 };
 use type_formula_tests::pseudorandom::Random;
 use type_formula_tests::random_instantiations::MOST_IN_DISTURBED;
@@ -95,8 +95,8 @@ fn every_change_of_one_byte() {
     let lists: [(usize, &[u16]); 3] = [(3, &[20, 256]), (4, &[255, 300]), (7, &[21])];
     let interleaved = instantiation_bytes(&[(1, 5), (2, 6), (3, 7)], &lists);
     let (image, _) = alone::applied(&input, 6, &interleaved);
-    let [e2, e3] = [E2_INSTANTIATION, E3_INSTANTIATION].map(from_hexadecimal);
-    for instantiation in [e2, e3, interleaved] {
+    let [filled, e3] = [FILLED_INSTANTIATION, E3_INSTANTIATION].map(from_hexadecimal);
+    for instantiation in [filled, e3, interleaved] {
         for place in 0..instantiation.len() {
             for value in 0..=255 {
                 let mut changed = instantiation.clone();
@@ -105,8 +105,8 @@ fn every_change_of_one_byte() {
             }
         }
     }
-    let [e2, e3] = [E2_SCHEMA, E3_SCHEMA].map(from_hexadecimal);
-    for schema in [e2, e3, image] {
+    let [filled, e3] = [FILLED_SCHEMA, E3_SCHEMA].map(from_hexadecimal);
+    for schema in [filled, e3, image] {
         for place in 0..schema.len() {
             for value in 0..=255 {
                 let mut changed = schema.clone();
@@ -116,8 +116,9 @@ fn every_change_of_one_byte() {
         }
     }
     run.assert_given(Operation::Apply, [0, 14, 16, 17, 20, 21], 20);
-    run.assert_given(Operation::Apply, [15, 19], 3);
+    run.assert_given(Operation::Apply, [15, 19, 26], 3);
     run.assert_given(Operation::Recover, [0, 14, 16, 17], 100);
+    run.assert_given(Operation::Recover, [25], 1);
     run.finish("changes of one byte", IN_CHANGES);
 }
 
@@ -137,8 +138,8 @@ fn extremes() {
             run.recover_for_numbers(&input, &encode_schema(&sets));
         }
     }
-    run.assert_given(Operation::Apply, [0, 11, 12, 13, 18, 20, 21], 100);
-    run.assert_given(Operation::Recover, [0, 11, 12, 13, 18], 100);
+    run.assert_given(Operation::Apply, [0, 11, 12, 13, 18, 20, 21, 26], 100);
+    run.assert_given(Operation::Recover, [0, 11, 12, 13, 18, 25], 100);
     run.finish("extremes", IN_EXTREMES);
 }
 
@@ -168,8 +169,8 @@ fn disturbed_files_with_good_instantiations_and_schemas() {
         run.apply_for_numbers(&input, &[0; LISTS_START]);
         run.recover_for_numbers(&input, &[0; 16]);
     }
-    run.assert_given(Operation::Apply, (0..=13).chain([20, 21]), 100);
-    run.assert_given(Operation::Recover, (0..=14).chain([17]), 100);
+    run.assert_given(Operation::Apply, (0..=13).chain([20, 21, 26]), 100);
+    run.assert_given(Operation::Recover, (0..=14).chain([17, 25]), 100);
     run.finish("disturbed files", IN_DISTURBED_FILES);
 }
 
@@ -192,6 +193,6 @@ fn random_bytes_as_instantiation_and_as_schema() {
         run.recover_bytes(&input, node, &random.records_of_maps(relations));
     }
     run.assert_given(Operation::Apply, [0, 14, 15, 16, 17], 100);
-    run.assert_given(Operation::Recover, [0, 14, 15, 16, 17], 100);
+    run.assert_given(Operation::Recover, [0, 14, 15, 16, 17, 25], 100);
     run.finish("random bytes", IN_RANDOM_BYTES);
 }

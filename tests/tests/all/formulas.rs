@@ -1,4 +1,4 @@
-//! The engine against the reference: Formula, Verdict and the verdict by lowest subsets.
+//! The engine against the reference: Formula and Verdict.
 
 use type_formula_tests::answer::{Operation, NO_TYPE, RESULT};
 use type_formula_tests::engine::{self, Found};
@@ -9,15 +9,15 @@ use type_formula_tests::examples::{
 use type_formula_tests::formula_examples::{assert_e1_columns, formula_examples, FormulaExample};
 use type_formula_tests::pseudorandom::Random;
 use type_formula_tests::reference::{
-    allowed_subsets, infer, members, Inferred, Order, COLUMNS, FORMULA_LENGTH, SCHEMA_LENGTH,
+    allowed_subsets, infer, members, Inferred, COLUMNS, FORMULA_LENGTH, SCHEMA_LENGTH,
 };
 use type_formula_tests::test_run::{TestRun, FAR_TOO_LONG};
 
 /// The least number of comparisons of each test.
 const IN_EVERY_M_AND_N: u64 = 90_000;
 const IN_SMALL_FILES: u64 = 150_000;
-const IN_EVERY_NODE: u64 = 110_000;
-const IN_TREES: u64 = 150_000;
+const IN_EVERY_NODE: u64 = 75_000;
+const IN_TREES: u64 = 45_000;
 const IN_ALL_SMALLEST_FILES: u64 = 10_000;
 const IN_CASES: u64 = 40_000;
 const IN_PREFIXES: u64 = 30_000;
@@ -41,21 +41,11 @@ fn test_run() -> TestRun {
     TestRun::new(19)
 }
 
-/// Asserts that each verdict said typable and untypable at least so often.
+/// Asserts that Verdict said typable and untypable at least so often.
 fn assert_verdicts(run: &TestRun, typable: u64, untypable: u64) {
-    for operation in [Operation::Verdict, Operation::LowestVerdict] {
-        run.assert_given(operation, [RESULT], typable);
-        run.assert_given(operation, [NO_TYPE], untypable);
-    }
+    run.assert_given(Operation::Verdict, [RESULT], typable);
+    run.assert_given(Operation::Verdict, [NO_TYPE], untypable);
 }
-
-/// A verdict of the engine.
-type VerdictCall = fn(&[u8], usize, &mut [u8], &mut [u8], &mut Found) -> u8;
-
-/// Both verdicts of the engine, the second one's memberships as they were lent.
-const VERDICTS: [VerdictCall; 2] = [engine::verdict, |file, node, work, schema, found| {
-    engine::lowest_verdict(file, node, work, schema, &mut found.value)
-}];
 
 /// The numbers as they are lent.
 const LENT: Found = Found {
@@ -71,32 +61,23 @@ fn assert_example(example: &FormulaExample) {
     let mut work = vec![0x55; start + FORMULA_LENGTH];
     assert_eq!(engine::formula(&bytes, &mut work), 0, "{name}");
     assert!(work[start..] == wanted, "{name}");
-    let wanted_witnesses = match example.verdict {
-        Ok(given) => [
-            Ok((given.fewest, given.memberships)),
-            Ok((given.lowest, LENT.memberships)),
-        ],
-        Err(attribute) => [Err(attribute); 2],
-    };
-    for (verdict, wanted_witness) in VERDICTS.into_iter().zip(wanted_witnesses) {
-        work.fill(0x55);
-        let (mut schema, mut found) = (vec![0x55; SCHEMA_LENGTH], LENT);
-        let answer = verdict(&bytes, example.last(), &mut work, &mut schema, &mut found);
-        assert!(work[start..] == wanted, "{name}");
-        let Found { value, memberships } = found;
-        match wanted_witness {
-            Ok((witness, count)) => {
-                let witness = from_hexadecimal(witness);
-                assert_eq!((answer, value), (0, witness.len()), "{name}");
-                assert_eq!(memberships, count, "{name}");
-                assert_eq!(schema[..value], witness, "{name}");
-                assert!(schema[value..].iter().all(|&byte| byte == 0x55), "{name}");
-            }
-            Err(attribute) => {
-                assert_eq!((answer, value), (255, usize::from(attribute)), "{name}");
-                assert_eq!(memberships, LENT.memberships, "{name}");
-                assert!(schema.iter().all(|&byte| byte == 0x55), "{name}");
-            }
+    work.fill(0x55);
+    let (mut schema, mut found) = (vec![0x55; SCHEMA_LENGTH], LENT);
+    let answer = engine::verdict(&bytes, example.last(), &mut work, &mut schema, &mut found);
+    assert!(work[start..] == wanted, "{name}");
+    let Found { value, memberships } = found;
+    match example.verdict {
+        Ok((witness, count)) => {
+            let witness = from_hexadecimal(witness);
+            assert_eq!((answer, value), (0, witness.len()), "{name}");
+            assert_eq!(memberships, count, "{name}");
+            assert_eq!(schema[..value], witness, "{name}");
+            assert!(schema[value..].iter().all(|&byte| byte == 0x55), "{name}");
+        }
+        Err(attribute) => {
+            assert_eq!((answer, value), (255, usize::from(attribute)), "{name}");
+            assert_eq!(memberships, LENT.memberships, "{name}");
+            assert!(schema.iter().all(|&byte| byte == 0x55), "{name}");
         }
     }
 }
@@ -117,7 +98,7 @@ fn e1_has_these_bytes() {
 
 /// The order 10, 11, 12, 13, and that no slice changes.
 #[test]
-fn verdicts_of_e1_are_refused_in_order() {
+fn verdict_of_e1_is_refused_in_order() {
     let bytes = e1().bytes;
     let longer = [&bytes[..], &[0]].concat();
     for (file, node, work_length, schema_length, refusal) in [
@@ -131,13 +112,11 @@ fn verdicts_of_e1_are_refused_in_order() {
         (&bytes, 6, 7_168, 4_103, 13),
         (&bytes, 0, FAR_TOO_LONG, 4_103, 13),
     ] {
-        for verdict in VERDICTS {
-            let (mut work, mut schema) = (vec![0x55; work_length], vec![0x55; schema_length]);
-            let mut found = LENT;
-            let answer = verdict(file, node, &mut work, &mut schema, &mut found);
-            assert_eq!((answer, found), (refusal, LENT));
-            assert!(work.iter().chain(&schema).all(|&byte| byte == 0x55));
-        }
+        let (mut work, mut schema) = (vec![0x55; work_length], vec![0x55; schema_length]);
+        let mut found = LENT;
+        let answer = engine::verdict(file, node, &mut work, &mut schema, &mut found);
+        assert_eq!((answer, found), (refusal, LENT));
+        assert!(work.iter().chain(&schema).all(|&byte| byte == 0x55));
     }
 }
 
@@ -158,15 +137,13 @@ fn formula_of_e1_is_refused_in_order() {
 fn empty_slices_are_refused() {
     assert_eq!(engine::formula(&[], &mut []), 1);
     assert_eq!(engine::formula(&e1().bytes, &mut []), 12);
-    for verdict in VERDICTS {
-        let mut found = LENT;
-        let mut verdict =
-            |file: &[u8], work: &mut [u8]| verdict(file, 0, work, &mut [], &mut found);
-        assert_eq!(verdict(&[], &mut []), 1);
-        assert_eq!(verdict(&e1().bytes, &mut []), 12);
-        assert_eq!(verdict(&e1().bytes, &mut [0x55; 7_168]), 13);
-        assert_eq!(found, LENT);
-    }
+    let mut found = LENT;
+    let mut verdict =
+        |file: &[u8], work: &mut [u8]| engine::verdict(file, 0, work, &mut [], &mut found);
+    assert_eq!(verdict(&[], &mut []), 1);
+    assert_eq!(verdict(&e1().bytes, &mut []), 12);
+    assert_eq!(verdict(&e1().bytes, &mut [0x55; 7_168]), 13);
+    assert_eq!(found, LENT);
 }
 
 #[test]
@@ -175,8 +152,8 @@ fn random_accepted_files_of_every_m_and_n() {
     let mut run = test_run();
     for relations in 1..=8 {
         for count in 1..=64 {
-            run.formula_and_verdicts(&random.accepted_file(relations, count));
-            run.formula_and_verdicts(&random.mild_file(relations, count));
+            run.formula_and_verdict(&random.accepted_file(relations, count));
+            run.formula_and_verdict(&random.mild_file(relations, count));
         }
     }
     run.assert_answers([0, 11, 12, 13], 5_000);
@@ -190,7 +167,7 @@ fn random_accepted_files_of_few_nodes() {
     let mut run = test_run();
     for round in 0..4_000 {
         let (relations, count) = (random.between(1, 8), random.between(1, 12));
-        run.formula_and_verdicts(&match round % 2 {
+        run.formula_and_verdict(&match round % 2 {
             0 => random.accepted_file(relations, count),
             _ => random.mild_file(relations, count),
         });
@@ -203,52 +180,51 @@ fn random_accepted_files_of_few_nodes() {
 fn every_node_of_random_accepted_files() {
     let mut random = Random::new(25);
     let mut run = test_run();
-    for round in 0..12_000 {
+    for round in 0..8_000 {
         let (relations, count) = (random.between(1, 8), random.between(1, 16));
-        run.verdicts_of_every_node(&match round % 2 {
+        run.verdict_of_every_node(&match round % 2 {
             0 => random.accepted_file(relations, count),
             _ => random.mild_file(relations, count),
         });
     }
-    assert_verdicts(&run, 50_000, 15_000);
+    assert_verdicts(&run, 40_000, 15_000);
     run.finish("every node", IN_EVERY_NODE);
 }
 
-/// Whether Verdict's subset of some attribute is not the lowest, and whether another has
-/// as few members.
+/// Whether the subsets with the fewest members, of those the lowest, fill all relations; and whether
+/// an attribute has another allowed subset with as few members.
 fn choices(inferred: &Inferred) -> (bool, bool) {
     let formula = inferred.formulas.last().expect("a node");
-    let of_column = |column| {
+    let (mut filled, mut has_tie) = (0, false);
+    for column in 1..COLUMNS {
         let allowed = allowed_subsets(formula, column);
-        let fewest = allowed.iter().map(|&s| members(s)).min();
-        let with_fewest = allowed.iter().filter(|&&s| Some(members(s)) == fewest);
-        (
-            fewest != allowed.first().map(|&s| members(s)),
-            with_fewest.count() > 1,
-        )
-    };
-    let all: Vec<(bool, bool)> = (1..COLUMNS).map(of_column).collect();
-    let any = |is: fn(&(bool, bool)) -> bool| all.iter().any(is);
-    (any(|choice| choice.0), any(|choice| choice.1))
+        let Some(&first) = allowed.iter().min_by_key(|&&s| members(s)) else {
+            return (false, has_tie);
+        };
+        let as_few = allowed.iter().filter(|&&s| members(s) == members(first));
+        has_tie |= as_few.count() > 1;
+        filled |= first;
+    }
+    (filled + 1 == 1 << inferred.file.relations, has_tie)
 }
 
-/// Trees of relations: in at least a tenth the witnesses differ, and in a tenth there is a
-/// tie.
+/// Trees of relations: in at least a tenth the subsets with the fewest members fill all relations,
+/// in a tenth they do not, and in a tenth there is a tie.
 #[test]
 fn every_node_of_trees_of_relations() {
     let mut random = Random::new(26);
     let mut run = test_run();
-    let (mut above, mut ties) = (0, 0);
-    for _ in 0..8_000 {
+    let (mut filled, mut ties) = (0, 0);
+    for _ in 0..5_000 {
         let relations = random.between(1, 8);
         let bytes = random.tree_file(relations);
-        let (is_above, is_tie) = choices(&infer(&bytes).expect("accepted"));
-        above += u64::from(is_above);
+        let (is_filled, is_tie) = choices(&infer(&bytes).expect("accepted"));
+        filled += u64::from(is_filled);
         ties += u64::from(is_tie);
-        run.verdicts_of_every_node(&bytes);
+        run.verdict_of_every_node(&bytes);
     }
-    println!("{above} with another subset than the lowest, {ties} with a tie");
-    assert!(above >= 800 && ties >= 800);
+    println!("{filled} filled by the fewest members, {ties} with a tie");
+    assert!((500..4_500).contains(&filled) && ties >= 500);
     run.finish("trees of relations", IN_TREES);
 }
 
@@ -256,7 +232,7 @@ fn every_node_of_trees_of_relations() {
 fn all_files_of_three_nodes_two_relations_and_two_attributes() {
     let mut run = test_run();
     for bytes in smallest_files() {
-        run.verdicts_of_every_node(&bytes);
+        run.verdict_of_every_node(&bytes);
     }
     assert_verdicts(&run, 5_000, 500);
     run.finish("all smallest files", IN_ALL_SMALLEST_FILES);
@@ -266,7 +242,7 @@ fn all_files_of_three_nodes_two_relations_and_two_attributes() {
 fn examples_and_edges_with_every_length() {
     let mut run = test_run();
     for case in cases() {
-        run.formula_and_verdicts_with_every_length(&case.bytes);
+        run.formula_and_verdict_with_every_length(&case.bytes);
     }
     run.assert_answers(0..=13, 100);
     run.finish("examples and edges", IN_CASES);
@@ -281,7 +257,7 @@ fn every_prefix_of_accepted_files() {
     let mut run = test_run();
     for bytes in files {
         for length in 0..=bytes.len() {
-            run.formula_and_verdicts(&bytes[..length]);
+            run.formula_and_verdict(&bytes[..length]);
         }
     }
     run.assert_answers([1, 4], 100);
@@ -298,7 +274,7 @@ fn disturbed_accepted_files() {
         for _ in 0..random.between(1, 3) {
             random.disturb(&mut bytes);
         }
-        run.formula_and_verdicts(&bytes);
+        run.formula_and_verdict(&bytes);
     }
     run.assert_answers(0..=13, 100);
     run.finish("disturbed files", IN_DISTURBED_FILES);
@@ -318,14 +294,13 @@ fn one_work_space_for_many_files() {
         let bytes = random.mild_file(relations, count);
         let inferred = infer(&bytes).expect("accepted");
         let node = usize::from(random.between(0, count - 1));
-        let orders = [Order::FewestMembers, Order::LowestNumber];
         if round % 3 == 2 {
             inferred.formula(&mut wanted);
             engine::formula(&bytes, &mut work);
         } else {
-            let (order, verdict) = (orders[round % 3], VERDICTS[round % 3]);
-            inferred.verdict(order, node, &mut wanted, &mut wanted_schema);
-            verdict(&bytes, node, &mut work, &mut schema, &mut Found::default());
+            inferred.verdict(node, &mut wanted, &mut wanted_schema);
+            let found = &mut Found::default();
+            engine::verdict(&bytes, node, &mut work, &mut schema, found);
         }
         let text = to_hexadecimal(&bytes);
         assert!(work == wanted, "round {round}, node {node}: {text}");
@@ -343,12 +318,15 @@ fn sixty_three_pairs_of_the_node_before_end() {
     let mut run = test_run();
     let (mut work, mut schema) = (vec![0; 64 * FORMULA_LENGTH], vec![0; SCHEMA_LENGTH]);
     for bytes in pairs_of_the_node_before() {
-        run.formula_and_verdicts(&bytes);
+        run.formula_and_verdict(&bytes);
         assert_eq!(engine::formula(&bytes, &mut work), 0);
-        for verdict in VERDICTS {
-            let mut found = Found::default();
-            let answer = verdict(&bytes, 63, &mut work, &mut schema, &mut found);
-            assert_eq!((answer, found.value, found.memberships), (0, 16, 0));
-        }
+        let mut found = Found::default();
+        let answer = engine::verdict(&bytes, 63, &mut work, &mut schema, &mut found);
+        let is_product = bytes[7] == 4;
+        let wanted = match is_product {
+            true => (255, 0, 0),
+            false => (0, 8 * 5, 8),
+        };
+        assert_eq!((answer, found.value, found.memberships), wanted);
     }
 }

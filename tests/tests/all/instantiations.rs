@@ -7,11 +7,11 @@ use type_formula_tests::engine::{self, Lengths, UNTYPED};
 use type_formula_tests::examples::{
     e1, from_hexadecimal, join_of_eight, pairs_of_the_node_before, to_hexadecimal,
 };
-use type_formula_tests::formula_examples::E2_SCHEMA;
+use type_formula_tests::formula_examples::{E2_SCHEMA, FILLED_SCHEMA};
 use type_formula_tests::input::Input;
 use type_formula_tests::instantiation_examples::{
-    apply_cases, instances, recover_cases, with_faults, ApplyCase, RecoverCase, E2_INSTANTIATION,
-    E3_INSTANTIATION,
+    apply_cases, instances, recover_cases, with_faults, ApplyCase, RecoverCase, E3_INSTANTIATION,
+    FILLED_INSTANTIATION,
 };
 use type_formula_tests::pseudorandom::Random;
 use type_formula_tests::reference::{
@@ -60,7 +60,7 @@ fn assert_apply(case: &ApplyCase) {
     };
     assert_eq!((lengths.schema, lengths.output), wanted, "{name}");
     let filled = match refusal {
-        0 | 20 | 21 => alone::formulas(&case.file),
+        0 | 20 | 21 | 26 => alone::formulas(&case.file),
         _ => Vec::new(),
     };
     assert_written(name, &work, &filled);
@@ -95,11 +95,11 @@ fn assert_recover(case: &RecoverCase) {
 }
 
 #[test]
-fn the_witness_of_e1_and_e3_are_recovered_and_applied() {
+fn the_schema_of_e3_without_20_and_that_of_e3_are_recovered_and_applied() {
     let input = Input::new(e1().bytes);
     for (schema, instantiation, output) in [
-        (E2_SCHEMA, E2_INSTANTIATION, "0c 00"),
-        (E3_SCHEMA, E3_INSTANTIATION, "0d 00 01 14 00"),
+        (FILLED_SCHEMA, FILLED_INSTANTIATION, "1c 00"),
+        (E3_SCHEMA, E3_INSTANTIATION, "1d 00 01 14 00"),
     ] {
         let [schema, instantiation, output] = [schema, instantiation, output].map(from_hexadecimal);
         assert_eq!(alone::recovered(&input, 6, &schema), instantiation);
@@ -126,8 +126,8 @@ fn examples_and_edges_have_their_answers() {
         run.recover(&input, case.node, &case.schema, case.lengths);
         run.recover_for_numbers(&input, &case.schema);
     }
-    run.assert_given(Operation::Apply, [0].into_iter().chain(10..=21), 5);
-    run.assert_given(Operation::Recover, [0].into_iter().chain(10..=18), 5);
+    run.assert_given(Operation::Apply, [0, 26].into_iter().chain(10..=21), 5);
+    run.assert_given(Operation::Recover, [0, 25].into_iter().chain(10..=18), 5);
     run.finish("examples and edges", IN_CASES);
 }
 
@@ -174,9 +174,16 @@ fn every_length_of_interest_of_each_slice() {
         random.mild_file(8, 64),
         from_hexadecimal("01 01 01 00 00"),
     ];
-    let faults: [&[u8]; 7] = [&[], &[14], &[17], &[19], &[18], &[20], &[21]];
+    let faults: [&[u8]; 8] = [&[], &[14], &[17], &[19], &[18], &[20], &[21], &[26]];
     let instantiations = faults.map(|faults| with_faults(faults, 0x00));
-    let written = [E2_SCHEMA, E4_SCHEMA, "01 00 00", "01 00 01 0f 00"].map(from_hexadecimal);
+    let written = [
+        FILLED_SCHEMA,
+        E2_SCHEMA,
+        E4_SCHEMA,
+        "01 00 00",
+        "01 00 01 0f 00",
+    ]
+    .map(from_hexadecimal);
     let longest = encode_schema(&in_each_of_eight(1..271));
     let with_256 = encode_schema(&spread_over_eight(16..272));
     let schemas = written.into_iter().chain([longest, with_256]);
@@ -195,10 +202,10 @@ fn every_length_of_interest_of_each_slice() {
     }
     run.assert_given(
         Operation::Apply,
-        [0, 10, 11, 12, 13, 14, 17, 18, 19, 20, 21],
+        [0, 10, 11, 12, 13, 14, 17, 18, 19, 20, 21, 26],
         8,
     );
-    run.assert_given(Operation::Recover, [0].into_iter().chain(10..=18), 8);
+    run.assert_given(Operation::Recover, [0, 25].into_iter().chain(10..=18), 8);
     run.assert_given(Operation::Recover, [NO_TYPE], 4);
     run.finish("lengths", IN_LENGTHS);
 }

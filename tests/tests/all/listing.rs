@@ -29,7 +29,7 @@ fn e1_has_this_text() {
     assert_eq!(compare(&e1().bytes), E1_LISTING);
 }
 
-/// E1, which is the file of E2 to E4 too, and E5 to E10, E5 and E6 untypable.
+/// E1, which is the file of E2 to E4 too, and E5 to E10, E5 to E7 untypable.
 #[test]
 fn e1_and_e5_to_e10_have_their_texts() {
     for example in formula_examples() {

@@ -3,6 +3,7 @@
 mod agreement_program;
 mod c_example;
 mod command_folder;
+mod covers;
 mod damaged_instantiations;
 mod expression_files;
 mod format_page;
@@ -18,6 +19,7 @@ mod query_program;
 mod query_refusals;
 mod random_instantiations;
 mod reference;
+mod reference_covers;
 mod reference_formulas;
 mod reference_instantiations;
 mod reference_queries;

@@ -16,19 +16,19 @@ fn refusals(operation: Operation) -> Vec<u8> {
         Operation::Record => refusal <= 11,
         Operation::ReadNode => (4..=9).contains(&refusal),
         Operation::Formula => refusal <= 10 || refusal == 12,
-        Operation::Verdict | Operation::LowestVerdict => refusal <= 13,
-        Operation::Typing => refusal <= 18 && refusal != 12,
-        Operation::Apply => refusal <= 21,
-        Operation::Recover => refusal <= 18,
-        Operation::ParseQuery => matches!(refusal, 2 | 7 | 9 | 13 | 22..),
+        Operation::Verdict => refusal <= 13,
+        Operation::Typing => matches!(refusal, 1..=11 | 13..=18 | 25),
+        Operation::Apply => matches!(refusal, 1..=21 | 26),
+        Operation::Recover => matches!(refusal, 1..=18 | 25),
+        Operation::ParseQuery => matches!(refusal, 2 | 7 | 9 | 13 | 22..=24),
     };
     all.filter(can_give).collect()
 }
 
 /// Whether the operation can give untyped or untypable.
 fn has_no_type(operation: Operation) -> bool {
-    use Operation::{LowestVerdict, Recover, Typing, Verdict};
-    matches!(operation, Verdict | LowestVerdict | Typing | Recover)
+    use Operation::{Recover, Typing, Verdict};
+    matches!(operation, Verdict | Typing | Recover)
 }
 
 #[test]

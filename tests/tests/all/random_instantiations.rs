@@ -9,8 +9,8 @@ use type_formula_tests::input::Input;
 use type_formula_tests::pseudorandom::Random;
 use type_formula_tests::random_instantiations::MOST_IN_DISTURBED;
 use type_formula_tests::reference::{
-    assignment_of, encode_instantiation, encode_schema, untypable_attribute, Apply, Instantiation,
-    Recover,
+    assignment_of, blocked_attribute, encode_instantiation, encode_schema, Apply, Instantiation,
+    Recover, Type,
 };
 use type_formula_tests::test_run::TestRun;
 
@@ -51,21 +51,25 @@ fn random_instantiations() {
         let (input, node, instantiation) = random.file_with_instantiation(relations, count, 255);
         let bytes = encode_instantiation(&instantiation);
         let apply = run.apply_bytes(&input, node, &bytes);
-        let is_typable = untypable_attribute(&input.formulas()[node]).is_none();
-        assert_eq!(is_typable, matches!(apply, Apply::Applied { .. }));
+        let is_allowed = blocked_attribute(&input.formulas()[node]).is_none();
+        let is_filled = !instantiation.image(relations).iter().any(Type::is_empty);
+        let is_applied = matches!(apply, Apply::Applied { .. });
+        assert_eq!(is_applied, is_allowed && is_filled);
         for other in 0..usize::from(count) {
             run.apply_bytes(&input, other, &bytes);
         }
         let schema = encode_schema(&instantiation.image(relations));
         run.recover_bytes(&input, node, &schema);
-        if is_typable {
+        if is_applied {
             let (image, _) = alone::applied(&input, node, &bytes);
             assert_eq!(image, schema);
             assert_eq!(alone::recovered(&input, node, &image), bytes);
         }
     }
     run.assert_given(Operation::Apply, [0, 20, 21], 1_000);
+    run.assert_given(Operation::Apply, [26], 100);
     run.assert_given(Operation::Recover, [0], 1_000);
+    run.assert_given(Operation::Recover, [25], 100);
     run.finish("instantiations", IN_INSTANTIATIONS);
 }
 
@@ -121,6 +125,7 @@ fn disturbed_instantiations() {
         }
     }
     run.assert_given(Operation::Apply, [0].into_iter().chain(14..=21), 1_000);
+    run.assert_given(Operation::Apply, [26], 300);
     run.finish("disturbed instantiations", IN_DISTURBED_INSTANTIATIONS);
 }
 
@@ -180,7 +185,7 @@ fn disturbed_schemas() {
         }
         run.recover_bytes(input, node, &schema);
     }
-    run.assert_given(Operation::Recover, [0, 14, 15, 16, 17, 18], 300);
+    run.assert_given(Operation::Recover, [0, 14, 15, 16, 17, 18, 25], 300);
     run.finish("disturbed schemas", IN_DISTURBED_SCHEMAS);
 }
 
@@ -203,7 +208,8 @@ fn all_smallest_files_with_all_small_instantiations_and_schemas() {
             run.recover_bytes(&input, 2, &encode_schema(&sets));
         }
     }
-    run.assert_given(Operation::Apply, [0, 20, 21], 5_000);
+    run.assert_given(Operation::Apply, [0, 20, 21, 26], 5_000);
+    run.assert_given(Operation::Recover, [25], 5_000);
     run.assert_both(Operation::Recover);
     run.finish("all smallest files", IN_ALL_SMALLEST_FILES);
 }

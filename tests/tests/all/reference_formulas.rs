@@ -1,16 +1,16 @@
-//! The reference alone: typing rules, Formula, both verdicts and the listing.
+//! The reference alone: typing rules, Formula, Verdict and the listing.
 
 use type_formula_tests::examples::{cases, e1, from_hexadecimal, join_of_eight, three_subsets};
-use type_formula_tests::formula_examples::{assert_e1_columns, formula_examples, E2_SCHEMA};
+use type_formula_tests::formula_examples::{assert_e1_columns, formula_examples, FILLED_SCHEMA};
 use type_formula_tests::pseudorandom::Random;
 use type_formula_tests::reference::{
     allowed_subsets, assignment_of, encode_file, formula, holders, infer, is_allowed, is_output,
-    listing, lowest_verdict, read_schema, type_of, verdict, Formula, Inferred, Node, Order, Type,
-    Verdict, COLUMNS, FORMULA_LENGTH, SCHEMA_LENGTH,
+    listing, read_schema, type_of, verdict, Formula, Inferred, Node, Type, Verdict, COLUMNS,
+    FORMULA_LENGTH, SCHEMA_LENGTH,
 };
 
-/// The ordinary attributes of the random assignments.
-const ORDINARY: [u32; 4] = [16, 17, 300, 70_000];
+/// The ordinary attributes of the random assignments and of witnesses.
+const ORDINARY: [u32; 10] = [16, 17, 18, 19, 20, 21, 22, 23, 300, 70_000];
 
 /// How many cases of each kind come up at least.
 const TYPED: u64 = 20_000;
@@ -97,19 +97,16 @@ fn files(random: &mut Random) -> Vec<Inferred> {
     files.iter().map(infer).collect()
 }
 
-/// The orders of the two verdicts.
-const ORDERS: [Order; 2] = [Order::FewestMembers, Order::LowestNumber];
-
 /// How many attributes the relations have in all.
 fn memberships(assignment: &[Type]) -> u8 {
     assignment.iter().map(|set| set.len() as u8).sum()
 }
 
-/// A verdict with slices that are long enough, and the bytes written.
-fn verdict_of(order: Order, inferred: &Inferred, node: usize) -> (Verdict, Vec<u8>) {
+/// Verdict with slices that are long enough, and the bytes written.
+fn verdict_of(inferred: &Inferred, node: usize) -> (Verdict, Vec<u8>) {
     let mut work = vec![0; FORMULA_LENGTH * inferred.formulas.len()];
     let mut schema = vec![0; SCHEMA_LENGTH];
-    let answer = inferred.verdict(order, node, &mut work, &mut schema);
+    let answer = inferred.verdict(node, &mut work, &mut schema);
     match answer {
         Verdict::Typable { length, .. } => schema.truncate(length),
         _ => schema.clear(),
@@ -167,42 +164,57 @@ fn every_small_assignment_is_typed_as_the_formula_says() {
     assert!(typed >= 2_000 && untyped >= 2_000);
 }
 
-/// The least number of memberships of the assignments of attributes 1, 2 and 16 that type
-/// the last node.
-fn fewest_memberships(Inferred { file, .. }: &Inferred) -> Option<u8> {
-    let node = file.nodes.len() - 1;
-    let typed = three_subsets(file.relations).filter_map(|[first, second, third]| {
-        let subsets = [(1, first), (2, second), (16, third)];
-        let assignment = assignment_of(file.relations, subsets);
-        let is_typed = type_of(file, node, &assignment).is_some();
-        is_typed.then(|| memberships(&assignment))
-    });
-    typed.min()
+/// Assignments of attributes 1, 2, and 16 to 18, in which every relation has an attribute.
+fn filled_assignments(relations: u8) -> Vec<Vec<Type>> {
+    let all = 0..1 << relations;
+    let mut assignments = Vec::new();
+    for [first, second, third] in three_subsets(relations) {
+        for fourth in all.clone().filter(|&s| s >= third) {
+            for fifth in all.clone().filter(|&s| s >= fourth) {
+                let ordinary = [(16, third), (17, fourth), (18, fifth)];
+                let subsets = [(1, first), (2, second)].into_iter().chain(ordinary);
+                assignments.push(assignment_of(relations, subsets));
+            }
+        }
+    }
+    assignments.retain(|sets| !sets.iter().any(Type::is_empty));
+    assignments
 }
 
-/// Every small assignment that types a node has at least as many memberships as Verdict
-/// says, and one has as many.
+/// Every small filled assignment that types a node has at least as many memberships as Verdict says,
+/// and one has as many; none types an untypable node.
 #[test]
-fn no_small_assignment_that_types_a_node_has_fewer_memberships_than_the_witness() {
+fn no_small_filled_assignment_that_types_a_node_has_fewer_memberships_than_the_witness() {
     let mut random = Random::new(34);
-    let (mut typable, mut fewer) = (0, 0);
-    for _ in 0..1_000 {
-        let nodes = random.tree_nodes(3);
+    let all = [1, 2, 3].map(filled_assignments);
+    let (mut typable, mut empty, mut with_ordinary) = (0, 0, 0);
+    for round in 0..600 {
+        let relations = random.between(1, 3);
+        let nodes = match round % 2 {
+            0 => random.tree_nodes(relations),
+            _ => random.mild_nodes(relations, 6),
+        };
         let nodes: Vec<Node> = nodes.iter().map(with_attributes_1_and_2).collect();
-        let inferred = infer(&encode_file(3, &nodes)).expect("accepted");
-        let [fewest, lowest] =
-            ORDERS.map(
-                |order| match verdict_of(order, &inferred, nodes.len() - 1).0 {
-                    Verdict::Typable { memberships, .. } => Some(memberships),
-                    _ => None,
-                },
-            );
-        assert_eq!(fewest_memberships(&inferred), fewest, "{nodes:?}");
-        typable += u64::from(fewest.is_some());
-        fewer += u64::from(fewest < lowest);
+        let inferred = infer(&encode_file(relations, &nodes)).expect("accepted");
+        let node = nodes.len() - 1;
+        let types = |sets: &&Vec<Type>| type_of(&inferred.file, node, sets).is_some();
+        let typed = all[usize::from(relations) - 1].iter().filter(types);
+        let fewest = typed.map(|sets| memberships(sets)).min();
+        match verdict_of(&inferred, node) {
+            (Verdict::Typable { memberships, .. }, schema) => {
+                assert_eq!(fewest, Some(memberships), "{nodes:?}");
+                typable += 1;
+                with_ordinary += u64::from(schema.len() > 2 * usize::from(relations));
+            }
+            (Verdict::Untypable { attribute }, _) => {
+                assert_eq!(fewest, None, "{nodes:?}");
+                empty += u64::from(attribute == 0);
+            }
+            (refused, _) => panic!("{refused:?}"),
+        }
     }
-    println!("{typable} typable, {fewer} with fewer memberships than by lowest subsets");
-    assert!(typable >= 500 && fewer >= 50);
+    println!("{typable} typable, {with_ordinary} with ordinary attributes, {empty} not filled");
+    assert!(typable >= 300 && with_ordinary >= 100 && empty >= 10);
 }
 
 /// The node with 1 for each odd and 2 for each even attribute.
@@ -242,22 +254,21 @@ fn a_witness_types_its_node_and_nothing_types_an_untypable_node() {
     for inferred in files(&mut random) {
         let Inferred { file, formulas } = &inferred;
         for (node, formula) in formulas.iter().enumerate() {
-            let order = ORDERS[random.below(2)];
-            let (answer, schema) = verdict_of(order, &inferred, node);
+            let (answer, schema) = verdict_of(&inferred, node);
             if let Verdict::Untypable { attribute } = answer {
-                assert_eq!(allowed_subsets(formula, usize::from(attribute)), []);
+                let blocked = allowed_subsets(formula, usize::from(attribute)).is_empty();
+                assert_eq!(blocked, attribute > 0);
                 let assignments =
                     (0..8).flat_map(|_| assignments(&mut random, formula, file.relations));
                 for assignment in assignments {
-                    assert_eq!(
-                        type_of(file, node, &assignment),
-                        None,
-                        "node {node} of {file:?}"
-                    );
+                    let is_typed = type_of(file, node, &assignment).is_some();
+                    let is_empty = assignment.iter().any(Type::is_empty);
+                    let is_right = !is_typed || !blocked && is_empty;
+                    assert!(is_right, "node {node} of {file:?}, {assignment:?}");
                 }
                 untypable += 1;
             } else {
-                let length = 2 * usize::from(file.relations);
+                let length = schema.len();
                 let witness = read_schema(file.relations, &schema).expect("a schema");
                 let memberships = memberships(&witness);
                 let wanted = Verdict::Typable {
@@ -307,25 +318,21 @@ fn examples_have_their_formulas_verdicts_and_listings() {
             example.formula(),
             "{name}"
         );
-        for order in ORDERS {
-            let (answer, schema) = verdict_of(order, &inferred, example.last());
-            let wanted = example.verdict.map(|given| match order {
-                Order::FewestMembers => given.fewest,
-                Order::LowestNumber => given.lowest,
-            });
-            let wanted = wanted.map(from_hexadecimal);
-            assert_eq!(schema, wanted.clone().unwrap_or_default(), "{name}");
-            match (answer, example.verdict) {
-                (Verdict::Untypable { attribute }, given) => {
-                    assert_eq!(given.err(), Some(attribute), "{name}");
-                }
-                (Verdict::Typable { memberships, .. }, Ok(given)) => {
-                    let is_fewest = order == Order::FewestMembers;
-                    assert!(!is_fewest || memberships == given.memberships, "{name}");
-                }
-                other => panic!("{name}: {:?}", other.0),
+        let (answer, schema) = verdict_of(&inferred, example.last());
+        let (wanted, witness) = match example.verdict {
+            Ok((witness, memberships)) => {
+                let witness = from_hexadecimal(witness);
+                let length = witness.len();
+                let typable = Verdict::Typable {
+                    length,
+                    memberships,
+                };
+                (typable, witness)
             }
-        }
+            Err(attribute) => (Verdict::Untypable { attribute }, Vec::new()),
+        };
+        assert_eq!(answer, wanted, "{name}");
+        assert_eq!(schema, witness, "{name}");
         assert_eq!(listing(&bytes), example.listing, "{name}");
     }
 }
@@ -337,22 +344,22 @@ fn e1_has_these_bytes() {
     assert_e1_columns(&work);
 }
 
-/// E2, E3 and E4: E1 under its witness, with 20 in r0 and r1, with 20 in r0 only.
+/// E3 and E4: E1 with 4 in r2 too, and with 20 in r0 and r1, or in r0 only.
 #[test]
-fn e1_is_typed_by_the_rules_as_e2_to_e4_say() {
+fn e1_is_typed_by_the_rules_as_e3_and_e4_say() {
     let file = infer(&e1().bytes).expect("accepted").file;
-    let e2 = read_schema(3, &from_hexadecimal(E2_SCHEMA)).expect("a schema");
-    assert_eq!(type_of(&file, 6, &e2), Some(Type::from([2, 3])));
-    let mut e4 = e2.clone();
+    let filled = read_schema(3, &from_hexadecimal(FILLED_SCHEMA)).expect("a schema");
+    assert_eq!(type_of(&file, 6, &filled), Some(Type::from([2, 3, 4])));
+    let mut e4 = filled.clone();
     e4[0].insert(20);
     assert_eq!(type_of(&file, 6, &e4), None);
     let mut e3 = e4;
     e3[1].insert(20);
-    assert_eq!(type_of(&file, 6, &e3), Some(Type::from([2, 3, 20])));
+    assert_eq!(type_of(&file, 6, &e3), Some(Type::from([2, 3, 4, 20])));
 }
 
 #[test]
-fn formula_and_verdicts_are_refused_in_order() {
+fn formula_and_verdict_are_refused_in_order() {
     let bytes = e1().bytes;
     let untouched = |slice: &[u8]| slice.iter().all(|&byte| byte == 0xaa);
     for (node, work_length, schema_length, number) in [
@@ -363,12 +370,10 @@ fn formula_and_verdicts_are_refused_in_order() {
         (6, 7_168, 4_103, 13),
         (0, 70_000, 0, 13),
     ] {
-        for verdict in [verdict, lowest_verdict] {
-            let (mut work, mut schema) = (vec![0xaa; work_length], vec![0xaa; schema_length]);
-            let answer = verdict(&bytes, node, &mut work, &mut schema);
-            assert_eq!(answer, Verdict::Refused { number });
-            assert!(untouched(&work) && untouched(&schema));
-        }
+        let (mut work, mut schema) = (vec![0xaa; work_length], vec![0xaa; schema_length]);
+        let answer = verdict(&bytes, node, &mut work, &mut schema);
+        assert_eq!(answer, Verdict::Refused { number });
+        assert!(untouched(&work) && untouched(&schema));
     }
     let mut work = vec![0xaa; 7_169];
     assert_eq!(formula(&bytes, &mut work[..7_167]), 12);
@@ -385,7 +390,6 @@ fn a_refused_file_is_refused_first_of_all() {
         let refused = Verdict::Refused { number };
         assert_eq!(formula(&case.bytes, &mut []), number, "{}", case.name);
         assert_eq!(verdict(&case.bytes, 64, &mut [], &mut []), refused);
-        assert_eq!(lowest_verdict(&case.bytes, 64, &mut [], &mut []), refused);
         assert_eq!(listing(&case.bytes), format!("refused {number}\n"));
     }
 }

@@ -3,11 +3,11 @@
 use type_formula_tests::examples::{
     cases, from_hexadecimal, join_of_eight, pairs_of_the_node_before, to_hexadecimal,
 };
-use type_formula_tests::formula_examples::E2_SCHEMA;
+use type_formula_tests::formula_examples::FILLED_SCHEMA;
 use type_formula_tests::pseudorandom::Random;
 use type_formula_tests::reference::{
-    assignment_of, encode_file, encode_record, encode_schema, infer, lowest_verdict, read_file,
-    read_schema, type_of, verdict, Type, Verdict, FORMULA_LENGTH, OUTPUT_LENGTH, SCHEMA_LENGTH,
+    assignment_of, encode_file, encode_record, encode_schema, infer, read_file, read_schema,
+    type_of, verdict, Type, Verdict, FORMULA_LENGTH, OUTPUT_LENGTH, SCHEMA_LENGTH,
 };
 use type_formula_tests::reference_calls::{assert_length_counts, typing_of, typing_with};
 use type_formula_tests::typing_examples::{
@@ -29,11 +29,11 @@ fn assert_case(case: &TypingCase) {
 /// Schemas that are read, with their m.
 fn schemas(random: &mut Random) -> Vec<(u8, Vec<u8>)> {
     let written = [
-        (3, E2_SCHEMA),
+        (3, FILLED_SCHEMA),
         (3, E3_SCHEMA),
         (1, "01 00 01 10 00"),
         (1, "ff ff 02 10 00 ff ff"),
-        (2, "00 00 00 80"),
+        (2, "02 00 00 80"),
     ];
     let mut schemas: Vec<(u8, Vec<u8>)> = written
         .iter()
@@ -45,7 +45,9 @@ fn schemas(random: &mut Random) -> Vec<(u8, Vec<u8>)> {
         let (relations, ordinary) = (random.between(1, 8), random.below(30));
         let inferred = infer(&random.mild_file(relations, 5)).expect("accepted");
         let image = random.image(&inferred.formulas[4], relations, ordinary);
-        schemas.push((relations, encode_schema(&image)));
+        if !image.iter().any(Type::is_empty) {
+            schemas.push((relations, encode_schema(&image)));
+        }
     }
     schemas
 }
@@ -57,11 +59,12 @@ fn e1_is_typed_as_e2_to_e4_say() {
     }
 }
 
-/// E2's schema with 20 in r0 only is E4's, with 20 in r0 and r1 E3's.
+/// E2's schema with 4 in r2, and with 20 in r0 only is E4's, with 20 in r0 and r1 E3's.
 #[test]
 fn the_schemas_of_e3_and_e4_have_these_bytes() {
-    let mut sets = read_schema(3, &from_hexadecimal(E2_SCHEMA)).expect("a schema");
-    assert_eq!(sets, [Type::from([1, 3]), Type::from([2, 3]), Type::new()]);
+    let mut sets = read_schema(3, &from_hexadecimal(FILLED_SCHEMA)).expect("a schema");
+    let wanted = [Type::from([1, 3]), Type::from([2, 3]), Type::from([4])];
+    assert_eq!(sets, wanted);
     sets[0].insert(20);
     assert_eq!(encode_schema(&sets), from_hexadecimal(E4_SCHEMA));
     sets[1].insert(20);
@@ -145,6 +148,8 @@ fn ordinary_attributes_are_counted_once_however_they_are_spread() {
             let schema = assignment_of(8, subsets);
             let wanted = if count > 255 {
                 Err(18)
+            } else if schema.iter().any(Type::is_empty) {
+                Err(25)
             } else {
                 Ok(schema.clone())
             };
@@ -166,20 +171,26 @@ fn a_refused_file_is_refused_first_of_all() {
 #[test]
 fn the_output_record_is_the_type_by_the_rules() {
     let mut random = Random::new(63);
-    let (mut typed, mut untyped) = (0, 0);
+    let (mut typed, mut untyped, mut empty) = (0, 0, 0);
     for round in 0..6_000 {
         let (bytes, file, sets) = random.file_with_sets_near_an_image(round % 6);
         let node = file.nodes.len() - 1;
+        let schema = encode_schema(&sets);
+        if sets.iter().any(Type::is_empty) {
+            assert_eq!(typing_with(&bytes, node, &schema, OUTPUT_LENGTH), Err(25));
+            empty += 1;
+            continue;
+        }
         let by_rules = type_of(&file, node, &sets);
-        let given = typing_of(&bytes, node, &encode_schema(&sets));
+        let given = typing_of(&bytes, node, &schema);
         assert_eq!(given, by_rules.as_ref().map(encode_record));
         match by_rules {
             Some(_) => typed += 1,
             None => untyped += 1,
         }
     }
-    println!("{typed} typed, {untyped} untyped");
-    assert!(typed >= 1_000 && untyped >= 1_000);
+    println!("{typed} typed, {untyped} untyped, {empty} with an empty record");
+    assert!(typed >= 1_000 && untyped >= 1_000 && empty >= 100);
 }
 
 #[test]
@@ -192,16 +203,14 @@ fn a_witness_is_typed() {
         let node = usize::from(random.between(0, count - 1));
         let mut work = vec![0; usize::from(count) * FORMULA_LENGTH];
         let mut schema = vec![0; SCHEMA_LENGTH];
-        for verdict in [verdict, lowest_verdict] {
-            let answer = verdict(&bytes, node, &mut work, &mut schema);
-            if let Verdict::Typable { length, .. } = answer {
-                let output = typing_with(&bytes, node, &schema[..length], OUTPUT_LENGTH);
-                assert_eq!(output.map(|output| output.is_some()), Ok(true));
-                typable += 1;
-            }
+        let answer = verdict(&bytes, node, &mut work, &mut schema);
+        if let Verdict::Typable { length, .. } = answer {
+            let output = typing_with(&bytes, node, &schema[..length], OUTPUT_LENGTH);
+            assert_eq!(output.map(|output| output.is_some()), Ok(true));
+            typable += 1;
         }
     }
-    assert!(typable >= 1_000, "{typable}");
+    assert!(typable >= 500, "{typable}");
 }
 
 /// Each node is typed once, so shared operands do not multiply the steps.
@@ -210,7 +219,7 @@ fn sixty_three_pairs_of_the_node_before_end() {
     let full = encode_schema(&in_each_of_eight(1..271));
     for bytes in pairs_of_the_node_before() {
         let empty = typing_with(&bytes, 63, &[0; 16], OUTPUT_LENGTH);
-        assert_eq!(empty, Ok(Some(vec![0, 0])));
+        assert_eq!(empty, Err(25));
         let output = typing_with(&bytes, 63, &full, OUTPUT_LENGTH).expect("not refused");
         let is_product = bytes[7] == 4;
         assert_eq!(output.is_none(), is_product);

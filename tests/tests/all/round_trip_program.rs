@@ -6,7 +6,7 @@
 //! `apply_and_recover` as a number (0, 255 or the refusal's), and with 0 the recovered bytes.
 
 use type_formula_tests::examples::{e1, from_hexadecimal, to_hexadecimal};
-use type_formula_tests::instantiation_examples::{E2_INSTANTIATION, E3_INSTANTIATION};
+use type_formula_tests::instantiation_examples::{E3_INSTANTIATION, FILLED_INSTANTIATION};
 use type_formula_tests::programs;
 use type_formula_tests::pseudorandom::Random;
 use type_formula_tests::reference::{encode_instantiation, record};
@@ -48,7 +48,7 @@ fn compare(node: u8, file: &[u8], instantiation: &[u8]) -> u8 {
 
 #[test]
 fn the_instantiations_of_e1_are_recovered() {
-    for instantiation in [E2_INSTANTIATION, E3_INSTANTIATION] {
+    for instantiation in [FILLED_INSTANTIATION, E3_INSTANTIATION] {
         let instantiation = from_hexadecimal(instantiation);
         for node in 0..8 {
             compare(node, &e1().bytes, &instantiation);
@@ -60,7 +60,7 @@ fn the_instantiations_of_e1_are_recovered() {
 #[test]
 fn random_and_disturbed_instantiations() {
     let mut random = Random::new(320);
-    let mut answers = [0; 22];
+    let mut answers = [0; 27];
     for round in 0..600 {
         let (relations, count) = (random.between(1, 8), random.between(1, 12));
         let (of_node, node, instantiation) = random.file_with_instantiation(relations, count, 60);

@@ -2,9 +2,9 @@
 //! on the same inputs the same answers, and the same bytes in every slice.
 
 use type_formula::{
-    accept, apply, formula, lowest_verdict, parse_query, read_node, record, recover, typing,
-    verdict, BinaryOp, LowestVerdict, Node, Recovery, Refusal, SetOp, Typing, Verdict,
-    INSTANTIATION_SIZE, LONGEST_FILE, OUTPUT_SIZE, SCHEMA_SIZE, WORK_SIZE,
+    accept, apply, formula, parse_query, read_node, record, recover, typing, verdict, BinaryOp,
+    Node, Recovery, Refusal, SetOp, Typing, Verdict, INSTANTIATION_SIZE, LONGEST_FILE, OUTPUT_SIZE,
+    SCHEMA_SIZE, WORK_SIZE,
 };
 use type_formula_tests::engine::{self, Found, Lengths, UNTYPABLE, UNTYPED};
 use type_formula_tests::examples::to_hexadecimal;
@@ -58,7 +58,8 @@ impl Input {
         let inferred = infer(&file).expect("accepted");
         let node = random.likely_node(&inferred.formulas);
         let ordinary = random.below(40);
-        let mut instantiation = random.instantiation(&inferred.formulas[node], ordinary);
+        let formula = &inferred.formulas[node];
+        let mut instantiation = random.likely_instantiation(formula, relations, ordinary);
         let mut image = instantiation.image(relations);
         match random.below(4) {
             0 => random.disturb_assignment(&mut image),
@@ -107,7 +108,7 @@ fn work_space(random: &mut Random) -> Vec<u8> {
 struct Counts {
     results: usize,
     without: usize,
-    refusals: [usize; 25],
+    refusals: [usize; 27],
 }
 
 impl Counts {
@@ -117,7 +118,7 @@ impl Counts {
         let mut counts = Counts {
             results: 0,
             without: 0,
-            refusals: [0; 25],
+            refusals: [0; 27],
         };
         for _ in 0..INPUTS {
             let input = Input::new(&mut random);
@@ -294,38 +295,6 @@ fn verdict_is_as_in_c() {
 }
 
 #[test]
-fn lowest_verdict_is_as_in_c() {
-    let counts = Counts::of(9, |random, input| {
-        let (mut work, mut schema) = (work_space(random), slice(random, SCHEMA_SIZE));
-        let (mut wanted_work, mut wanted_schema) = (work.clone(), schema.clone());
-        let mut value = 0;
-        let answer = engine::lowest_verdict(
-            &input.file,
-            input.node,
-            &mut wanted_work,
-            &mut wanted_schema,
-            &mut value,
-        );
-        let wanted = match answer {
-            0 => Ok(Ok(&wanted_schema[..value])),
-            UNTYPABLE => Ok(Err(value as u8)),
-            number => Err(refusal(number)),
-        };
-        let given = lowest_verdict(&input.file, input.node, &mut work, &mut schema);
-        let given = given.map(|verdict| match verdict {
-            LowestVerdict::Typable(witness) => Ok(witness.bytes()),
-            LowestVerdict::Untypable { attribute } => Err(attribute),
-        });
-        assert_eq!(given, wanted, "{}", input.text());
-        assert!(work == wanted_work, "{}", input.text());
-        assert!(schema == wanted_schema, "{}", input.text());
-        answer
-    });
-    assert!(counts.without > 0);
-    counts.assert_met(&[4, 5, 10, 11, 12, 13]);
-}
-
-#[test]
 fn typing_is_as_in_c() {
     let counts = Counts::of(6, |random, input| {
         let mut out = slice(random, OUTPUT_SIZE);
@@ -348,7 +317,7 @@ fn typing_is_as_in_c() {
         answer
     });
     assert!(counts.without > 0);
-    counts.assert_met(&[4, 5, 10, 11, 13, 14, 15, 16, 17]);
+    counts.assert_met(&[4, 5, 10, 11, 13, 14, 15, 16, 17, 25]);
 }
 
 #[test]
@@ -384,7 +353,7 @@ fn apply_is_as_in_c() {
         assert!(slices == wanted_slices, "{}", input.text());
         answer
     });
-    counts.assert_met(&[4, 5, 10, 11, 12, 13, 14, 15, 16, 17, 19, 20, 21]);
+    counts.assert_met(&[4, 5, 10, 11, 12, 13, 14, 15, 16, 17, 19, 20, 21, 26]);
 }
 
 #[test]
@@ -419,7 +388,7 @@ fn recover_is_as_in_c() {
         answer
     });
     assert!(counts.without > 0);
-    counts.assert_met(&[4, 5, 10, 11, 12, 13, 14, 15, 16, 17]);
+    counts.assert_met(&[4, 5, 10, 11, 12, 13, 14, 15, 16, 17, 25]);
 }
 
 #[test]

@@ -7,12 +7,13 @@ use type_formula_tests::examples::{
     three_subsets, to_hexadecimal,
 };
 use type_formula_tests::extreme_inputs::{extreme_assignments, join_input, join_of_64_nodes};
-use type_formula_tests::formula_examples::E2_SCHEMA;
+use type_formula_tests::formula_examples::FILLED_SCHEMA;
 use type_formula_tests::pseudorandom::Random;
+use type_formula_tests::random_covers::FileKind;
 use type_formula_tests::random_instantiations::MOST_IN_DISTURBED;
 use type_formula_tests::reference::{
     assignment_of, encode_file, encode_schema, infer, read_schema, untypable_attribute, witness,
-    Order, Type, Typing, SCHEMA_LENGTH,
+    Type, Typing, SCHEMA_LENGTH,
 };
 use type_formula_tests::test_run::TestRun;
 use type_formula_tests::typing_examples::{
@@ -99,7 +100,7 @@ fn examples_and_edges_have_their_answers() {
         assert_case(&case);
         run.typing_with_every_length(&case.file, &case.schema);
     }
-    run.assert_answers([0, 10, 11, 13, 14, 15, 16, 17, 18], 5);
+    run.assert_answers([0, 10, 11, 13, 14, 15, 16, 17, 18, 25], 5);
     run.finish("examples and edges", IN_CASES);
 }
 
@@ -159,21 +160,25 @@ fn every_node_under_one_schema() {
 fn random_schemas_near_witnesses() {
     let mut random = Random::new(72);
     let mut run = test_run();
-    for _ in 0..8_000 {
+    for round in 0..10_000 {
         let (relations, count) = (random.between(1, 8), random.between(4, 20));
-        let bytes = random.mild_file(relations, count);
+        let bytes = match round % 2 {
+            0 => random.mild_file(relations, count),
+            _ => random.file_of_kind(FileKind::ALL[round % FileKind::ALL.len()], relations),
+        };
         let formulas = infer(&bytes).expect("accepted").formulas;
         let node = formulas.len() - 1;
-        if untypable_attribute(&formulas[node]).is_some() {
+        if untypable_attribute(&formulas[node], relations).is_some() {
             continue;
         }
-        let order = [Order::FewestMembers, Order::LowestNumber][random.below(2)];
-        let (witness, _) = witness(order, &formulas[node], relations);
+        let (witness, _) = witness(&formulas[node], relations).expect("typable");
         let typing = run.typing_by_schema(&bytes, node, &witness);
         assert!(matches!(typing, Typing::Typed { .. }));
-        let mut sets = read_schema(relations, &witness).expect("a schema");
-        for _ in 0..4 {
-            random.disturb_assignment(&mut sets);
+        for steps in [1, 2, 3, 4] {
+            let mut sets = read_schema(relations, &witness).expect("a schema");
+            for _ in 0..steps {
+                random.disturb_assignment(&mut sets);
+            }
             run.typing_by_sets(&bytes, node, &sets);
         }
     }
@@ -237,7 +242,7 @@ fn every_prefix_of_schemas_and_longer_ones() {
 fn every_change_of_one_byte_of_schemas() {
     let mut run = test_run();
     for schema in [
-        E2_SCHEMA,
+        FILLED_SCHEMA,
         E3_SCHEMA,
         "0b 00 02 14 00 00 01 0d 00 02 14 00 00 01 01 00 02 ff 00 00 01",
     ] {
@@ -251,7 +256,7 @@ fn every_change_of_one_byte_of_schemas() {
         }
     }
     run.assert_answers([0, 14, 16, 17], 100);
-    run.assert_answers([15], 3);
+    run.assert_answers([15, 25], 1);
     run.finish("changes of one byte", IN_CHANGES);
 }
 
@@ -282,7 +287,7 @@ fn disturbed_schemas() {
         }
         run.typing_by_schema(&bytes, node, &schema);
     }
-    run.assert_answers([0, 14, 15, 16, 17, 18], 100);
+    run.assert_answers([0, 14, 15, 16, 17, 18, 25], 100);
     run.finish("disturbed schemas", IN_DISTURBED_SCHEMAS);
 }
 
@@ -301,7 +306,7 @@ fn extremes() {
             run.typing_with_every_length(&file, &schema);
         }
     }
-    run.assert_answers([0, 11, 13, 18], 1_000);
+    run.assert_answers([0, 11, 13, 18, 25], 1_000);
     run.finish("extremes", IN_EXTREMES);
 }
 
@@ -322,10 +327,11 @@ fn disturbed_files_with_good_schemas() {
         run.typing_for_numbers(&bytes, &schema);
     }
     for case in cases() {
+        run.typing_for_numbers(&case.bytes, &[2; 16]);
         run.typing_for_numbers(&case.bytes, &[0; 16]);
         run.typing_for_numbers(&case.bytes, &[]);
     }
-    run.assert_answers((0..=11).chain([13, 14, 17]), 100);
+    run.assert_answers((0..=11).chain([13, 14, 17, 25]), 100);
     run.finish("disturbed files", IN_DISTURBED_FILES);
 }
 
@@ -344,7 +350,7 @@ fn random_bytes_as_schema() {
         run.typing_by_schema(&bytes, node, &random.records_of_maps(relations));
     }
     run.assert_answers([RESULT, NO_TYPE], 1_000);
-    run.assert_answers(14..=17, 100);
+    run.assert_answers((14..=17).chain([25]), 100);
     run.finish("random bytes", IN_RANDOM_BYTES);
 }
 

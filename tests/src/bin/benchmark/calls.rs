@@ -14,7 +14,6 @@ use crate::words;
 pub enum Operation {
     Formula,
     Verdict,
-    LowestVerdict,
     Typing,
     Apply,
     Recover,
@@ -22,10 +21,9 @@ pub enum Operation {
 }
 
 /// All operations; parsing a query is the last.
-pub const OPERATIONS: [Operation; 7] = [
+pub const OPERATIONS: [Operation; 6] = [
     Operation::Formula,
     Operation::Verdict,
-    Operation::LowestVerdict,
     Operation::Typing,
     Operation::Apply,
     Operation::Recover,
@@ -37,7 +35,6 @@ impl Operation {
         match self {
             Operation::Formula => "Formula",
             Operation::Verdict => "Verdict",
-            Operation::LowestVerdict => "Verdict by lowest subsets",
             Operation::Typing => "Typing",
             Operation::Apply => "Apply",
             Operation::Recover => "Recover",
@@ -76,12 +73,6 @@ fn verdict_by_engine(of: &Setting, slices: Parts) -> [usize; 3] {
     [answer.into(), found.value, found.memberships.into()]
 }
 
-fn lowest_verdict_by_engine(of: &Setting, slices: Parts) -> [usize; 3] {
-    let (file, mut value) = (black_box(&of.file), 0);
-    let answer = engine::lowest_verdict(file, of.last, slices.work, slices.schema, &mut value);
-    [answer.into(), value, 0]
-}
-
 fn verdict(
     by: impl Fn(&[u8], usize, &mut [u8], &mut [u8]) -> Verdict,
     of: &Setting,
@@ -97,16 +88,6 @@ fn verdict(
         Verdict::Refused { .. } => (0, 0),
     };
     [verdict.number().into(), value, memberships.into()]
-}
-
-/// The same without the number of memberships.
-fn lowest_verdict(
-    by: impl Fn(&[u8], usize, &mut [u8], &mut [u8]) -> Verdict,
-    of: &Setting,
-    slices: Parts,
-) -> [usize; 3] {
-    let [answer, value, _] = verdict(by, of, slices);
-    [answer, value, 0]
 }
 
 fn typing_by_engine(of: &Setting, slices: Parts) -> [usize; 3] {
@@ -214,13 +195,6 @@ fn one_call(operation: Operation, by: By) -> Option<OneCall> {
         (Operation::Verdict, By::Engine) => verdict_by_engine,
         (Operation::Verdict, By::Reference) => |of, slices| verdict(reference::verdict, of, slices),
         (Operation::Verdict, By::Words) => |of, slices| verdict(words::verdict, of, slices),
-        (Operation::LowestVerdict, By::Engine) => lowest_verdict_by_engine,
-        (Operation::LowestVerdict, By::Reference) => {
-            |of, slices| lowest_verdict(reference::lowest_verdict, of, slices)
-        }
-        (Operation::LowestVerdict, By::Words) => {
-            |of, slices| lowest_verdict(words::lowest_verdict, of, slices)
-        }
         (Operation::Typing, By::Engine) => typing_by_engine,
         (Operation::Typing, By::Reference) => |of, slices| typing(reference::typing, of, slices),
         (Operation::Typing, By::Words) => |of, slices| typing(words::typing, of, slices),
@@ -247,7 +221,7 @@ fn one_call(operation: Operation, by: By) -> Option<OneCall> {
 fn copied_length(operation: Operation, setting: &Setting) -> usize {
     let (work, schema) = (setting.work_length(), setting.schema.len());
     match operation {
-        Operation::Formula | Operation::Verdict | Operation::LowestVerdict => work,
+        Operation::Formula | Operation::Verdict => work,
         Operation::Typing => schema + setting.output_length,
         Operation::Apply => work + schema + setting.output_length,
         Operation::Recover => work + setting.instantiation.len(),

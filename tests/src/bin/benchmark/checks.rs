@@ -58,7 +58,7 @@ impl Checks {
         self.counts.count(operation, wanted.number());
     }
 
-    fn formula_and_verdicts(&mut self) {
+    fn formula_and_verdict(&mut self) {
         let (input, node, _) = self.mixture.with_schema(&mut self.random);
         let file = &input.bytes;
         let [work, schema] = lengths(&mut self.random, [input.work_length(), SCHEMA_LENGTH]);
@@ -73,12 +73,6 @@ impl Checks {
             [work, schema],
             |[work, schema]| reference::verdict(file, node, work, schema),
             |[work, schema]| words::verdict(file, node, work, schema),
-        );
-        self.compare(
-            Operation::LowestVerdict,
-            [work, schema],
-            |[work, schema]| reference::lowest_verdict(file, node, work, schema),
-            |[work, schema]| words::lowest_verdict(file, node, work, schema),
         );
     }
 
@@ -135,7 +129,7 @@ impl Checks {
 pub fn check_words() {
     let mut checks = Checks::new(51);
     for _ in 0..INPUTS {
-        checks.formula_and_verdicts();
+        checks.formula_and_verdict();
         checks.typing();
         checks.apply();
         checks.recover();

@@ -2,20 +2,26 @@
 
 use crate::calls::{call, By, Operation, ALL, OPERATIONS};
 use crate::settings::{
-    e1_query, e1_with_10_columns, of_attributes, of_nodes, query_of_length, query_of_lists,
+    cover_of_dense_columns, cover_of_eight, cover_of_three, e1_query, e1_with_10_columns,
+    filled_by_the_fewest, of_attributes, of_nodes, query_of_length, query_of_lists,
     query_of_prefixes, unions_of_eight, unions_of_one, untypable_of_64_nodes, untypable_of_7_nodes,
     Lists, Setting,
 };
 use crate::slices::Slices;
 
-/// The setting with so many nodes, with so many and no type, with 64 nodes of which most are
-/// unions, or with 64 nodes and 255 ordinary attributes.
+/// The setting with so many nodes, with so many and no type, with a cover of three or eight
+/// relations or of dense columns, or with one by the fewest subsets, with 64 nodes of which most
+/// are unions, or with 64 nodes and 255 ordinary attributes.
 fn setting(size: &str) -> Option<Setting> {
     Some(match size {
         "7" => e1_with_10_columns(),
         "8" | "16" | "32" | "64" => of_nodes(size.parse().ok()?),
         "7untypable" => untypable_of_7_nodes(),
         "64untypable" => untypable_of_64_nodes(),
+        "fewest" => filled_by_the_fewest(),
+        "coverofthree" => cover_of_three(),
+        "coverofeight" => cover_of_eight(),
+        "coverofdense" => cover_of_dense_columns(),
         "64unionsofeight" => unions_of_eight(),
         "64unionsofone" => unions_of_one(),
         "64x255" => of_attributes(64, 255, Lists::Three),

@@ -10,7 +10,7 @@ use type_formula_tests::query_examples::nested;
 use type_formula_tests::query_trees::{relation, Query};
 use type_formula_tests::reference::{
     assignment_of, encode_file, encode_schema, infer, recover, typing, untypable_attribute,
-    witness, Node, Order, Recover, Typing, FORMULA_LENGTH, INSTANTIATION_LENGTH, OUTPUT_LENGTH,
+    witness, Node, Recover, Typing, FORMULA_LENGTH, INSTANTIATION_LENGTH, OUTPUT_LENGTH,
 };
 
 /// A file with a schema that types its last node, and the instantiation whose image the
@@ -57,7 +57,8 @@ impl Setting {
     fn untypable(name: &str, file: Vec<u8>) -> Self {
         let last = usize::from(file[1]) - 1;
         let formula = infer(&file).expect("accepted").formulas[last];
-        assert!(untypable_attribute(&formula).is_some(), "{name}: typable");
+        let attribute = untypable_attribute(&formula, file[0]);
+        assert!(attribute.is_some(), "{name}: typable");
         Setting {
             name: name.into(),
             last,
@@ -141,9 +142,10 @@ pub fn random_of_64_nodes() -> Setting {
         let file = encode_file(8, &nodes);
         let formula = infer(&file).expect("accepted").formulas[63];
         let last_is_relation = matches!(nodes[63], Node::Relation { .. });
-        if has_all_cases(&nodes) && untypable_attribute(&formula).is_none() && !last_is_relation {
-            let (schema, _) = witness(Order::LowestNumber, &formula, 8);
-            return Setting::new("n 64, m 8, random nodes", file, schema);
+        if has_all_cases(&nodes) && !last_is_relation {
+            if let Some((schema, _)) = witness(&formula, 8) {
+                return Setting::new("n 64, m 8, random nodes", file, schema);
+            }
         }
     }
 }
@@ -164,17 +166,17 @@ fn nodes_of_unions(relation: impl Fn(u8) -> u8) -> Vec<Node> {
 }
 
 /// Unions and differences of eight relations, whose columns agree in some bits and not in
-/// others. The last node is typed where no relation has an attribute.
+/// others. The last node is typed where all relations have the same attributes.
 pub fn unions_of_eight() -> Setting {
     let file = encode_file(8, &nodes_of_unions(|number| number));
-    let schema = encode_schema(&assignment_of(8, []));
+    let schema = encode_schema(&assignment_of(8, [(1, 255)]));
     Setting::new("n 64, m 8, unions of r0 to r7", file, schema)
 }
 
 /// Unions and differences of one relation: the operands' columns agree in every bit.
 pub fn unions_of_one() -> Setting {
     let file = encode_file(8, &nodes_of_unions(|_| 0));
-    let schema = encode_schema(&assignment_of(8, []));
+    let schema = encode_schema(&assignment_of(8, [(1, 255)]));
     Setting::new("n 64, m 8, unions of r0", file, schema)
 }
 
@@ -293,6 +295,96 @@ pub fn of_attributes(nodes: usize, ordinary: u32, lists: Lists) -> Setting {
     let count = nodes.len();
     let name = format!("n {count}, m 8, {ordinary} ordinary attributes, {lists}");
     Setting::new(name, encode_file(8, &nodes), encode_schema(&schema))
+}
+
+/// A file with the witness of its last node; in `memberships` how many it has.
+fn with_witness(name: &str, relations: u8, nodes: &[Node], memberships: u8) -> Setting {
+    let file = encode_file(relations, nodes);
+    let formula = infer(&file).expect("accepted").formulas[nodes.len() - 1];
+    let (schema, counted) = witness(&formula, relations).expect("typable");
+    assert_eq!(counted, memberships, "{name}");
+    Setting::new(name, file, schema)
+}
+
+/// The nodes with a selection of these attributes of the last one.
+fn selected(mut nodes: Vec<Node>, set: u16) -> Vec<Node> {
+    let operand = nodes.len() as u8 - 1;
+    nodes.push(Node::Selection { operand, set });
+    nodes
+}
+
+/// A join of three relations: the fewest subsets of three attributes are those of r0, so that the
+/// others must be sought.
+pub fn cover_of_three() -> Setting {
+    let mut nodes = join_of_eight()[..3].to_vec();
+    nodes.push(Node::NaturalJoin { left: 0, right: 1 });
+    nodes.push(Node::NaturalJoin { left: 3, right: 2 });
+    let name = "n 6, m 3, three columns, not filled by the fewest subsets";
+    with_witness(name, 3, &selected(nodes, 0b1110), 3)
+}
+
+/// A join of eight relations: three attributes and five variables fill them.
+pub fn cover_of_eight() -> Setting {
+    let nodes = selected(join_of_eight(), 0b1110);
+    with_witness("n 16, m 8, three columns and variables", 8, &nodes, 8)
+}
+
+/// A selection of each of eight relations by an attribute of its own: the fewest subsets fill all.
+pub fn filled_by_the_fewest() -> Setting {
+    let mut nodes = Vec::new();
+    for relation in 0..8 {
+        nodes.push(Node::Relation { relation });
+        let (operand, set) = (2 * relation, 2 << relation);
+        nodes.push(Node::Selection { operand, set });
+    }
+    nodes.extend((0..7).map(|right| Node::NaturalJoin {
+        left: if right == 0 { 1 } else { 15 + right },
+        right: 2 * right + 3,
+    }));
+    with_witness("n 23, m 8, filled by the fewest subsets", 8, &nodes, 8)
+}
+
+/// Adds the join of two nodes and gives its number.
+fn join(nodes: &mut Vec<Node>, left: u8, right: u8) -> u8 {
+    nodes.push(Node::NaturalJoin { left, right });
+    nodes.len() as u8 - 1
+}
+
+/// Fifteen joins of r0 with five to all of the other relations, no two of the same ones.
+fn joins_with_r0(nodes: &mut Vec<Node>) -> Vec<u8> {
+    let mut first: Vec<u8> = vec![0];
+    for right in 1..8 {
+        first.push(join(nodes, first[usize::from(right) - 1], right));
+    }
+    let mut last: Vec<u8> = vec![7];
+    for left in (2..7).rev() {
+        last.insert(0, join(nodes, left, last[0]));
+    }
+    let from = |relation: usize| last[relation - 2];
+    let mut joins = vec![first[5], first[6], first[7]];
+    joins.extend((1..7).map(|left_out| join(nodes, first[left_out - 1], from(left_out + 1))));
+    joins.extend((1..6).map(|left_out| join(nodes, first[left_out - 1], from(left_out + 2))));
+    joins.push(join(nodes, 0, from(4)));
+    joins
+}
+
+/// Fifteen columns, no two the same, that each allow almost all subsets: attribute by attribute a
+/// selection of a join with r0, and the join of all of them. The fewest subsets are those of r0.
+pub fn cover_of_dense_columns() -> Setting {
+    let mut nodes: Vec<Node> = (0..8).map(|relation| Node::Relation { relation }).collect();
+    let joins = joins_with_r0(&mut nodes);
+    let selections: Vec<u8> = (1..)
+        .zip(joins)
+        .map(|(attribute, operand)| {
+            let set = 1 << attribute;
+            nodes.push(Node::Selection { operand, set });
+            nodes.len() as u8 - 1
+        })
+        .collect();
+    let all = selections.into_iter();
+    all.reduce(|left, right| join(&mut nodes, left, right));
+    let name = format!("n {}, m 8, fifteen dense columns", nodes.len());
+    with_witness(&name, 8, &nodes, 15)
 }
 
 /// E1 as text.

@@ -4,7 +4,8 @@ use crate::calls::{call, check, By, Call, Operation, ALL, OPERATIONS};
 use crate::checks::check_words;
 use crate::measure::{medians, BATCHES};
 use crate::settings::{
-    e1_query, e1_with_10_columns, of_attributes, of_nodes, query_of_length, query_of_lists,
+    cover_of_dense_columns, cover_of_eight, cover_of_three, e1_query, e1_with_10_columns,
+    filled_by_the_fewest, of_attributes, of_nodes, query_of_length, query_of_lists,
     query_of_prefixes, random_of_64_nodes, unions_of_eight, unions_of_one, untypable_of_64_nodes,
     untypable_of_7_nodes, Lists, Setting,
 };
@@ -53,16 +54,21 @@ fn print_comparisons() {
         "copy by a 64-bit loop",
     ];
     print_head(title, &names.map(String::from));
-    let (of_file, of_query) = (&OPERATIONS[..6], &OPERATIONS[6..]);
+    let (of_file, of_query) = (&OPERATIONS[..5], &OPERATIONS[5..]);
+    let (formula, verdict) = (&of_file[..1], &of_file[1..2]);
     for (setting, operations) in [
         (e1_with_10_columns(), of_file),
-        (untypable_of_7_nodes(), &of_file[1..3]),
-        (random_of_64_nodes(), &of_file[..3]),
-        (unions_of_eight(), &of_file[..1]),
-        (unions_of_one(), &of_file[..1]),
-        (untypable_of_64_nodes(), &of_file[1..3]),
-        (of_attributes(64, 255, Lists::Three), &of_file[3..]),
-        (of_attributes(64, 255, Lists::OneInEach), &of_file[3..]),
+        (untypable_of_7_nodes(), verdict),
+        (cover_of_three(), verdict),
+        (filled_by_the_fewest(), verdict),
+        (cover_of_eight(), verdict),
+        (cover_of_dense_columns(), verdict),
+        (random_of_64_nodes(), &of_file[..2]),
+        (unions_of_eight(), formula),
+        (unions_of_one(), formula),
+        (untypable_of_64_nodes(), verdict),
+        (of_attributes(64, 255, Lists::Three), &of_file[2..]),
+        (of_attributes(64, 255, Lists::OneInEach), &of_file[2..]),
         (e1_query(), of_query),
         (query_of_prefixes(), of_query),
         (query_of_lists(), of_query),
@@ -127,14 +133,14 @@ fn both<'a>(operations: &[Operation], settings: &'a [Setting]) -> Vec<Column<'a>
 fn print_nodes() {
     let counts = [8, 16, 32, 64];
     let settings = counts.map(|count| of_nodes(count as u8));
-    let mut columns = both(&OPERATIONS[..3], &settings);
+    let mut columns = both(&OPERATIONS[..2], &settings);
     let copy = (Operation::Formula, By::Copy);
     columns.push(("copy of the formulas".into(), copy, &settings));
     let title = "As nodes double, m 8: nanoseconds, and in brackets the ratio to the row before.";
     print_doubling(title, ("n", &counts), &columns);
     let title = "As nodes double, m 8 and 15 ordinary attributes: nanoseconds, and in brackets \
                  the ratio to the row before.";
-    print_doubling(title, ("n", &counts), &both(&OPERATIONS[3..6], &settings));
+    print_doubling(title, ("n", &counts), &both(&OPERATIONS[2..5], &settings));
 }
 
 /// The engine and the hand-written code as attributes double, for so many nodes.
@@ -149,7 +155,7 @@ fn print_attributes(nodes: usize) {
             "As ordinary attributes double, n {nodes}, m 8, {name}: nanoseconds, and in \
              brackets the ratio to the row before."
         );
-        let columns = both(&OPERATIONS[3..6], &settings);
+        let columns = both(&OPERATIONS[2..5], &settings);
         print_doubling(&title, ("Ordinary attributes", &counts), &columns);
     }
 }
@@ -158,7 +164,7 @@ fn print_attributes(nodes: usize) {
 fn print_texts() {
     let counts = [32, 64, 128, 256, 512];
     let settings = counts.map(query_of_length);
-    let mut columns = both(&OPERATIONS[6..], &settings);
+    let mut columns = both(&OPERATIONS[5..], &settings);
     let copy = (Operation::ParseQuery, By::Copy);
     columns.push(("copy of text and file".into(), copy, &settings));
     let title = "As the text of a query doubles, 8 bytes a node: nanoseconds, and in brackets the \

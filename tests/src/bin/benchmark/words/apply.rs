@@ -1,11 +1,13 @@
 //! Apply: the image of an instantiation, and the output by the stored formula.
 
-use type_formula_tests::reference::{Apply, Formula, COLUMNS, OUTPUT_LENGTH, SCHEMA_LENGTH};
+use type_formula_tests::reference::{
+    Apply, Formula, COLUMNS, IMAGE_NOT_FILLED, OUTPUT_LENGTH, SCHEMA_LENGTH,
+};
 
 use super::buffer::room;
 use super::columns::{is_output, stored};
 use super::instantiation::{maps_of, read_instantiation, Instantiation};
-use super::reader::accept;
+use super::reader::{accept, refuse_if};
 use super::schema::write_record;
 use super::sets::{relation_sets, set_of, words_for};
 use super::{check_node, check_result, check_subsets, check_work_space, fill};
@@ -45,6 +47,20 @@ fn write<const WORDS: usize>(
     (length, write_record(&set, of.entries, out))
 }
 
+/// Tests that the subsets and the lists give every relation an attribute.
+#[inline(always)]
+fn check_filled(relations: u8, of: &Instantiation) -> Result<(), u8> {
+    let special = of.subsets.iter().fold(0, |filled, s| filled | s);
+    let filled = of
+        .entries
+        .iter()
+        .fold(special, |filled, &entry| filled | entry as u8);
+    refuse_if(
+        filled != (255_u16 >> (8 - relations)) as u8,
+        IMAGE_NOT_FILLED,
+    )
+}
+
 /// The lengths of schema and output record, or the first refusal.
 #[inline(always)]
 fn lengths(
@@ -64,6 +80,7 @@ fn lengths(
     fill(file, work);
     let (relations, formula) = (file.relations, stored(work, node));
     check_subsets(formula, &read.map, &read.subsets)?;
+    check_filled(relations, &read)?;
     Ok(match words_for(read.entries.len()) {
         1 => write::<1>(relations, formula, &read, results),
         2 => write::<2>(relations, formula, &read, results),

@@ -234,9 +234,25 @@ pub fn write_formula(node: Node, relations: u8, earlier: &[u8], formula: &mut [u
 
 /// The lowest bit that stands, if one does.
 #[inline]
-pub fn lowest(bits: &Bits) -> Option<u8> {
+fn lowest(bits: &Bits) -> Option<u8> {
     let place = bits.iter().position(|&word| word != 0)?;
     Some((64 * place as u32 + bits[place].trailing_zeros()) as u8)
+}
+
+/// The lowest bit that stands and for which this holds, if there is one.
+#[inline]
+pub fn first_bit(bits: &Bits, holds: impl Fn(u8) -> bool) -> Option<u8> {
+    for (number, &word) in bits.iter().enumerate() {
+        let mut rest = word;
+        while rest != 0 {
+            let s = (64 * number as u32 + rest.trailing_zeros()) as u8;
+            if holds(s) {
+                return Some(s);
+            }
+            rest &= rest - 1;
+        }
+    }
+    None
 }
 
 /// By the number of its members: the bits of the subsets that have so many.

@@ -1,9 +1,10 @@
-//! Formula, both verdicts, Typing, Apply, Recover and parsing a query written by hand for speed:
+//! Formula, Verdict, Typing, Apply, Recover and parsing a query written by hand for speed:
 //! without an allocation, on 64-bit words, compiled for every x86-64 machine.
 
 mod apply;
 mod buffer;
 mod columns;
+mod cover;
 mod instantiation;
 mod lists;
 mod query;
@@ -24,7 +25,9 @@ use type_formula_tests::reference::{
     SCHEMA_LENGTH, STANDING_BIT_NO_TYPE_VARIABLE, SUBSET_NOT_ALLOWED, WORK_SPACE_TOO_SHORT,
 };
 
-use self::columns::{fewest, is_allowed, lowest, read_column, write_formula, Bits};
+use self::columns::{is_allowed, read_column, write_formula, Bits};
+use self::cover::{best_cover, read_allowed, Cover};
+use self::instantiation::maps_of;
 use self::reader::{accept, refuse_if, File};
 
 #[inline(always)]
@@ -78,60 +81,50 @@ pub fn formula(bytes: &[u8], work: &mut [u8]) -> u8 {
     0
 }
 
-/// The maps of the witness and its memberships, or the attribute whose column allows
-/// nothing. A special attribute has the subset that is the first of those allowed.
+/// Writes the schema of a cover and gives its length: a record for each relation, with the special
+/// attributes whose subset has it, and with ordinary ones from 16 on for the variables that have it.
 #[inline(always)]
-fn witness(
-    first: impl Fn(&Bits) -> Option<u8>,
-    work: &[u8],
-    node: u8,
-) -> Result<([u16; 8], u8), u8> {
-    let (mut maps, mut memberships) = ([0; 8], 0);
-    for column in 1..COLUMNS {
-        let allowed = read_column(work, node, column).allowed;
-        let s = first(&allowed).ok_or(column as u8)?;
-        memberships += s.count_ones() as u8;
-        for (relation, map) in maps.iter_mut().enumerate() {
-            *map |= (u16::from(s) >> relation & 1) << column;
+fn write_witness(cover: &Cover, relations: u8, schema: &mut [u8]) -> usize {
+    let (maps, mut length) = (maps_of(&cover.subsets), 0);
+    for relation in 0..usize::from(relations) {
+        let [low, high] = maps[relation & 7].to_le_bytes();
+        let (record, mut count) = (length, 0);
+        for (place, variable) in cover.variables[..cover.count].iter().enumerate() {
+            if variable >> relation & 1 == 1 {
+                let start = record + 3 + 2 * count;
+                schema[start..start + 2].copy_from_slice(&[16 + place as u8, 0]);
+                count += 1;
+            }
+        }
+        schema[record..record + 2].copy_from_slice(&[low | u8::from(count > 0), high]);
+        length += 2;
+        if count > 0 {
+            schema[record + 2] = count as u8;
+            length += 1 + 2 * count;
         }
     }
-    Ok((maps, memberships))
+    length
 }
 
 /// The verdict, or the first refusal.
 #[inline(always)]
-fn decide(
-    first: impl Fn(&Bits) -> Option<u8>,
-    bytes: &[u8],
-    node: usize,
-    work: &mut [u8],
-    schema: &mut [u8],
-) -> Result<Verdict, u8> {
+fn decide(bytes: &[u8], node: usize, work: &mut [u8], schema: &mut [u8]) -> Result<Verdict, u8> {
     let file = accept(bytes)?;
     check_node(&file, node)?;
     check_work_space(&file, work)?;
     check_result(schema, SCHEMA_LENGTH)?;
     fill(file, work);
-    let (maps, memberships) = match witness(first, work, node as u8) {
-        Ok(witness) => witness,
-        Err(attribute) => return Ok(Verdict::Untypable { attribute }),
-    };
-    let length = 2 * usize::from(file.relations);
-    for (record, map) in schema[..length].chunks_exact_mut(2).zip(maps) {
-        record.copy_from_slice(&map.to_le_bytes());
-    }
-    Ok(Verdict::Typable {
-        length,
-        memberships,
+    let allowed = read_allowed(work, node as u8);
+    Ok(match best_cover(&allowed, file.relations) {
+        Ok(cover) => Verdict::Typable {
+            length: write_witness(&cover, file.relations, schema),
+            memberships: cover.memberships,
+        },
+        Err(attribute) => Verdict::Untypable { attribute },
     })
 }
 
 /// Verdict.
 pub fn verdict(bytes: &[u8], node: usize, work: &mut [u8], schema: &mut [u8]) -> Verdict {
-    decide(fewest, bytes, node, work, schema).unwrap_or_else(|number| Verdict::Refused { number })
-}
-
-/// The verdict by lowest subsets.
-pub fn lowest_verdict(bytes: &[u8], node: usize, work: &mut [u8], schema: &mut [u8]) -> Verdict {
-    decide(lowest, bytes, node, work, schema).unwrap_or_else(|number| Verdict::Refused { number })
+    decide(bytes, node, work, schema).unwrap_or_else(|number| Verdict::Refused { number })
 }

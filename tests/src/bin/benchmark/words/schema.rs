@@ -2,7 +2,7 @@
 
 use std::mem::{replace, take};
 
-use type_formula_tests::reference::TOO_MANY_ORDINARY_ATTRIBUTES;
+use type_formula_tests::reference::{EMPTY_RECORD, TOO_MANY_ORDINARY_ATTRIBUTES};
 
 use super::buffer::{Buffer, Room};
 use super::lists::{attribute, List, Reader, MOST_ORDINARY};
@@ -93,9 +93,11 @@ pub fn read_schema<'a>(
 ) -> Result<Schema<'a>, u8> {
     let [mut table, mut free] = [Buffer::new(first), Buffer::new(second)];
     let (mut reader, mut maps) = (Reader::new(bytes), [0; 8]);
+    let mut is_empty = false;
     for relation in 0..usize::from(relations) {
         let map = u16::from_le_bytes(*reader.take()?);
         maps[relation & 7] = map & !1;
+        is_empty |= map == 0;
         if map & 1 == 1 {
             let list = reader.list()?;
             if table.len() <= MOST_ORDINARY {
@@ -105,6 +107,7 @@ pub fn read_schema<'a>(
     }
     reader.end()?;
     refuse_if(table.len() > MOST_ORDINARY, TOO_MANY_ORDINARY_ATTRIBUTES)?;
+    refuse_if(is_empty, EMPTY_RECORD)?;
     Ok(Schema {
         maps,
         entries: table.into_slice(),
