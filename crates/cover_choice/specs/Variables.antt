@@ -1,5 +1,5 @@
 -- The variables, as they are chosen one after the other, each with the next ordinary attribute.
-use Prim.Native.Nat.{ℕ, zero, suc, _+_, _-_, _*_, _≤_, _<_}
+use Prim.Native.Nat.{ℕ, zero, suc, _+_, _-_, _^_, _≤_, _<_}
 use mathlib.Core.Path.{_≡_, refl, sym, ap, ap₂, _∙_}
 use mathlib.Core.Bool.{Bool}
 use mathlib.Core.List.{List, [], _∷_}
@@ -24,7 +24,7 @@ use Rattle.set_cover.specs.Choice.{picked, bestVariables, pickedVariable, varia
 use Rattle.set_cover.specs.Cheapest.{variable-picked, takes}
 use Rattle.cover_rows.specs.Rows.{priceIn}
 use Rattle.cover_rows.specs.Holding.{Holds, Allows, pick-variable}
-use Rattle.verdict_answer.specs.Witness.{numbered}
+use Rattle.verdict_answer.specs.Witness.{choiceIn, numbered, ordinariesOf}
 use Rattle.verdict_answer.specs.WitnessLaws.{numbered-length}
 
 -- n of them are chosen; `all` are the relations that needed an attribute before, `need` those that need one yet
@@ -147,3 +147,12 @@ module _ (N : ℕ) (allowed : ℕ → ℕ → Bool) (few : N ≤ 256) (all : ℕ
                 let small = variable-below in
                 rw (same, here) (getD-set-same items n item 0 room ∙ value, omega arith)
             each j (inr before) here value = let old = c .done j before in (getD-set-other items n j item 0 (λ k. omega arith) ∙ old .0, old .1)
+
+-- the entries of the witness
+pub chosen-entries :
+    (m need : ℕ) (allowed : ℕ → ℕ → Bool) (entries : List ℕ)
+    → drop 15 (choiceIn m allowed) ≡ bestVariables (2 ^ m) allowed need need
+    → entries ≡ numbered 16 (bestVariables (2 ^ m) allowed need need)
+    → entries ≡ ordinariesOf (choiceIn m allowed)
+unfolding ordinariesOf
+chosen-entries m need allowed entries rests are = are ∙ ap (numbered 16) (sym rests)

@@ -5,3 +5,4 @@ mod table;
 
 pub use storage::read_row;
 pub use table::fill_costs;
+pub use table::subset_count;

@@ -67,7 +67,7 @@ fn fill_table(work: &[u8], node: u8, blocks: u8, count: u16, table: &mut [u8])
 }
 
 // How many subsets m relations have.
-fn subset_count(m: u8) -> u16
+pub fn subset_count(m: u8) -> u16
     requires { ⌜ m ≤ 8 ⌝ }
     ensures { λ r. ⌜ r ≡ 2 ^ m ⌝ }
 {

@@ -16,6 +16,7 @@ ghost use Rattle.admission.specs.Admission.{formulaSize};
 use cover_choice::choose_specials;
 use cover_choice::choose_variables;
 use cover_table::fill_costs;
+use cover_table::subset_count;
 use schema::write_schema;
 use special_maps::maps_from;
 use verdict_answer::Outcome;
@@ -47,7 +48,7 @@ fn chosen_verdict(
     ensures { λ r. ⌜ r ≡ outcomeIn m (allowedAt (now (work .entry)) node) ⌝ }
     ensures { λ _. ⌜ now (schema .exit) ≡ schemaIn m (allowedAt (now (work .entry)) node) (now (schema .entry)) ⌝ }
 {
-    let count = 1u16 << m;
+    let count = subset_count(m);
     let mut subsets = [0u8; 16];
     let need = choose_specials(work, node, count, table, &mut subsets);
     let mut items = [0u32; 8];

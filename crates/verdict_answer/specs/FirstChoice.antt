@@ -9,8 +9,8 @@ use lib.ListN.{length, getD, take, drop, length-take, drop-of-length-le}
 use lib.Seq.{take-all, ext-getD}
 use lib.Pow.{pow-mono, pow-pos, ones-lt}
 use borrow.Author.Tests.{eqb-false}
-use Rattle.bits.specs.Total.{total, total-front}
-use Rattle.types.specs.Memberships.{members, members-none}
+use Rattle.bits.specs.Total.{total, total-front, total-most}
+use Rattle.types.specs.Memberships.{members, members-none, members-most}
 use Rattle.set_cover.specs.Least.{infinity}
 use Rattle.set_cover.specs.Cost.{cost}
 use Rattle.set_cover.specs.Choice.{weight, uncovered, weight-total}
@@ -28,6 +28,11 @@ membershipsOf subsets = total 16 (λ i. members (getD subsets i 0))
 pub memberships-of : (subsets : List ℕ) → membershipsOf subsets ≡ total 16 (λ i. members (getD subsets i 0))
 unfolding membershipsOf
 memberships-of subsets = refl
+
+-- at most 8 for each
+pub memberships-few : (subsets : List ℕ) → membershipsOf subsets ≤ 128
+unfolding total
+memberships-few subsets = rw (memberships-of subsets) (total-most 16 (λ i. members (getD subsets i 0)) (λ i. 8) (λ i h. members-most (getD subsets i 0)))
 
 -- of 15 special attributes
 pub memberships-weight : (xs : List ℕ) → length xs ≡ 15 → membershipsOf (0 ∷ xs) ≡ weight xs

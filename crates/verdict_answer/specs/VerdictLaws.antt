@@ -2,21 +2,21 @@
 use Prim.Native.Nat.{ℕ, _-_, _^_, _≤_, _<_}
 use mathlib.Core.Path.{_≡_, refl, sym, ap, ap₂, _∙_}
 use mathlib.Core.Bool.{Bool, true, false, cond}
-use mathlib.Core.List.{List}
+use mathlib.Core.List.{List, []}
 use native.Mathlib.Nat.{lt-of-lt-of-le}
 use native.Mathlib.Decide.{decLt}
 use native.Mathlib.Omega.{arith}
 use borrow.Author.Tests.{lt-ltb, le-ltb}
 use lib.Dec.{ltb}
-use lib.ListN.{length, getD, take}
+use lib.ListN.{length, getD, drop}
 use lib.Pow.{pow-mono}
 use Rattle.bits.specs.Tab.{over}
 use Rattle.refusal.specs.declared.Refusal.{Refusal}
 use Rattle.expression_file.specs.declared.files.Acceptance.{Acceptance}
 use Rattle.expression_file.specs.declared.files.Acceptance.the-variants.{Accepted, Refused as FileRefused}
 use Rattle.admission.specs.Admission.{after, sliced, admitted}
-use Rattle.admission.specs.AdmissionLaws.{sliced-passed, admitted-passed, admits-few}
-use Rattle.node_expression.specs.NodeExpression.{expressionAt}
+use Rattle.admission.specs.AdmissionLaws.{Admits, sliced-passed, admitted-passed, admits-few}
+use Rattle.node_expression.specs.NodeExpression.{expressionAt, expression-legal}
 use Rattle.stored_formula.specs.FormulaBytes.{allowedBit, formulasOf}
 use Rattle.stored_formula.specs.FormulaBytesLaws.{stored-column}
 use Rattle.special_maps.specs.Special.{mapsFrom}
@@ -25,8 +25,12 @@ use Rattle.membership.specs.Holders.{ItemsFit}
 use Rattle.schema.specs.Schema.{schemaBytes, recordsOf, WritesFrom, schemaSize}
 use Rattle.set_cover.specs.Least.{infinity}
 use Rattle.set_cover.specs.SameCost.{cost-same, best-same}
-use Rattle.verdict_answer.specs.First.{allowedAt, firstIn, blockedIn, subsetsBy}
-use Rattle.verdict_answer.specs.FirstLaws.{subsets-blocked, blocked-in-same, stored-cells}
+use Rattle.set_cover.specs.Choice.{uncovered}
+use Rattle.set_cover.specs.FirstCover.{firsts}
+use Rattle.verdict_answer.specs.First.{allowedAt, firstIn, blockedIn, chosenBy, subsetsBy}
+use Rattle.verdict_answer.specs.FirstLaws.{subsets-blocked, subsets-chosen, chosen-size, chosen-none, blocked-in-same, stored-cells}
+use Rattle.verdict_answer.specs.Formed.{Formed, stored-formed}
+use Rattle.verdict_answer.specs.FirstChoice.{membershipsOf, memberships-few, chosen-firsts, covers-cost, covers-specials, covers-ordinaries}
 use Rattle.verdict_answer.specs.Witness.{costIn, choiceIn, specialsOf, ordinariesOf, witnessBytes}
 use Rattle.verdict_answer.specs.Verdict.{untypableIn, outcome, outcomeIn, schemaIn, verdictAnswer, verdictSpace, verdictSchema}
 use Rattle.verdict_answer.specs.declared.Subsets.{Subsets}
@@ -86,9 +90,6 @@ module _ (m : ℕ) (allowed : ℕ → ℕ → Bool) where
           let gives = outcome-untypable (rw (is, ← blocked-is) h) in
           (ap Untypable (blocked-is ∙ sym is) ∙ sym (gives .0), sym (gives .1))
 
-      pub stored-open : 16 ≤ subsets .blocked → 16 ≤ blockedIn allowed
-      stored-open h = rw blocked-is at h
-
     -- where each column allows something, by what filling the relations costs
     pub stored-unfilled : 16 ≤ blockedIn allowed → infinity ≤ costIn m allowed → (Untypable 0 ≡ outcomeIn m allowed) × (schema ≡ schemaIn m allowed schema)
     stored-unfilled none cannot =
@@ -111,6 +112,39 @@ module _ (m : ℕ) (allowed : ℕ → ℕ → Bool) where
         let gives = outcome-typable (let is = untypable-none none can in omega arith) in
         let bytes = ap₂ (λ (l es : List ℕ). schemaBytes (recordsOf m (mapsFrom l) es)) specials-are entries-are in
         (ap₂ Typable (size-is ∙ ap length bytes) counted ∙ sym (gives .0), wrote ∙ ap (λ (l : List ℕ). over l schema) bytes ∙ sym (gives .1))
+
+-- each column allows something
+pub stored-open : (allowed : ℕ → ℕ → Bool) (subsets : Subsets) → subsets ≡ subsetsBy (firstIn allowed) → 16 ≤ subsets .blocked → 16 ≤ blockedIn allowed
+stored-open allowed subsets are h = rw (subsets-blocked (firstIn allowed) subsets are) at h
+
+-- ---- where the first subsets give every relation an attribute
+
+module _ (m : ℕ) (few : m ≤ 8) (allowed : ℕ → ℕ → Bool) (formed : Formed m allowed) (schema : List ℕ) (subsets : Subsets) (are : subsets ≡ subsetsBy (firstIn allowed)) (open-columns : 16 ≤ subsets .blocked) where
+  chosen-is : subsets .chosen ≡ chosenBy (firstIn allowed)
+  chosen-is = subsets-chosen (firstIn allowed) subsets are
+
+  none : 16 ≤ blockedIn allowed
+  none = stored-open allowed subsets are open-columns
+
+  -- a witness can be written from them
+  pub first-writes : (length (subsets .chosen) ≡ 16) × (getD (subsets .chosen) 0 0 ≡ 0)
+  first-writes = rw chosen-is (chosen-size (firstIn allowed), chosen-none (firstIn allowed))
+
+  pub first-typable :
+      (size count left : ℕ) (entries written : List ℕ)
+      → left ≡ uncovered (2 ^ m - 1) (drop 1 (subsets .chosen))
+      → left ≡ 0
+      → entries ≡ []
+      → size ≡ length (schemaBytes (recordsOf m (mapsFrom (subsets .chosen)) entries))
+      → written ≡ over (schemaBytes (recordsOf m (mapsFrom (subsets .chosen)) entries)) schema
+      → count ≡ membershipsOf (subsets .chosen)
+      → (Typable size count ≡ outcomeIn m allowed) × (written ≡ schemaIn m allowed schema)
+  first-typable size count left entries written found nothing no-entries size-is wrote counted =
+      let covers : uncovered (2 ^ m - 1) (firsts (firstIn allowed) 15) ≡ 0 = sym (found ∙ ap (λ (l : List ℕ). uncovered (2 ^ m - 1) (drop 1 l)) (chosen-is ∙ chosen-firsts (firstIn allowed) none)) ∙ nothing in
+      let cost-is = covers-cost m few allowed formed none covers in
+      let most = memberships-few (chosenBy (firstIn allowed)) in
+      stored-typable m allowed schema size count (subsets .chosen) entries written none (omega arith) (chosen-is ∙ sym (covers-specials m few allowed formed none covers))
+      (no-entries ∙ sym (covers-ordinaries m few allowed formed none covers)) size-is wrote (counted ∙ ap membershipsOf chosen-is ∙ sym cost-is)
 
 -- the table that the witness is written from
 pub witness-from : (subsets special items : List ℕ) (count : ℕ) → special ≡ mapsFrom subsets → getD subsets 0 0 ≡ 0 → count ≤ 8 → ItemsFit items count → WritesFrom special items count
@@ -138,6 +172,12 @@ module _ (m : ℕ) (few : m ≤ 8) (f g : ℕ → ℕ → Bool) (same : (i s : �
   same-schema : (schema : List ℕ) → schemaIn m f schema ≡ schemaIn m g schema
   unfolding schemaIn
   same-schema schema = ap₂ (λ (a : ℕ) (l : List ℕ). cond (ltb a 16) schema (over (witnessBytes m l) schema)) same-untypable same-choice
+
+-- what Formula leaves is the formula of the node's expression
+pub filled-formed : (file : List ℕ) (k : ℕ) (work filled : List ℕ) (m n : ℕ) → Admits file k (length work) m n → filled ≡ over (formulasOf file m n) work → Formed m (allowedAt filled k)
+filled-formed file k work filled m n admits is =
+    stored-formed filled k m (expressionAt file k) (expression-legal file m n (admits .accepted) k (admits .node))
+    (λ c h. rw is (stored-column file work m n (admits .workSpace) k c (admits .node) h))
 
 -- ---- the answer, the work space and the schema slice
 

@@ -1,83 +1,47 @@
+use Prim.Native.Nat.{ℕ, _-_}
+use mathlib.Core.Path.{refl, ap, _∙_}
+use mathlib.Core.List.{[]}
+use native.Mathlib.Omega.{arith}
+use lib.ListN.{drop}
+use lib.Pow.{pow-mono, pow-pos, ones-lt}
+use Rattle.set_cover.specs.Choice.{uncovered}
+use Rattle.verdict_answer.specs.VerdictLaws.{stored-blocked, stored-open, first-writes, first-typable}
 use borrow.Author.Needs.{needs}
-use Rattle.verdict.proofs.stored_verdict.Statement.{statement}
-use Rattle.verdict.proofs.stored_verdict.Tie as tie
-use Rattle.verdict.proofs.stored_verdict.Reads as reads
-use Rattle.verdict.proofs.stored_verdict.Lts as lts
-use Rattle.first_subsets.proofs.first_subsets.Reads as first-subsets-reads
-use Rattle.first_subsets.proofs.count_memberships.Reads as count-memberships-reads
-use Rattle.first_subsets.proofs.uncovered_relations.Reads as uncovered-relations-reads
-use Rattle.verdict.proofs.witness.searched_verdict.Reads as searched-verdict-reads
-use Rattle.verdict.proofs.witness.write_witness.Reads as write-witness-reads
-
-first-subsets-requires : tie.Need-first-subsets-requires
-first-subsets-requires c κs = search needs
+use Rattle.verdict.proofs.stored_verdict as fn
+use fn.Statement.{statement}
+use fn.Tie as tie
 
 returns : tie.Need-returns
-returns c = search needs
-
-slice-aggregate-uncovered-relations : tie.Need-slice-aggregate-uncovered-relations
-slice-aggregate-uncovered-relations c = search needs
-
-shl-uncovered-relations : tie.Need-shl-uncovered-relations
-shl-uncovered-relations c = search needs
+returns c = stored-blocked _ _ _ _ (c .before .before .first-subsets .ensures) (c .if1 .taken)
 
 sub-uncovered-relations : tie.Need-sub-uncovered-relations
-sub-uncovered-relations c = search needs
+sub-uncovered-relations c = let some = pow-pos (c .before .before .before .before .before .before .before .before .args .m) in let count = c .subset-count .ensures in omega arith
 
 cast-uncovered-relations : tie.Need-cast-uncovered-relations
-cast-uncovered-relations c = search needs
-
-uncovered-relations-requires : tie.Need-uncovered-relations-requires
-uncovered-relations-requires c κs = search needs
-
-slice-aggregate-write-witness : tie.Need-slice-aggregate-write-witness
-slice-aggregate-write-witness c = search needs
-
-slice-aggregate-write-witness-2 : tie.Need-slice-aggregate-write-witness-2
-slice-aggregate-write-witness-2 c = search needs
+cast-uncovered-relations c = let few = pow-mono {j = 8} (c .before .before .before .before .before .before .before .before .pre .0 .0) in let less = ones-lt (c .before .before .before .before .before .before .before .before .args .m) in let count = c .subset-count .ensures in omega arith
 
 write-witness-requires : tie.Need-write-witness-requires
-write-witness-requires c κs = search needs
-
-slice-aggregate-count-memberships : tie.Need-slice-aggregate-count-memberships
-slice-aggregate-count-memberships c = search needs
-
-count-memberships-requires : tie.Need-count-memberships-requires
-count-memberships-requires c κs = search needs
-
-same-length : tie.Need-same-length
-same-length c = search needs
+write-witness-requires c κs =
+    let pre = c .before .before .before .before .before .before .before .before .before .before .before .before .before .pre in
+    let writes = first-writes _ pre.0.0 _ pre.1.1 (c .before .before .before .before .before .before .before .before .before .before .before .before .before .args .schema .now) _ (c .before .before .before .before .before .before .before .before .before .before .first-subsets .ensures) (c .before .before .before .before .before .before .before .before .if1 .left) in
+    (pre.0, (writes.0, writes.1, omega arith, record { enough = omega arith; below = λ i h. absurd (omega arith) }))
 
 returns-2 : tie.Need-returns-2
-returns-2 c = search needs
+returns-2 c =
+    let pre = c .before .before .before .before .before .before .before .before .before .before .before .before .before .before .before .before .before .before .pre in
+    let count = c .before .before .before .before .before .before .before .before .before .before .subset-count .ensures in
+    let wrote = c .before .before .before .before .write-witness .ensures in
+    first-typable _ pre.0.0 _ pre.1.1 (c .before .before .before .before .before .before .before .before .before .before .before .before .before .before .before .before .before .before .args .schema .now) _ (c .before .before .before .before .before .before .before .before .before .before .before .before .before .before .before .first-subsets .ensures) (c .before .before .before .before .before .before .before .before .before .before .before .before .before .if1 .left) _ _ _ [] _
+    (c .before .before .before .before .before .before .before .before .before .uncovered-relations .ensures ∙ ap (λ (n : ℕ). uncovered (n - 1) (drop 1 (c .before .before .before .before .before .before .before .before .before .before .before .before .before .before .before .first-subsets .result .chosen))) count) (c .before .before .before .before .before .before .before .before .if2 .taken) refl wrote.0 wrote.1 (c .count-memberships .ensures)
 
 searched-verdict-requires : tie.Need-searched-verdict-requires
-searched-verdict-requires c κs = search needs
-
-same-length-2 : tie.Need-same-length-2
-same-length-2 c = search needs
+searched-verdict-requires c κs = let pre = c .before .before .before .before .before .before .before .before .before .before .before .pre in ((pre.0.0, pre.0.1, stored-open _ _ (c .before .before .before .before .before .before .before .before .first-subsets .ensures) (c .before .before .before .before .before .before .if1 .left)), pre.1)
 
 returns-3 : tie.Need-returns-3
-returns-3 c = search needs
+returns-3 c = c .before .before .searched-verdict .ensures
 
 pub stored-verdict-spec : {M : Type 1} → statement M
 stored-verdict-spec =
-    tie.close
-    (tie.spec
-    first-subsets-requires
-    returns
-    slice-aggregate-uncovered-relations
-    shl-uncovered-relations
-    sub-uncovered-relations
-    cast-uncovered-relations
-    uncovered-relations-requires
-    slice-aggregate-write-witness
-    slice-aggregate-write-witness-2
-    write-witness-requires
-    slice-aggregate-count-memberships
-    count-memberships-requires
-    same-length
-    returns-2
-    searched-verdict-requires
-    same-length-2
-    returns-3)
+    tie.close (tie.spec (λ c κs. search needs) returns (λ c. search needs) (λ c κs. search needs) sub-uncovered-relations cast-uncovered-relations (λ c κs. search needs)
+    (λ c. search needs) (λ c. search needs) write-witness-requires (λ c. search needs) (λ c κs. search needs) (λ c. search needs) returns-2 searched-verdict-requires
+    (λ c. search needs) returns-3)

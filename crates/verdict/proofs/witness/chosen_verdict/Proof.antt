@@ -1,53 +1,56 @@
+use Prim.Native.Nat.{_^_}
+use mathlib.Core.Path.{refl, sym, _∙_}
+use native.Mathlib.Nat.{lt-of-lt-of-le}
+use lib.Pow.{pow-mono, pow-pos}
+use Rattle.verdict_answer.specs.First.{allowedAt}
+use Rattle.verdict_answer.specs.WitnessLaws.{specials-none, specials-size}
+use Rattle.verdict_answer.specs.VerdictLaws.{stored-typable}
+use Rattle.set_cover.specs.BestLaws.{best-least}
+use Rattle.cover_choice.specs.Variables.{chosen-entries}
 use borrow.Author.Needs.{needs}
-use Rattle.verdict.proofs.witness.chosen_verdict.Statement.{statement}
-use Rattle.verdict.proofs.witness.chosen_verdict.Tie as tie
-use Rattle.verdict.proofs.witness.chosen_verdict.Reads as reads
-use Rattle.verdict.proofs.witness.chosen_verdict.Lts as lts
-use Rattle.cover_choice.proofs.choose_specials.Reads as choose-specials-reads
-use Rattle.cover_choice.proofs.choose_variables.Reads as choose-variables-reads
-use Rattle.verdict.proofs.witness.write_witness.Reads as write-witness-reads
-
-shl-count : tie.Need-shl-count
-shl-count c = search needs
-
-slice-aggregate-choose-specials : tie.Need-slice-aggregate-choose-specials
-slice-aggregate-choose-specials c = search needs
+use Rattle.verdict.proofs.witness.chosen_verdict as fn
+use fn.Statement.{statement}
+use fn.Tie as tie
 
 choose-specials-requires : tie.Need-choose-specials-requires
-choose-specials-requires c κs = search needs
-
-slice-aggregate-choose-variables : tie.Need-slice-aggregate-choose-variables
-slice-aggregate-choose-variables c = search needs
+choose-specials-requires c κs =
+    let pre = c .before .before .before .before .before .pre in
+    let can = rw (pre.1.1.0) at pre.1.1.1 in
+    rw (c .before .subset-count .ensures) ((pre.1.0.0, refl), ((pow-pos (c .before .before .before .before .before .args .m), pow-mono {j = 8} pre.0.0, pre.1.0.1), can))
 
 choose-variables-requires : tie.Need-choose-variables-requires
-choose-variables-requires c κs = search needs
-
-slice-aggregate-write-witness : tie.Need-slice-aggregate-write-witness
-slice-aggregate-write-witness c = search needs
-
-slice-aggregate-write-witness-2 : tie.Need-slice-aggregate-write-witness-2
-slice-aggregate-write-witness-2 c = search needs
+choose-variables-requires c κs =
+    let pre = c .before .before .before .before .before .before .before .before .pre in
+    let chosen = rw (c .before .before .before .before .subset-count .ensures) at (c .before .before .choose-specials .ensures) in
+    rw (c .before .before .before .before .subset-count .ensures) ((pre.1.0.0, refl), ((chosen.below, pow-mono {j = 8} pre.0.0, pre.1.0.1), chosen.less))
 
 write-witness-requires : tie.Need-write-witness-requires
-write-witness-requires c κs = search needs
-
-same-length : tie.Need-same-length
-same-length c = search needs
+write-witness-requires c κs =
+    let pre = c .before .before .before .before .before .before .before .before .before .before .before .before .before .pre in
+    let args = c .before .before .before .before .before .before .before .before .before .before .before .before .before .args in
+    let chosen = rw (c .before .before .before .before .before .before .before .before .before .subset-count .ensures) at (c .before .before .before .before .before .before .before .choose-specials .ensures) in
+    let listed = c .before .before .before .before .choose-variables .ensures in (
+      (pre.0.0, pre.0.1),
+      (
+        rw (chosen.specials) (specials-size _ (best-least (2 ^ args.m) (allowedAt args.work.now args.node) (pow-mono {j = 8} pre.0.0) 15 _)),
+        rw (chosen.specials) (specials-none _),
+        listed.0.0,
+        listed.0.1,
+      ),
+    )
 
 returns : tie.Need-returns
-returns c = search needs
+returns c =
+    let pre = c .before .before .before .before .before .before .before .before .before .before .before .before .before .before .before .before .pre in
+    let args = c .before .before .before .before .before .before .before .before .before .before .before .before .before .before .before .before .args in
+    let chosen = rw (c .before .before .before .before .before .before .before .before .before .before .before .before .subset-count .ensures) at (c .before .before .before .before .before .before .before .before .before .before .choose-specials .ensures) in
+    let listed = rw (c .before .before .before .before .before .before .before .before .before .before .before .before .subset-count .ensures) at (c .before .before .before .before .before .before .before .choose-variables .ensures .1) in
+    let wrote = c .before .before .write-witness .ensures in
+    let can = rw (pre.1.1.0) at pre.1.1.1 in
+    stored-typable args.m (allowedAt args.work.now args.node) args.schema.now _ _ _ _ _ pre.0.2 can chosen.specials
+    (chosen-entries args.m _ (allowedAt args.work.now args.node) _ chosen.variables listed) wrote.0 wrote.1 pre.1.1.0
 
 pub chosen-verdict-spec : {M : Type 1} → statement M
 chosen-verdict-spec =
-    tie.close
-    (tie.spec
-    shl-count
-    slice-aggregate-choose-specials
-    choose-specials-requires
-    slice-aggregate-choose-variables
-    choose-variables-requires
-    slice-aggregate-write-witness
-    slice-aggregate-write-witness-2
-    write-witness-requires
-    same-length
-    returns)
+    tie.close (tie.spec (λ c κs. search needs) (λ c. search needs) choose-specials-requires (λ c. search needs) choose-variables-requires
+    (λ c. search needs) (λ c. search needs) write-witness-requires (λ c. search needs) returns)

@@ -1,40 +1,23 @@
+use Prim.Native.Nat.{_≤_}
+use mathlib.Core.Path.{refl, sym, _∙_}
+use Rattle.verdict_answer.specs.VerdictLaws.{stored-unfilled}
 use borrow.Author.Needs.{needs}
-use Rattle.verdict.proofs.witness.searched_verdict.Statement.{statement}
-use Rattle.verdict.proofs.witness.searched_verdict.Tie as tie
-use Rattle.verdict.proofs.witness.searched_verdict.Reads as reads
-use Rattle.verdict.proofs.witness.searched_verdict.Lts as lts
-use Rattle.cover_table.proofs.fill_costs.Reads as fill-costs-reads
-use Rattle.verdict.proofs.witness.chosen_verdict.Reads as chosen-verdict-reads
-
-slice-aggregate-fill-costs : tie.Need-slice-aggregate-fill-costs
-slice-aggregate-fill-costs c = search needs
+use Rattle.verdict.proofs.witness.searched_verdict as fn
+use fn.Statement.{statement}
+use fn.Tie as tie
 
 fill-costs-requires : tie.Need-fill-costs-requires
-fill-costs-requires c κs = search needs
-
-slice-aggregate-chosen-verdict : tie.Need-slice-aggregate-chosen-verdict
-slice-aggregate-chosen-verdict c = search needs
+fill-costs-requires c κs = let pre = c .before .before .before .pre in ((pre.1.0, refl), (pre.0.0, pre.1.1))
 
 chosen-verdict-requires : tie.Need-chosen-verdict-requires
-chosen-verdict-requires c κs = search needs
-
-same-length : tie.Need-same-length
-same-length c = search needs
+chosen-verdict-requires c κs = let pre = c .before .before .before .before .before .before .before .before .pre in (pre.0, ((pre.1.0, c .before .before .before .before .fill-costs .ensures .1), (c .before .before .before .before .fill-costs .ensures .0, c .before .before .if1 .taken)))
 
 returns : tie.Need-returns
-returns c = search needs
+returns c = c .before .before .chosen-verdict .ensures
 
 returns-2 : tie.Need-returns-2
-returns-2 c = search needs
+returns-2 c = let pre = c .before .before .before .before .before .before .pre in stored-unfilled _ _ _ pre.0.2 (rw (c .before .before .fill-costs .ensures .0) at (c .if1 .left))
 
 pub searched-verdict-spec : {M : Type 1} → statement M
 searched-verdict-spec =
-    tie.close
-    (tie.spec
-    slice-aggregate-fill-costs
-    fill-costs-requires
-    slice-aggregate-chosen-verdict
-    chosen-verdict-requires
-    same-length
-    returns
-    returns-2)
+    tie.close (tie.spec (λ c. search needs) fill-costs-requires (λ c. search needs) chosen-verdict-requires (λ c. search needs) returns returns-2)
