@@ -1,7 +1,4 @@
 // Each operation's answer as callers in C get it (FORMAT 7.18): a number, and values written where the caller asks.
-mod lowest;
-
-pub use lowest::write_lowest_outcome;
 ghost use mathlib.Core.Path.{_≡_};
 ghost use Rattle.expression_file.specs.Numbers.{acceptanceNumber, relationsOr, nodesOr};
 ghost use Rattle.verdict_answer.specs.Numbers.{outcomeNumber, outcomeValue, outcomeMemberships};
@@ -42,8 +39,8 @@ pub fn write_acceptance(acceptance: Acceptance, relations: &mut u8, nodes: &mut 
     }
 }
 
-// 0 with the witness's length and the number of its memberships, 255 with the attribute whose column allows nothing, or
-// the refusal's number.
+// 0 with the witness's length and the number of its memberships, 255 with the attribute that is said of an untypable node,
+// or the refusal's number.
 pub fn write_outcome(outcome: Outcome, value: &mut usize, memberships: &mut u8) -> u8
     ensures { λ r. ⌜ r ≡ outcomeNumber outcome ⌝ }
     ensures { λ _. ⌜ now (value .exit) ≡ outcomeValue outcome (now (value .entry)) ⌝ }

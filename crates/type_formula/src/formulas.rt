@@ -1,12 +1,11 @@
-// Formula and the two verdicts for callers in C and Rust.
+// Formula and Verdict for callers in C and Rust.
 ghost use mathlib.Core.Path.{_≡_};
 ghost use lib.ListN.{length};
 ghost use Rattle.stored_formula.specs.Formula.{formulaAnswer, formulaSpace};
-ghost use Rattle.verdict_answer.specs.Verdict.{verdictAnswer, verdictSpace, verdictSchema, lowestAnswer, lowestSchema};
+ghost use Rattle.verdict_answer.specs.Verdict.{verdictAnswer, verdictSpace, verdictSchema};
 ghost use Rattle.expression_file.specs.Numbers.{acceptanceNumber};
-ghost use Rattle.verdict_answer.specs.Numbers.{outcomeNumber, outcomeValue, outcomeMemberships, lowestNumber, lowestValue};
+ghost use Rattle.verdict_answer.specs.Numbers.{outcomeNumber, outcomeValue, outcomeMemberships};
 use answer_numbers::acceptance_number;
-use answer_numbers::write_lowest_outcome;
 use answer_numbers::write_outcome;
 
 // Formula (FORMAT 7.6): 0, or the number of the first refusal of 1 to 10 and 12.
@@ -18,9 +17,9 @@ pub extern "C" fn type_formula_formula(file: &[u8], work: &mut [u8]) -> u8
     acceptance_number(formula::formula(file, work))
 }
 
-// Verdict (FORMAT 7.7): 0 with the number of bytes written to the schema slice and that of their memberships, or 255 with
-// the attribute whose column allows nothing, or the number of the first refusal of 1 to 13; a number that the answer does
-// not have stays as it was.
+// Verdict (FORMAT 7.7): 0 with the number of bytes written to the schema slice and that of their memberships; or 255 with
+// the lowest special attribute whose column allows nothing, or with 0 where each allows something but the relations cannot
+// all be filled; or the number of the first refusal of 1 to 13. A number that the answer does not have stays as it was.
 #[no_mangle]
 pub extern "C" fn type_formula_verdict(
     file: &[u8],
@@ -41,21 +40,4 @@ pub extern "C" fn type_formula_verdict(
         value,
         memberships,
     )
-}
-
-// The verdict by lowest subsets (FORMAT 7.22): as Verdict, without the number of memberships.
-#[no_mangle]
-pub extern "C" fn type_formula_lowest_verdict(
-    file: &[u8],
-    node: usize,
-    work: &mut [u8],
-    schema: &mut [u8],
-    value: &mut usize,
-) -> u8
-    ensures { λ r. ⌜ r ≡ lowestNumber (lowestAnswer (now (file .entry)) node (length (now (work .entry))) (length (now (schema .entry)))) ⌝ }
-    ensures { λ _. ⌜ now (work .exit) ≡ verdictSpace (now (file .entry)) node (now (work .entry)) (length (now (schema .entry))) ⌝ }
-    ensures { λ _. ⌜ now (schema .exit) ≡ lowestSchema (now (file .entry)) node (length (now (work .entry))) (now (schema .entry)) ⌝ }
-    ensures { λ _. ⌜ now (value .exit) ≡ lowestValue (lowestAnswer (now (file .entry)) node (length (now (work .entry))) (length (now (schema .entry)))) (now (value .entry)) ⌝ }
-{
-    write_lowest_outcome(verdict::lowest_verdict(file, node, work, schema), value)
 }
