@@ -1,5 +1,5 @@
-use Prim.Native.Nat.{_≤_}
-use mathlib.Core.Path.{refl, sym, _∙_}
+use mathlib.Core.Path.{refl}
+use native.Mathlib.Omega.{arith}
 use Rattle.verdict_answer.specs.VerdictLaws.{stored-unfilled}
 use borrow.Author.Needs.{needs}
 use Rattle.verdict.proofs.witness.searched_verdict as fn
@@ -10,7 +10,11 @@ fill-costs-requires : tie.Need-fill-costs-requires
 fill-costs-requires c κs = let pre = c .before .before .before .pre in ((pre.1.0, refl), (pre.0.0, pre.1.1))
 
 chosen-verdict-requires : tie.Need-chosen-verdict-requires
-chosen-verdict-requires c κs = let pre = c .before .before .before .before .before .before .before .before .pre in (pre.0, ((pre.1.0, c .before .before .before .before .fill-costs .ensures .1), (c .before .before .before .before .fill-costs .ensures .0, c .before .before .if1 .taken)))
+chosen-verdict-requires c κs =
+    let costs = c.before.before.before.before.fill-costs in
+    let pre = c.before.before.before.before.before.before.before.before.pre in
+    let can = c.before.before.if1.taken in
+    (pre.0, ((pre.1.0, costs.ensures.1), (costs.ensures.0, omega arith)))
 
 returns : tie.Need-returns
 returns c = c .before .before .chosen-verdict .ensures
