@@ -222,8 +222,8 @@ e10 =
       applications = [];
     }
 
--- FORMAT 10.13: σ{1}(((r0 ∪ r1) ⋈ r2) ⋈ r3): the subsets 03, 04 and 08 of r0 and r1, r2, r3 give each relation one attribute, whichever
--- of them attribute 1 has; the witness gives it 03
+-- FORMAT 10.13: σ{1}(((r0 ∪ r1) ⋈ r2) ⋈ r3): by the subsets 03, 04 and 08 each relation has one attribute, whichever of them is that of
+-- attribute 1; the witness takes 03 for it, which is the lowest, and then the variables 04 and 08, which come before 0c alone
 abbrev pub tie : Case
 tie =
     record {
