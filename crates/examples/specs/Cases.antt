@@ -1,10 +1,9 @@
--- The starred examples (FORMAT 10.1 to 10.10), and one in which two subsets have the fewest members (FORMAT 10.13); and
--- queries that are refused (FORMAT 10.14).
+-- The starred examples (FORMAT 10.1 to 10.10), an instantiation (FORMAT 10.11), and one in which two schemas have the fewest
+-- memberships (FORMAT 10.13); and queries that are refused (FORMAT 10.14).
 use Prim.Native.Nat.{ℕ, zero, suc}
-use mathlib.Core.Bool.{Bool, true, false}
 use mathlib.Core.List.{List, [], _∷_}
 use Rattle.refusal.specs.declared.Refusal.{Refusal}
-use Rattle.refusal.specs.declared.Refusal.the-variants.{RelationCount, RelationNumber, Attribute, QuerySyntax}
+use Rattle.refusal.specs.declared.Refusal.the-variants.{RelationCount, RelationNumber, Attribute, QuerySyntax, EmptyRecord}
 
 -- a column of the last node: its allowed subsets, and those of them that put the attribute in the output
 pub record Column : Type 0 where
@@ -12,11 +11,26 @@ pub record Column : Type 0 where
   pub allowed : List ℕ
   pub output : List ℕ
 
--- a schema, whether it types the last node, and the output record
+-- what Typing says of a schema: typed, with the output record; untyped; refused
+pub data TypingResult : Type 0 where
+  typedAs : List ℕ → TypingResult
+  untyped : TypingResult
+  refusedWith : Refusal → TypingResult
+
+-- a schema, and what Typing says of the last node under it
 pub record Typing : Type 0 where
   pub schema : List ℕ
-  pub typed : Bool
-  pub output : List ℕ
+  pub result : TypingResult
+
+-- what Apply does with an instantiation: the schema and the output record, or 26
+pub data ApplyResult : Type 0 where
+  appliedAs : (schema output : List ℕ) → ApplyResult
+  leftEmpty : ApplyResult
+
+-- an instantiation, and what Apply does with it at the last node
+pub record Application : Type 0 where
+  pub instantiation : List ℕ
+  pub result : ApplyResult
 
 -- an example: its file, and what is known of its last node
 pub record Case : Type 0 where
@@ -27,28 +41,38 @@ pub record Case : Type 0 where
   pub relations : ℕ
   pub nodes : ℕ
   pub columns : List Column
-  -- the lowest special attribute whose column allows nothing; 16 if the last node is typable
-  pub blocked : ℕ
-  -- of a typable node: Verdict's witness, its memberships, and the witness by lowest subsets
+  -- the attribute that Verdict says of an untypable node; 16 if the last node is typable
+  pub untypable : ℕ
+  -- of a typable node: Verdict's witness and its memberships
   pub witness : List ℕ
   pub memberships : ℕ
-  pub lowest : List ℕ
   pub typings : List Typing
+  pub applications : List Application
 
--- a schema that types the node, and the output record
-abbrev pub typed : List ℕ → List ℕ → Typing
-typed schema output = record { schema = schema; typed = true; output = output }
+-- a schema with its result
+abbrev pub typing : List ℕ → TypingResult → Typing
+typing schema result = record { schema = schema; result = result }
 
--- a schema that does not
-abbrev pub untyped : List ℕ → Typing
-untyped schema = record { schema = schema; typed = false; output = [] }
+-- an instantiation with its result
+abbrev pub application : List ℕ → ApplyResult → Application
+application instantiation result = record { instantiation = instantiation; result = result }
 
 -- a column with its allowed subsets, and those in the output
 abbrev pub column : ℕ → List ℕ → List ℕ → Column
 column c a o = record { number = c; allowed = a; output = o }
 
--- FORMAT 10.1 to 10.4: E1, σ{2,3}((ρ1/2(r0) ∪ r1) ⋈ r2), with Verdict's witness; E2, the witness by lowest subsets; E3 and
--- E4, schemas with attribute 20
+-- one column for each number below n, all with the same subsets
+abbrev pub columnsBelow : ℕ → List ℕ → List ℕ → List Column
+columnsBelow zero a o = []
+columnsBelow (suc n) a o = column n a o ∷ columnsBelow n a o
+
+-- n bytes 0, and then these
+abbrev pub zeros : ℕ → List ℕ → List ℕ
+zeros zero bytes = bytes
+zeros (suc n) bytes = 0 ∷ zeros n bytes
+
+-- FORMAT 10.1 to 10.4, 10.11: E1, σ{2,3}((ρ1/2(r0) ∪ r1) ⋈ r2), with Verdict's witness; a schema with an empty record; E3 and
+-- E4, schemas with attribute 20; an instantiation that leaves r2 empty, and that of E3
 abbrev pub e1 : Case
 e1 =
     record {
@@ -62,16 +86,20 @@ e1 =
           ∷ column 1 (1 ∷ 5 ∷ []) (5 ∷ [])
           ∷ column 2 (2 ∷ 6 ∷ []) (2 ∷ 6 ∷ [])
           ∷ column 3 (3 ∷ 4 ∷ 7 ∷ []) (3 ∷ 4 ∷ 7 ∷ [])
+          ∷ column 4 (0 ∷ 3 ∷ 4 ∷ 7 ∷ []) (3 ∷ 4 ∷ 7 ∷ [])
           ∷ [];
-      blocked = 16;
+      untypable = 16;
       witness = 2 ∷ 0 ∷ 4 ∷ 0 ∷ 8 ∷ 0 ∷ [];
       memberships = 3;
-      lowest = 10 ∷ 0 ∷ 12 ∷ 0 ∷ 0 ∷ 0 ∷ [];
       typings =
-          typed (2 ∷ 0 ∷ 4 ∷ 0 ∷ 8 ∷ 0 ∷ []) (12 ∷ 0 ∷ [])
-          ∷ typed (10 ∷ 0 ∷ 12 ∷ 0 ∷ 0 ∷ 0 ∷ []) (12 ∷ 0 ∷ [])
-          ∷ typed (11 ∷ 0 ∷ 1 ∷ 20 ∷ 0 ∷ 13 ∷ 0 ∷ 1 ∷ 20 ∷ 0 ∷ 0 ∷ 0 ∷ []) (13 ∷ 0 ∷ 1 ∷ 20 ∷ 0 ∷ [])
-          ∷ untyped (11 ∷ 0 ∷ 1 ∷ 20 ∷ 0 ∷ 12 ∷ 0 ∷ 0 ∷ 0 ∷ [])
+          typing (2 ∷ 0 ∷ 4 ∷ 0 ∷ 8 ∷ 0 ∷ []) (typedAs (12 ∷ 0 ∷ []))
+          ∷ typing (10 ∷ 0 ∷ 12 ∷ 0 ∷ 0 ∷ 0 ∷ []) (refusedWith EmptyRecord)
+          ∷ typing (11 ∷ 0 ∷ 1 ∷ 20 ∷ 0 ∷ 13 ∷ 0 ∷ 1 ∷ 20 ∷ 0 ∷ 16 ∷ 0 ∷ []) (typedAs (29 ∷ 0 ∷ 1 ∷ 20 ∷ 0 ∷ []))
+          ∷ typing (11 ∷ 0 ∷ 1 ∷ 20 ∷ 0 ∷ 12 ∷ 0 ∷ 16 ∷ 0 ∷ []) untyped
+          ∷ [];
+      applications =
+          application (1 ∷ 2 ∷ 3 ∷ zeros 44 []) leftEmpty
+          ∷ application (1 ∷ 2 ∷ 3 ∷ 4 ∷ zeros 11 (8 ∷ zeros 31 (1 ∷ 20 ∷ 0 ∷ []))) (appliedAs (11 ∷ 0 ∷ 1 ∷ 20 ∷ 0 ∷ 13 ∷ 0 ∷ 1 ∷ 20 ∷ 0 ∷ 16 ∷ 0 ∷ []) (29 ∷ 0 ∷ 1 ∷ 20 ∷ 0 ∷ []))
           ∷ [];
     }
 
@@ -85,11 +113,11 @@ e5 =
       relations = 1;
       nodes = 3;
       columns = column 1 [] [] ∷ column 2 (1 ∷ []) (1 ∷ []) ∷ [];
-      blocked = 1;
+      untypable = 1;
       witness = [];
       memberships = 0;
-      lowest = [];
       typings = [];
+      applications = [];
     }
 
 -- FORMAT 10.6: ρ1/1(r0), untypable with attribute 1
@@ -102,19 +130,14 @@ e6 =
       relations = 1;
       nodes = 2;
       columns = column 1 [] [] ∷ [];
-      blocked = 1;
+      untypable = 1;
       witness = [];
       memberships = 0;
-      lowest = [];
       typings = [];
+      applications = [];
     }
 
--- one column for each number below n, all with the same subsets
-abbrev pub columnsBelow : ℕ → List ℕ → List ℕ → List Column
-columnsBelow zero a o = []
-columnsBelow (suc n) a o = column n a o ∷ columnsBelow n a o
-
--- FORMAT 10.7: r0 × r0, in which every column allows 00 alone
+-- FORMAT 10.7: r0 × r0, in which every column allows 00 alone, so that r0 cannot have an attribute: untypable with attribute 0
 abbrev pub e7 : Case
 e7 =
     record {
@@ -123,14 +146,18 @@ e7 =
       relations = 1;
       nodes = 2;
       columns = columnsBelow 16 (0 ∷ []) [];
-      blocked = 16;
-      witness = 0 ∷ 0 ∷ [];
+      untypable = 0;
+      witness = [];
       memberships = 0;
-      lowest = 0 ∷ 0 ∷ [];
-      typings = typed (0 ∷ 0 ∷ []) (0 ∷ 0 ∷ []) ∷ untyped (2 ∷ 0 ∷ []) ∷ [];
+      typings =
+          typing (0 ∷ 0 ∷ []) (refusedWith EmptyRecord)
+          ∷ typing (2 ∷ 0 ∷ []) untyped
+          ∷ typing (1 ∷ 0 ∷ 1 ∷ 16 ∷ 0 ∷ []) untyped
+          ∷ [];
+      applications = application (zeros 47 []) leftEmpty ∷ [];
     }
 
--- FORMAT 10.8: π{}(r0), which every schema types, with an empty output
+-- FORMAT 10.8: π{}(r0), which every filled schema types, with an empty output
 abbrev pub e8 : Case
 e8 =
     record {
@@ -140,11 +167,15 @@ e8 =
       relations = 1;
       nodes = 2;
       columns = columnsBelow 16 (0 ∷ 1 ∷ []) [];
-      blocked = 16;
-      witness = 0 ∷ 0 ∷ [];
-      memberships = 0;
-      lowest = 0 ∷ 0 ∷ [];
-      typings = typed (3 ∷ 0 ∷ 1 ∷ 16 ∷ 0 ∷ []) (0 ∷ 0 ∷ []) ∷ [];
+      untypable = 16;
+      witness = 1 ∷ 0 ∷ 1 ∷ 16 ∷ 0 ∷ [];
+      memberships = 1;
+      typings =
+          typing (1 ∷ 0 ∷ 1 ∷ 16 ∷ 0 ∷ []) (typedAs (0 ∷ 0 ∷ []))
+          ∷ typing (3 ∷ 0 ∷ 1 ∷ 16 ∷ 0 ∷ []) (typedAs (0 ∷ 0 ∷ []))
+          ∷ typing (0 ∷ 0 ∷ []) (refusedWith EmptyRecord)
+          ∷ [];
+      applications = application (zeros 47 []) leftEmpty ∷ [];
     }
 
 -- FORMAT 10.9: r0 ∪ π{1}(r1), with the one variable 02, not in the output
@@ -157,14 +188,19 @@ e9 =
       relations = 2;
       nodes = 4;
       columns = column 0 (0 ∷ 2 ∷ []) [] ∷ column 1 (3 ∷ []) (3 ∷ []) ∷ [];
-      blocked = 16;
+      untypable = 16;
       witness = 2 ∷ 0 ∷ 2 ∷ 0 ∷ [];
       memberships = 2;
-      lowest = 2 ∷ 0 ∷ 2 ∷ 0 ∷ [];
-      typings = typed (2 ∷ 0 ∷ 3 ∷ 0 ∷ 1 ∷ 20 ∷ 0 ∷ []) (2 ∷ 0 ∷ []) ∷ untyped (3 ∷ 0 ∷ 1 ∷ 20 ∷ 0 ∷ 3 ∷ 0 ∷ 1 ∷ 20 ∷ 0 ∷ []) ∷ [];
+      typings =
+          typing (2 ∷ 0 ∷ 2 ∷ 0 ∷ []) (typedAs (2 ∷ 0 ∷ []))
+          ∷ typing (2 ∷ 0 ∷ 3 ∷ 0 ∷ 1 ∷ 20 ∷ 0 ∷ []) (typedAs (2 ∷ 0 ∷ []))
+          ∷ typing (3 ∷ 0 ∷ 1 ∷ 20 ∷ 0 ∷ 3 ∷ 0 ∷ 1 ∷ 20 ∷ 0 ∷ []) untyped
+          ∷ [];
+      applications = [];
     }
 
--- FORMAT 10.10: σ{1}(r0 ⋈ r1) ⋈ ((r0 × r2) − r3), with five variables, all in the output
+-- FORMAT 10.10: σ{1}(r0 ⋈ r1) ⋈ ((r0 × r2) − r3), with five variables, all in the output; the witness has attribute 1 in r1 and the
+-- ordinary attributes 16 in r0 and r3, 17 in r2 and r3
 abbrev pub e10 : Case
 e10 =
     record {
@@ -176,14 +212,18 @@ e10 =
           column 0 (0 ∷ 2 ∷ 9 ∷ 11 ∷ 12 ∷ 14 ∷ []) (2 ∷ 9 ∷ 11 ∷ 12 ∷ 14 ∷ [])
           ∷ column 1 (2 ∷ 9 ∷ 11 ∷ 14 ∷ []) (2 ∷ 9 ∷ 11 ∷ 14 ∷ [])
           ∷ [];
-      blocked = 16;
-      witness = 0 ∷ 0 ∷ 2 ∷ 0 ∷ 0 ∷ 0 ∷ 0 ∷ 0 ∷ [];
-      memberships = 1;
-      lowest = 0 ∷ 0 ∷ 2 ∷ 0 ∷ 0 ∷ 0 ∷ 0 ∷ 0 ∷ [];
-      typings = [];
+      untypable = 16;
+      witness = 1 ∷ 0 ∷ 1 ∷ 16 ∷ 0 ∷ 2 ∷ 0 ∷ 1 ∷ 0 ∷ 1 ∷ 17 ∷ 0 ∷ 1 ∷ 0 ∷ 2 ∷ 16 ∷ 0 ∷ 17 ∷ 0 ∷ [];
+      memberships = 5;
+      typings =
+          typing (1 ∷ 0 ∷ 1 ∷ 16 ∷ 0 ∷ 2 ∷ 0 ∷ 1 ∷ 0 ∷ 1 ∷ 17 ∷ 0 ∷ 1 ∷ 0 ∷ 2 ∷ 16 ∷ 0 ∷ 17 ∷ 0 ∷ []) (typedAs (3 ∷ 0 ∷ 2 ∷ 16 ∷ 0 ∷ 17 ∷ 0 ∷ []))
+          ∷ typing (0 ∷ 0 ∷ 2 ∷ 0 ∷ 0 ∷ 0 ∷ 0 ∷ 0 ∷ []) (refusedWith EmptyRecord)
+          ∷ [];
+      applications = [];
     }
 
--- FORMAT 10.13: σ{1}(((r0 ∪ r1) ⋈ r2) ⋈ r3), where 04 and 08 have the fewest members and 03 is the lowest
+-- FORMAT 10.13: σ{1}(((r0 ∪ r1) ⋈ r2) ⋈ r3): by the subsets 03, 04 and 08 each relation has one attribute, whichever of them is that of
+-- attribute 1; the witness takes 03 for it, which is the lowest, and then the variables 04 and 08, which come before 0c alone
 abbrev pub tie : Case
 tie =
     record {
@@ -192,12 +232,18 @@ tie =
       texts = (83 ∷ 91 ∷ 49 ∷ 93 ∷ 40 ∷ 40 ∷ 40 ∷ 114 ∷ 48 ∷ 43 ∷ 114 ∷ 49 ∷ 41 ∷ 42 ∷ 114 ∷ 50 ∷ 41 ∷ 42 ∷ 114 ∷ 51 ∷ 41 ∷ []) ∷ [];
       relations = 4;
       nodes = 8;
-      columns = column 1 (3 ∷ 4 ∷ 7 ∷ 8 ∷ 11 ∷ 12 ∷ 15 ∷ []) (3 ∷ 4 ∷ 7 ∷ 8 ∷ 11 ∷ 12 ∷ 15 ∷ []) ∷ [];
-      blocked = 16;
-      witness = 0 ∷ 0 ∷ 0 ∷ 0 ∷ 2 ∷ 0 ∷ 0 ∷ 0 ∷ [];
-      memberships = 1;
-      lowest = 2 ∷ 0 ∷ 2 ∷ 0 ∷ 0 ∷ 0 ∷ 0 ∷ 0 ∷ [];
-      typings = [];
+      columns =
+          column 0 (0 ∷ 3 ∷ 4 ∷ 7 ∷ 8 ∷ 11 ∷ 12 ∷ 15 ∷ []) (3 ∷ 4 ∷ 7 ∷ 8 ∷ 11 ∷ 12 ∷ 15 ∷ [])
+          ∷ column 1 (3 ∷ 4 ∷ 7 ∷ 8 ∷ 11 ∷ 12 ∷ 15 ∷ []) (3 ∷ 4 ∷ 7 ∷ 8 ∷ 11 ∷ 12 ∷ 15 ∷ [])
+          ∷ [];
+      untypable = 16;
+      witness = 2 ∷ 0 ∷ 2 ∷ 0 ∷ 1 ∷ 0 ∷ 1 ∷ 16 ∷ 0 ∷ 1 ∷ 0 ∷ 1 ∷ 17 ∷ 0 ∷ [];
+      memberships = 4;
+      typings =
+          typing (2 ∷ 0 ∷ 2 ∷ 0 ∷ 1 ∷ 0 ∷ 1 ∷ 16 ∷ 0 ∷ 1 ∷ 0 ∷ 1 ∷ 17 ∷ 0 ∷ []) (typedAs (3 ∷ 0 ∷ 2 ∷ 16 ∷ 0 ∷ 17 ∷ 0 ∷ []))
+          ∷ typing (1 ∷ 0 ∷ 1 ∷ 16 ∷ 0 ∷ 1 ∷ 0 ∷ 1 ∷ 16 ∷ 0 ∷ 2 ∷ 0 ∷ 1 ∷ 0 ∷ 1 ∷ 17 ∷ 0 ∷ []) (typedAs (3 ∷ 0 ∷ 2 ∷ 16 ∷ 0 ∷ 17 ∷ 0 ∷ []))
+          ∷ [];
+      applications = [];
     }
 
 -- all cases
