@@ -18,13 +18,13 @@ use Rattle.verdict_answer.specs.declared.Outcome.the-variants.{Typable, 
 -- ---- by what the columns of a node allow, for m relations
 
 -- by the lowest special attribute whose column allows nothing, and by what it costs to fill the relations
-abbrev pub untypableBy : ℕ → ℕ → ℕ
-untypableBy blocked cost = cond (ltb blocked 16) blocked (cond (ltb cost infinity) 16 0)
+abbrev pub attributeBy : ℕ → ℕ → ℕ
+attributeBy blocked cost = cond (ltb blocked 16) blocked (cond (ltb cost infinity) 16 0)
 
 -- FORMAT 7.7: the attribute that is said of an untypable node: the lowest special one whose column allows nothing, or 0
 -- where each allows something but the relations cannot all be filled; 16 if the node is typable
 unfoldable pub untypableIn : ℕ → (ℕ → ℕ → Bool) → ℕ
-untypableIn m allowed = untypableBy (blockedIn allowed) (costIn m allowed)
+untypableIn m allowed = attributeBy (blockedIn allowed) (costIn m allowed)
 
 -- FORMAT 7.7: the answer, by whether the node is untypable
 abbrev pub outcome : Bool → ℕ → List ℕ → ℕ → Outcome

@@ -32,7 +32,7 @@ use Rattle.verdict_answer.specs.FirstLaws.{subsets-blocked, subsets-chos
 use Rattle.verdict_answer.specs.Formed.{Formed, stored-formed}
 use Rattle.verdict_answer.specs.FirstChoice.{membershipsOf, memberships-few, chosen-firsts, covers-cost, covers-specials, covers-ordinaries}
 use Rattle.verdict_answer.specs.Witness.{costIn, choiceIn, specialsOf, ordinariesOf, witnessBytes}
-use Rattle.verdict_answer.specs.Verdict.{untypableBy, untypableIn, outcome, outcomeIn, schemaIn, verdictAnswer, verdictSpace, verdictSchema}
+use Rattle.verdict_answer.specs.Verdict.{attributeBy, untypableIn, outcome, outcomeIn, schemaIn, verdictAnswer, verdictSpace, verdictSchema}
 use Rattle.verdict_answer.specs.declared.Subsets.{Subsets}
 use Rattle.verdict_answer.specs.declared.Outcome.{Outcome}
 use Rattle.verdict_answer.specs.declared.Outcome.the-variants.{Typable, Untypable, Refused}
@@ -161,7 +161,7 @@ module _ (m : ℕ) (few : m ≤ 8) (f g : ℕ → ℕ → Bool) (same : (i s : �
 
   pub same-untypable : untypableIn m f ≡ untypableIn m g
   unfolding untypableIn
-  same-untypable = ap₂ untypableBy (blocked-in-same f g same) same-cost
+  same-untypable = ap₂ attributeBy (blocked-in-same f g same) same-cost
 
   same-outcome : outcomeIn m f ≡ outcomeIn m g
   unfolding outcomeIn
