@@ -14,19 +14,20 @@ use Rattle.expression_file.specs.declared.files.Acceptance.the-variants.{Accept
 use Rattle.expression_file.specs.ReadFile.{acceptance, nodeAt}
 use Rattle.node_expression.specs.NodeExpression.{expressionAt}
 use Rattle.stored_formula.specs.FormulaBytes.{allowedBit, outputBit}
-use Rattle.verdict_answer.specs.First.{blockedOf}
+use Rattle.verdict_answer.specs.Verdict.{untypableIn}
 use Rattle.listing_entries.specs.Entries.{whenSo}
 use Rattle.listing_entries.specs.Naming.{namedBelow}
 
 -- ---- lines
 
--- the lowest special attribute whose column allows nothing, or 16: whether there is one
-abbrev pub someBlocked : ℕ → Bool
-someBlocked lowest = ltb lowest 16
+-- untypable, by what the columns of a node allow: some attribute is said, that of a special column that allows nothing or,
+-- where the relations cannot all be filled, 0
+abbrev pub untypableBy : ℕ → (ℕ → ℕ → Bool) → Bool
+untypableBy m allowed = ltb (untypableIn m allowed) 16
 
--- FORMAT 7.15: untypable, since some special column allows nothing
-unfoldable pub isBlocked : ℕ → Expression → Bool
-isBlocked m e = someBlocked (blockedOf m e)
+-- FORMAT 7.15: the same of an expression of m relations
+unfoldable pub isUntypable : ℕ → Expression → Bool
+isUntypable m e = untypableBy m (allowedBit m e)
 
 -- FORMAT 7.15: a space and the verdict
 abbrev pub verdictText : Bool → List ℕ
@@ -35,7 +36,7 @@ verdictText false = 32 ∷ 116 ∷ 121 ∷ 112 ∷ 97 ∷ 98 ∷ 108 ∷ 101 ∷
 
 -- FORMAT 7.15: the node's line
 unfoldable pub nodeLine : ℕ → Expression → ℕ → List ℕ
-nodeLine m e k = (110 ∷ 111 ∷ 100 ∷ 101 ∷ 32 ∷ []) ++ decimal k ++ verdictText (isBlocked m e) ++ newline
+nodeLine m e k = (110 ∷ 111 ∷ 100 ∷ 101 ∷ 32 ∷ []) ++ decimal k ++ verdictText (isUntypable m e) ++ newline
 
 -- FORMAT 7.15: a relation's line, with the variables that it declares
 unfoldable pub relationLine : ℕ → Expression → ℕ → List ℕ
