@@ -23,7 +23,7 @@ use Rattle.listing_entries.specs.declared.entries.Kind.the-variants.{Variables,
 use Rattle.text.specs.Characters.{decimal, subsetText, newline}
 use Rattle.text.specs.Each.{each, each-same}
 use Rattle.listing_entries.specs.Entries.{whenSo, listText, entry-text}
-use Rattle.listing_lines.specs.Text.{untypableBy, isUntypable, verdictText, nodeLine, relationLine, outLine, attributeLine, listing}
+use Rattle.listing_lines.specs.Text.{isSaid, untypableBy, isUntypable, verdictText, nodeLine, relationLine, outLine, attributeLine, listing}
 use Rattle.listing_lines.specs.Lines.{nodeText, label, lineText, relationText, outText, attributeText, attributesText, linesText}
 use Rattle.listing_entries.specs.Naming.{namedBelow, Named, named-is}
 
@@ -66,7 +66,7 @@ module _ (m : ℕ) (e : Expression) where
 module _ (work : List ℕ) (node m : ℕ) (few : m ≤ 8) (e : Expression) (columns : (c : ℕ) → c < 16 → columnAt work node c ≡ cellColumn m e c) where
   untypable-same : untypableBy m (allowedAt work node) ≡ isUntypable m e
   unfolding isUntypable
-  untypable-same = ap (λ (a : ℕ). ltb a 16) (same-untypable m few (allowedAt work node) (allowedBit m e) (stored-cells work node m e columns))
+  untypable-same = ap isSaid (same-untypable m few (allowedAt work node) (allowedBit m e) (stored-cells work node m e columns))
 
   node-line : nodeText (untypableBy m (allowedAt work node)) node ≡ nodeLine m e node
   unfolding nodeText nodeLine

@@ -20,10 +20,13 @@ use Rattle.listing_entries.specs.Naming.{namedBelow}
 
 -- ---- lines
 
--- untypable, by what the columns of a node allow: some attribute is said, that of a special column that allows nothing or,
--- where the relations cannot all be filled, 0
+-- an attribute is said of the node: 0 to 15, where 16 says that it is typable
+abbrev pub isSaid : ℕ → Bool
+isSaid attribute = ltb attribute 16
+
+-- untypable, by what the columns of a node allow: a special column allows nothing, or the relations cannot all be filled
 abbrev pub untypableBy : ℕ → (ℕ → ℕ → Bool) → Bool
-untypableBy m allowed = ltb (untypableIn m allowed) 16
+untypableBy m allowed = isSaid (untypableIn m allowed)
 
 -- FORMAT 7.15: the same of an expression of m relations
 unfoldable pub isUntypable : ℕ → Expression → Bool
