@@ -17,11 +17,14 @@ use Rattle.expression_file.specs.declared.files.Acceptance.{Acceptance}
 use Rattle.expression_file.specs.declared.files.Acceptance.the-variants.{Accepted, Refused as FileRefused}
 use Rattle.expression_file.specs.ReadFile.{acceptance, nodeAt}
 use Rattle.expression_file.specs.Accepted.{accepted-file}
+use Rattle.node_expression.specs.NodeExpression.{expressionAt, expression-legal}
 use Rattle.stored_formula.specs.ColumnPlace.{columnAt}
-use Rattle.stored_formula.specs.FormulaBytes.{formulasOf}
+use Rattle.stored_formula.specs.FormulaBytes.{cellColumn}
 use Rattle.stored_formula.specs.Formula.{formulaAnswer, formulaSpace}
 use Rattle.stored_formula.specs.FormulaLaws.{answer-refused, answer-filled, answer-file, space-filled}
 use Rattle.stored_formula.specs.FormulaBytesLaws.{stored-column}
+use Rattle.verdict_answer.specs.First.{allowedAt}
+use Rattle.verdict_answer.specs.Formed.{Formed, stored-formed}
 use Rattle.listing.specs.declared.Listed.{Listed}
 use Rattle.listing.specs.declared.Listed.the-variants.{Text, Refused}
 use Rattle.text.specs.Characters.{decimal, newline}
@@ -53,6 +56,34 @@ filled-counts file size m n e =
     let counts = accepted-file file m n (answer-file file size m n e .0) .counts in
     (counts .relations .1, counts .nodes .0, counts .nodes .1)
 
+-- the columns of the last node, as Formula leaves them
+last-columns :
+    (file work work′ : List ℕ) (m n : ℕ)
+    → 65536 ≤ length work
+    → formulaAnswer file (length work) ≡ Accepted m n
+    → work′ ≡ formulaSpace file work
+    → (c : ℕ)
+    → c < 16
+    → columnAt work′ (n - 1) c ≡ cellColumn m (expressionAt file (n - 1)) c
+last-columns file work work′ m n enough e space c h =
+    let counts = filled-counts file (length work) m n e in
+    let least = counts .1 in
+    let most = counts .2 in
+    ap (λ (w : List ℕ). columnAt w (n - 1) c) (space ∙ space-filled file work m n e)
+    ∙ stored-column file work m n (omega arith) (n - 1) c (omega arith) h
+
+pub last-formed :
+    (file work work′ : List ℕ) (m n : ℕ)
+    → 65536 ≤ length work
+    → formulaAnswer file (length work) ≡ Accepted m n
+    → work′ ≡ formulaSpace file work
+    → Formed m (allowedAt work′ (n - 1))
+last-formed file work work′ m n enough e space =
+    let least = filled-counts file (length work) m n e .1 in
+    stored-formed work′ (n - 1) m (expressionAt file (n - 1))
+    (expression-legal file m n (answer-file file (length work) m n e .0) (n - 1) (omega arith))
+    (last-columns file work work′ m n enough e space)
+
 pub wrote-listing :
     (file work work′ : List ℕ) (m n : ℕ) (named : AttrSet) (text text′ : List ℕ) (end : ℕ)
     → 65536 ≤ length work
@@ -63,14 +94,8 @@ pub wrote-listing :
     → Wrote 0 (textOf file) text text′ end
 wrote-listing file work work′ m n named text text′ end enough e space named-in wrote =
     let accepted = answer-file file (length work) m n e .0 in
-    let counts = filled-counts file (length work) m n e in
-    let least = counts .1 in
-    let most = counts .2 in
-    let stored : work′ ≡ over (formulasOf file m n) work = space ∙ space-filled file work m n e in
     wrote-as
-    (lines-are file work′ m n named
-    (λ c h. ap (λ (w : List ℕ). columnAt w (n - 1) c) stored ∙ stored-column file work m n (omega arith) (n - 1) c (omega arith) h)
-    named-in
+    (lines-are file work′ m n named (filled-counts file (length work) m n e .0) (last-columns file work work′ m n enough e space) named-in
     ∙ sym (text-accepted file m n accepted))
     wrote
 

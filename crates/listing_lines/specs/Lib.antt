@@ -2,4 +2,5 @@ pub mod Text
 pub mod Lines
 pub mod LineLaws
 pub mod TextLaws
+pub mod UntypableLaws
 pub mod Example

@@ -16,13 +16,14 @@ use Rattle.stored_formula.specs.ColumnPlace.{columnAt}
 use Rattle.stored_formula.specs.FormulaBytes.{allowedBit, outputBit, cellColumn}
 use Rattle.stored_formula.specs.FormulaBytesLaws.{output-within}
 use Rattle.stored_formula.specs.NodeColumn.{cell-allowed, cell-output}
-use Rattle.verdict_answer.specs.First.{blockedAt}
-use Rattle.verdict_answer.specs.FirstLaws.{blocked-cells}
+use Rattle.verdict_answer.specs.First.{allowedAt}
+use Rattle.verdict_answer.specs.FirstLaws.{stored-cells}
+use Rattle.verdict_answer.specs.VerdictLaws.{same-untypable}
 use Rattle.listing_entries.specs.declared.entries.Kind.the-variants.{Variables, Output, Signed}
 use Rattle.text.specs.Characters.{decimal, subsetText, newline}
 use Rattle.text.specs.Each.{each, each-same}
 use Rattle.listing_entries.specs.Entries.{whenSo, listText, entry-text}
-use Rattle.listing_lines.specs.Text.{someBlocked, isBlocked, verdictText, nodeLine, relationLine, outLine, attributeLine, listing}
+use Rattle.listing_lines.specs.Text.{isSaid, untypableBy, isUntypable, verdictText, nodeLine, relationLine, outLine, attributeLine, listing}
 use Rattle.listing_lines.specs.Lines.{nodeText, label, lineText, relationText, outText, attributeText, attributesText, linesText}
 use Rattle.listing_entries.specs.Naming.{namedBelow, Named, named-is}
 
@@ -62,14 +63,14 @@ module _ (m : ℕ) (e : Expression) where
 
 -- ---- lines off a work space that holds the columns of expression e at a node
 
-module _ (work : List ℕ) (node m : ℕ) (e : Expression) (columns : (c : ℕ) → c < 16 → columnAt work node c ≡ cellColumn m e c) where
-  blocked-is : someBlocked (blockedAt work node) ≡ isBlocked m e
-  unfolding isBlocked
-  blocked-is = ap someBlocked (blocked-cells work node m e columns)
+module _ (work : List ℕ) (node m : ℕ) (few : m ≤ 8) (e : Expression) (columns : (c : ℕ) → c < 16 → columnAt work node c ≡ cellColumn m e c) where
+  untypable-same : untypableBy m (allowedAt work node) ≡ isUntypable m e
+  unfolding isUntypable
+  untypable-same = ap isSaid (same-untypable m few (allowedAt work node) (allowedBit m e) (stored-cells work node m e columns))
 
-  node-line : nodeText (someBlocked (blockedAt work node)) node ≡ nodeLine m e node
+  node-line : nodeText (untypableBy m (allowedAt work node)) node ≡ nodeLine m e node
   unfolding nodeText nodeLine
-  node-line = ap (λ (b : Bool). (110 ∷ 111 ∷ 100 ∷ 101 ∷ 32 ∷ []) ++ decimal node ++ verdictText b ++ newline) blocked-is
+  node-line = ap (λ (b : Bool). (110 ∷ 111 ∷ 100 ∷ 101 ∷ 32 ∷ []) ++ decimal node ++ verdictText b ++ newline) untypable-same
 
   relation-lines : each m (relationText (columnAt work node 0)) ≡ each m (relationLine m e)
   relation-lines = each-same m _ _ (λ r h. ap (λ (column : List ℕ). relationText column r) (columns 0 (omega arith)) ∙ relation-line m e r)
@@ -83,14 +84,15 @@ module _ (work : List ℕ) (node m : ℕ) (e : Expression) (columns : (c : ℕ) 
 
 pub lines-are :
     (file work : List ℕ) (m n : ℕ) (named : AttrSet)
+    → m ≤ 8
     → ((c : ℕ) → c < 16 → columnAt work (n - 1) c ≡ cellColumn m (expressionAt file (n - 1)) c)
     → Named (nodeAt file) n named
     → linesText work m (n - 1) named ≡ listing file m n
 unfolding linesText listing
-lines-are file work m n named columns named-in =
+lines-are file work m n named few columns named-in =
     let e = expressionAt file (n - 1) in
     ap₂ _++_
     (ap₂ _++_
-    (ap₂ _++_ (node-line work (n - 1) m e columns) (relation-lines work (n - 1) m e columns))
+    (ap₂ _++_ (node-line work (n - 1) m few e columns) (relation-lines work (n - 1) m few e columns))
     (ap outText (columns 0 (omega arith)) ∙ out-line m e))
-    (attribute-lines work (n - 1) m e columns named (namedBelow (nodeAt file) n) (named-is (nodeAt file) n named named-in))
+    (attribute-lines work (n - 1) m few e columns named (namedBelow (nodeAt file) n) (named-is (nodeAt file) n named named-in))

@@ -5,17 +5,17 @@ use mathlib.Core.List.{List, [], _∷_, _++_}
 use Rattle.attribute_set.specs.declared.AttrSet.{AttrSet}
 use Rattle.attribute_set.specs.AttrSet.{hasAttribute}
 use Rattle.stored_formula.specs.ColumnPlace.{columnAt}
-use Rattle.verdict_answer.specs.First.{blockedAt}
+use Rattle.verdict_answer.specs.First.{allowedAt}
 use Rattle.listing_entries.specs.declared.entries.Kind.{Kind}
 use Rattle.listing_entries.specs.declared.entries.Kind.the-variants.{Variables, Output, Signed}
 use Rattle.text.specs.Characters.{decimal, newline}
 use Rattle.text.specs.Each.{each}
 use Rattle.listing_entries.specs.Entries.{whenSo, listText}
-use Rattle.listing_lines.specs.Text.{someBlocked, verdictText}
+use Rattle.listing_lines.specs.Text.{untypableBy, verdictText}
 
--- the node's line, by whether a column allows nothing
+-- the node's line, by whether the node is untypable
 unfoldable pub nodeText : Bool → ℕ → List ℕ
-nodeText blocked k = (110 ∷ 111 ∷ 100 ∷ 101 ∷ 32 ∷ []) ++ decimal k ++ verdictText blocked ++ newline
+nodeText untypable k = (110 ∷ 111 ∷ 100 ∷ 101 ∷ 32 ∷ []) ++ decimal k ++ verdictText untypable ++ newline
 
 -- a letter, a number and a colon
 unfoldable pub label : ℕ → ℕ → List ℕ
@@ -44,7 +44,7 @@ attributesText work node named = each 15 (λ j. attributeText work node named (j
 -- all lines of a node, off the work space
 unfoldable pub linesText : List ℕ → ℕ → ℕ → AttrSet → List ℕ
 linesText work m node named =
-    nodeText (someBlocked (blockedAt work node)) node
+    nodeText (untypableBy m (allowedAt work node)) node
     ++ each m (relationText (columnAt work node 0))
     ++ outText (columnAt work node 0)
     ++ attributesText work node named

@@ -14,19 +14,23 @@ use Rattle.expression_file.specs.declared.files.Acceptance.the-variants.{Accept
 use Rattle.expression_file.specs.ReadFile.{acceptance, nodeAt}
 use Rattle.node_expression.specs.NodeExpression.{expressionAt}
 use Rattle.stored_formula.specs.FormulaBytes.{allowedBit, outputBit}
-use Rattle.verdict_answer.specs.First.{blockedOf}
+use Rattle.verdict_answer.specs.Verdict.{untypableIn}
 use Rattle.listing_entries.specs.Entries.{whenSo}
 use Rattle.listing_entries.specs.Naming.{namedBelow}
 
 -- ---- lines
 
--- the lowest special attribute whose column allows nothing, or 16: whether there is one
-abbrev pub someBlocked : ℕ → Bool
-someBlocked lowest = ltb lowest 16
+-- an attribute is said of the node: 0 to 15, where 16 says that it is typable
+abbrev pub isSaid : ℕ → Bool
+isSaid attribute = ltb attribute 16
 
--- FORMAT 7.15: untypable, since some special column allows nothing
-unfoldable pub isBlocked : ℕ → Expression → Bool
-isBlocked m e = someBlocked (blockedOf m e)
+-- untypable, by what the columns of a node allow: a special column allows nothing, or the relations cannot all be filled
+abbrev pub untypableBy : ℕ → (ℕ → ℕ → Bool) → Bool
+untypableBy m allowed = isSaid (untypableIn m allowed)
+
+-- FORMAT 7.15: the same of an expression of m relations
+unfoldable pub isUntypable : ℕ → Expression → Bool
+isUntypable m e = untypableBy m (allowedBit m e)
 
 -- FORMAT 7.15: a space and the verdict
 abbrev pub verdictText : Bool → List ℕ
@@ -35,7 +39,7 @@ verdictText false = 32 ∷ 116 ∷ 121 ∷ 112 ∷ 97 ∷ 98 ∷ 108 ∷ 101 ∷
 
 -- FORMAT 7.15: the node's line
 unfoldable pub nodeLine : ℕ → Expression → ℕ → List ℕ
-nodeLine m e k = (110 ∷ 111 ∷ 100 ∷ 101 ∷ 32 ∷ []) ++ decimal k ++ verdictText (isBlocked m e) ++ newline
+nodeLine m e k = (110 ∷ 111 ∷ 100 ∷ 101 ∷ 32 ∷ []) ++ decimal k ++ verdictText (isUntypable m e) ++ newline
 
 -- FORMAT 7.15: a relation's line, with the variables that it declares
 unfoldable pub relationLine : ℕ → Expression → ℕ → List ℕ

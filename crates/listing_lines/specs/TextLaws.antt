@@ -17,9 +17,10 @@ use Rattle.expression_file.specs.ReadFile.{acceptance}
 use Rattle.expression_file.specs.Walk.{file-most}
 use Rattle.expression_file.specs.Enough.{enough}
 use Rattle.node_expression.specs.NodeExpression.{expressionAt}
-use Rattle.verdict_answer.specs.First.{blockedOf}
+use Rattle.stored_formula.specs.FormulaBytes.{allowedBit}
+use Rattle.verdict_answer.specs.Verdict.{untypableIn}
 use Rattle.text.specs.Characters.{decimal, newline}
-use Rattle.listing_lines.specs.Text.{isBlocked, verdictText, nodeLine, listing, textAfter, textOf}
+use Rattle.listing_lines.specs.Text.{isUntypable, verdictText, nodeLine, listing, textAfter, textOf}
 use Rattle.listing_lines.specs.Lines.{nodeText}
 
 -- ---- the text of a file that is accepted, and of one that is refused
@@ -82,21 +83,21 @@ begins : (line first b c d : List ℕ) → first ≡ line → (rest : List ℕ) 
 begins line first b c d is = (b ++ (c ++ d), simp (append-assoc, is))
 
 -- the two words for the line of a node
-first-line : (m : ℕ) (e : Expression) (k : ℕ) → nodeLine m e k ≡ nodeText (isBlocked m e) k
+first-line : (m : ℕ) (e : Expression) (k : ℕ) → nodeLine m e k ≡ nodeText (isUntypable m e) k
 unfolding nodeLine nodeText
 first-line m e k = refl
 
 -- the listing begins with the line of the last node
-pub listing-begins : (file : List ℕ) (m n : ℕ) → (rest : List ℕ) × (listing file m n ≡ nodeText (isBlocked m (expressionAt file (n - 1))) (n - 1) ++ rest)
+pub listing-begins : (file : List ℕ) (m n : ℕ) → (rest : List ℕ) × (listing file m n ≡ nodeText (isUntypable m (expressionAt file (n - 1))) (n - 1) ++ rest)
 unfolding listing
 listing-begins file m n = begins _ _ _ _ _ (first-line m (expressionAt file (n - 1)) (n - 1))
 
 -- ---- its verdict
 
-pub blocked-says : (m : ℕ) (e : Expression) → (isBlocked m e ≡ true) ↔ (blockedOf m e < 16)
-unfolding isBlocked
-blocked-says m e = ((λ is. ltb-true (blockedOf m e) 16 is), (λ less. lt-ltb (blockedOf m e) 16 less))
+pub untypable-says : (m : ℕ) (e : Expression) → (isUntypable m e ≡ true) ↔ (untypableIn m (allowedBit m e) < 16)
+unfolding isUntypable
+untypable-says m e = ((λ is. ltb-true (untypableIn m (allowedBit m e)) 16 is), (λ less. lt-ltb (untypableIn m (allowedBit m e)) 16 less))
 
-pub unblocked-says : (m : ℕ) (e : Expression) → isBlocked m e ≡ false → 16 ≤ blockedOf m e
-unfolding isBlocked
-unblocked-says m e is = ltb-false (blockedOf m e) 16 is
+pub typable-says : (m : ℕ) (e : Expression) → isUntypable m e ≡ false → 16 ≤ untypableIn m (allowedBit m e)
+unfolding isUntypable
+typable-says m e is = ltb-false (untypableIn m (allowedBit m e)) 16 is

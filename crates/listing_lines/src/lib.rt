@@ -1,15 +1,17 @@
 // The lines of the listing.
-mod blocked;
+mod untypable;
 
 ghost use Prim.Native.Nat.{_+_, _≤_, _<_, _*_};
 ghost use lib.ListN.{length};
 ghost use Rattle.text.specs.Put.{Wrote};
 ghost use Rattle.text.specs.Each.{each};
 ghost use Rattle.listing_lines.specs.Text.{verdictText};
+ghost use Rattle.verdict_answer.specs.First.{allowedAt};
+ghost use Rattle.verdict_answer.specs.Formed.{Formed};
 ghost use Rattle.listing_entries.specs.Entries.{KindFits};
 ghost use Rattle.listing_lines.specs.Lines.{nodeText, label, lineText, relationText, outText, attributeText, attributesText, linesText};
 ghost use Rattle.admission.specs.Admission.{formulaSize};
-use crate::blocked::is_blocked;
+use crate::untypable::is_untypable;
 use attribute_set::AttrSet;
 use listing_entries::Kind;
 use listing_entries::write_list;
@@ -19,26 +21,26 @@ use text::write_bytes;
 use text::write_decimal;
 
 // A space and the verdict.
-fn write_verdict(text: &mut [u8], at: usize, blocked: bool) -> usize
+fn write_verdict(text: &mut [u8], at: usize, untypable: bool) -> usize
     requires { ⌜ at + 10 ≤ length (now text) ⌝ }
-    ensures { λ r. ⌜ Wrote at (verdictText «blocked») (now (text .entry)) (now (text .exit)) r ⌝ }
+    ensures { λ r. ⌜ Wrote at (verdictText «untypable») (now (text .entry)) (now (text .exit)) r ⌝ }
     ensures { λ r. ⌜ r ≤ at + 10 ⌝ }
 {
-    if blocked {
+    if untypable {
         return write_bytes(text, at, b" untypable");
     }
     write_bytes(text, at, b" typable")
 }
 
 // The node's line: its number and its verdict.
-fn write_node_line(text: &mut [u8], at: usize, node: u8, blocked: bool) -> usize
+fn write_node_line(text: &mut [u8], at: usize, node: u8, untypable: bool) -> usize
     requires { ⌜ (node < 100) × (at + 18 ≤ length (now text)) ⌝ }
-    ensures { λ r. ⌜ Wrote at (nodeText «blocked» node) (now (text .entry)) (now (text .exit)) r ⌝ }
+    ensures { λ r. ⌜ Wrote at (nodeText «untypable» node) (now (text .entry)) (now (text .exit)) r ⌝ }
     ensures { λ r. ⌜ r ≤ at + 18 ⌝ }
 {
     let number = write_bytes(text, at, b"node ");
     let verdict = write_decimal(text, number, node);
-    let end = write_verdict(text, verdict, blocked);
+    let end = write_verdict(text, verdict, untypable);
     write_byte(text, end, b'\n')
 }
 
@@ -134,11 +136,12 @@ fn write_attribute_lines(text: &mut [u8], at: usize, work: &[u8], node: u8, name
 // All lines of a node.
 pub fn write_lines(text: &mut [u8], work: &[u8], m: u8, node: u8, named: AttrSet) -> usize
     requires { ⌜ (m ≤ 8) × (node < 64) × (node * formulaSize + formulaSize ≤ length (now work)) × (32768 ≤ length (now text)) ⌝ }
+    requires { ⌜ Formed m (allowedAt (now work) node) ⌝ }
     ensures { λ r. ⌜ Wrote 0 (linesText (now (work .entry)) m node named) (now (text .entry)) (now (text .exit)) r ⌝ }
 {
-    let blocked = is_blocked(work, node);
+    let untypable = is_untypable(work, m, node);
     let column = read_column(work, node, 0);
-    let relations = write_node_line(text, 0, node, blocked);
+    let relations = write_node_line(text, 0, node, untypable);
     let out = write_relation_lines(text, relations, m, column);
     let attributes = write_out_line(text, out, column);
     write_attribute_lines(text, attributes, work, node, named)

@@ -1,7 +1,7 @@
 use mathlib.Core.Path.{sym, _∙_}
 use native.Mathlib.Omega.{arith}
 use Rattle.stored_formula.specs.FormulaLaws.{answer-file}
-use Rattle.listing.specs.ListingLaws.{filled-counts, wrote-listing, wrote-refusal, listed-work, listed-text, listed-done}
+use Rattle.listing.specs.ListingLaws.{filled-counts, last-formed, wrote-listing, wrote-refusal, listed-work, listed-text, listed-done}
 use borrow.Author.Needs.{needs}
 use Rattle.listing.proofs.write_listing as fn
 use fn.Statement.{statement}
@@ -26,11 +26,13 @@ write-lines-requires : tie.Need-write-lines-requires
 write-lines-requires c κs =
     let at-m = c.before.before.before.before in
     let formula = at-m.before.before.before.before.formula in
-    let counts = filled-counts _ _ _ _ (sym formula.ensures.0 ∙ at-m.m.given.1) in
+    let at-if2 = at-m.before.before.before.before.before.before in
+    let answered = sym formula.ensures.0 ∙ at-m.m.given.1 in
+    let counts = filled-counts _ _ _ _ answered in
     let least = counts.1 in
     let most = counts.2 in
     let size = formula.kept.1.0 in
-    (counts.0, omega arith, omega arith, at-m.before.before.before.before.before.before.if2.left)
+    ((counts.0, omega arith, omega arith, at-if2.if2.left), last-formed _ _ _ _ _ at-if2.before.if1.left answered formula.ensures.1)
 
 write-refused-requires : tie.Need-write-refused-requires
 write-refused-requires c κs = let t = c.before.before.before.before.before.before.before.before.if2.left in omega arith
