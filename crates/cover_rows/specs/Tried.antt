@@ -37,6 +37,22 @@ Before low s = s % 16 < low
 abbrev pub Through : ℕ → ℕ → ℕ → Type 0
 Through low at s = (s % 16 < low) ⊎ ((s % 16 ≡ low) × (s < at))
 
+-- of the subsets below `at` whose first four relations are `low` the column allows none
+abbrev pub NoneAllowed : List ℕ → ℕ → ℕ → ℕ → Type 0
+NoneAllowed column low count at = (s : ℕ) → s < at → s < count → s % 16 ≡ low → allowedIn column s ≡ false
+
+pub none-first : (column : List ℕ) (low count : ℕ) → NoneAllowed column low count low
+none-first column low count s h below e = absurd (omega arith)
+
+pub none-next : (column : List ℕ) (low count at : ℕ) → at % 16 ≡ low → NoneAllowed column low count at → allowedIn column at ≡ false → NoneAllowed column low count (at + 16)
+none-next column low count at is none here s h below e = go (decLe at s)
+  where
+    go : Dec (at ≤ s) → allowedIn column s ≡ false
+    go (yes from) =
+        let same : s ≡ at = omega arith in
+        rw same here
+    go (no before) = none s (omega arith) below e
+
 -- of the subsets through the next one, that one is new
 new : (low at s : ℕ) → at % 16 ≡ low → Through low (at + 16) s → Through low at s ⊎ (s ≡ at)
 new low at s e (inl b) = inl (inl b)
@@ -119,6 +135,18 @@ module _ {column next : List ℕ} {limit count : ℕ} (short : limit ≤ 256) (f
         most = r .most;
         outside = r .outside;
       }
+
+  -- none of them is allowed
+  pub reached-past : (low : ℕ) {row : List ℕ} → NoneAllowed column low count count → Reached column next limit count (Before low) row → Reached column next limit count (Before (low + 1)) row
+  reached-past low {row} none r =
+      record { size = r .size; over = r .over; upTo = λ need s h l t. go need s h l t (decLe low (s % 16)); most = r .most; outside = r .outside }
+    where
+      go : (need s : ℕ) → need < limit → s < count → s % 16 < low + 1 → Dec (low ≤ s % 16) → getD row need 0 ≤ priceIn column next need s
+      go need s h l t (yes last) =
+          let f = price-forbidden column next need s (none s l l (omega arith)) in
+          let m = r .most need h in
+          omega arith
+      go need s h l t (no before) = r .upTo need s h l (omega arith)
 
   -- ---- all subsets
 

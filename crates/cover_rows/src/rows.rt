@@ -1,13 +1,14 @@
 // A row of costs, sixteen needs at a time: the loop over sixteen has no branch, so that the compiler makes one step of
 // it.
 ghost use mathlib.Core.Path.{_≡_};
+ghost use mathlib.Core.Bool.{false};
 ghost use Prim.Native.Nat.{ℕ, _+_, _*_, _≤_, _<_, min};
 ghost use lib.ListN.{length, getD};
 ghost use Rattle.bits.specs.Written.{Written};
 ghost use Rattle.set_cover.specs.Least.{infinity};
 ghost use Rattle.cover_rows.specs.Rows.{Costs, costRow};
 ghost use Rattle.cover_rows.specs.Blocks.{Lowered, lowEntry, loweredRow};
-ghost use Rattle.cover_rows.specs.Tried.{Reached, Before};
+ghost use Rattle.cover_rows.specs.Tried.{Reached, Before, NoneAllowed};
 use column::allowed_in;
 
 fn lesser(a: u8, b: u8) -> u8
@@ -23,18 +24,31 @@ fn low_parts(count: u16) -> u8
     if count < 16 { count as u8 } else { 16 }
 }
 
-// The row at what remains of each need without the first four relations of a subset.
-fn low_entries(next: &[u8; 256], low: u8, limit: u16) -> [u8; 256]
-    requires { ⌜ (low < 16) × (limit ≤ 256) ⌝ }
-    ensures { λ r. ⌜ ((x : ℕ) → x < limit → getD r x 0 ≡ lowEntry (now (next .entry)) low x) ⌝ }
+// Whether the column allows one of the subsets whose first four relations are `low`.
+fn allows_low(column: &[u8; 64], low: u8, count: u16) -> bool
+    requires { ⌜ (low < 16) × (count ≤ 256) ⌝ }
+    ensures { λ r. ⌜ (r ≡ false → NoneAllowed (now (column .entry)) low count count) ⌝ }
 {
-    let mut table = [200u8; 256];
+    let mut s = low as u16;
+    while s < count {
+        if allowed_in(column, s as usize) {
+            return true;
+        }
+        s += 16;
+    }
+    false
+}
+
+// Writes the row at what remains of each need without the first four relations of a subset.
+fn low_entries(table: &mut [u8; 256], next: &[u8; 256], low: u8, limit: u16)
+    requires { ⌜ (low < 16) × (limit ≤ 256) × (length (now table) ≡ 256) ⌝ }
+    ensures { λ _. ⌜ Written (lowEntry (now (next .entry)) low) limit (now (table .entry)) (now (table .exit)) ⌝ }
+{
     let mut x = 0u16;
     while x < limit {
         table[x as usize] = next[((x as u8) & !low) as usize];
         x += 1;
     }
-    table
 }
 
 // Sixteen entries are lowered to those of the table and so many members.
@@ -62,24 +76,28 @@ fn lower_row(row: &mut [u8; 256], table: &[u8; 256], high: u8, members: u8, bloc
     }
 }
 
-// The row after all subsets of a column whose first four relations are `low`.
+// The row after all subsets of a column whose first four relations are `low`. The table is for what remains without
+// these, and free afterwards.
 fn try_low(
     row: &mut [u8; 256],
+    table: &mut [u8; 256],
     column: &[u8; 64],
     next: &[u8; 256],
     low: u8,
     blocks: u8,
     count: u16,
 )
-    requires { ⌜ (low < 16) × (blocks ≤ 16) × (count ≤ 256) × Costs (now next) × Reached (now column) (now next) (blocks * 16) count (Before low) (now row) ⌝ }
+    requires { ⌜ (low < 16) × (blocks ≤ 16) × (count ≤ 256) × Costs (now next) × (length (now table) ≡ 256) ⌝ }
+    requires { ⌜ Reached (now column) (now next) (blocks * 16) count (Before low) (now row) ⌝ }
     ensures { λ _. ⌜ Reached (now (column .entry)) (now (next .entry)) (blocks * 16) count (Before (low + 1)) (now (row .exit)) ⌝ }
+    ensures { λ _. ⌜ length (now (table .exit)) ≡ 256 ⌝ }
 {
-    let table = low_entries(next, low, blocks as u16 * 16);
+    low_entries(table, next, low, blocks as u16 * 16);
     let mut s = low as u16;
     while s < count {
         if allowed_in(column, s as usize) {
             let members = u8::count_ones(s as u8) as u8;
-            lower_row(row, &table, (s / 16) as u8, members, blocks);
+            lower_row(row, table, (s / 16) as u8, members, blocks);
             s += 16;
         } else {
             s += 16;
@@ -93,11 +111,16 @@ pub fn cost_row(column: &[u8; 64], next: &[u8; 256], blocks: u8, count: u16) -> 
     ensures { λ r. ⌜ r ≡ costRow (now (column .entry)) (now (next .entry)) (blocks * 16) count ⌝ }
 {
     let mut row = [200u8; 256];
+    let mut table = [0u8; 256];
     let lows = low_parts(count);
     let mut low = 0u8;
     while low < lows {
-        try_low(&mut row, column, next, low, blocks, count);
-        low += 1;
+        if allows_low(column, low, count) {
+            try_low(&mut row, &mut table, column, next, low, blocks, count);
+            low += 1;
+        } else {
+            low += 1;
+        }
     }
     row
 }
