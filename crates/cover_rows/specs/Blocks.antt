@@ -95,6 +95,14 @@ module _ (old table : List ℕ) (to from members : ℕ) where
 unfoldable pub loweredRow : List ℕ → List ℕ → ℕ → ℕ → ℕ → ℕ
 loweredRow row table high members need = min (getD row need 0) (getD table (withoutHigh need high) 0 + members)
 
+-- what is kept of sixteen times a number
+pub block-and : (h k : ℕ) → bitAnd (h * 16) (k * 16) ≡ bitAnd h k * 16
+block-and h k =
+    let left : h * 16 ≡ h * 2 ^ 4 + 0 = omega arith in
+    let right : k * 16 ≡ k * 2 ^ 4 + 0 = omega arith in
+    let whole : bitAnd h k * 2 ^ 4 + bitAnd 0 0 ≡ bitAnd h k * 16 = omega arith in
+    ap₂ bitAnd left right ∙ and-block 4 h k 0 0 (omega arith) (omega arith) ∙ whole
+
 -- one block more
 pub block-more :
     (old table : List ℕ) (high members h : ℕ) (row after : List ℕ)

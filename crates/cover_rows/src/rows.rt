@@ -68,10 +68,11 @@ fn lower_row(row: &mut [u8; 256], table: &[u8; 256], high: u8, members: u8, bloc
     requires { ⌜ (blocks ≤ 16) × (high < 16) × (members ≤ 8) × (length (now row) ≡ 256) × ((x : ℕ) → x < blocks * 16 → getD (now table) x 0 ≤ infinity) ⌝ }
     ensures { λ _. ⌜ Written (loweredRow (now (row .entry)) (now (table .entry)) high members) (blocks * 16) (now (row .entry)) (now (row .exit)) ⌝ }
 {
+    let kept = (15 - high) as usize * 16;
     let mut h = 0u8;
     while h < blocks {
-        let from = (h & (15 - high)) as usize * 16;
-        lower_block(row, h as usize * 16, table, from, members);
+        let to = h as usize * 16;
+        lower_block(row, to, table, to & kept, members);
         h += 1;
     }
 }

@@ -1,15 +1,13 @@
 // The rows of the table of costs, one from the other.
 ghost use mathlib.Core.Path.{_≡_};
-ghost use mathlib.Core.Bool.{true, cond};
+ghost use mathlib.Core.Bool.{true};
 ghost use Prim.Native.Nat.{_+_, _*_, _^_, _≤_};
 ghost use lib.ListN.{length};
 ghost use Rattle.column.specs.Column.{allowedIn};
 ghost use Rattle.set_cover.specs.Shortcuts.{covering};
-ghost use Rattle.cover_rows.specs.Rows.{Costs, costRow};
 ghost use Rattle.verdict_answer.specs.First.{allowedAt};
 ghost use Rattle.verdict_answer.specs.Formed.{Formed};
 ghost use Rattle.verdict_answer.specs.Witness.{costIn};
-ghost use Rattle.cover_table.specs.Alike.{alike};
 ghost use Rattle.cover_table.specs.Table.{IsRow, TableHolds};
 ghost use Rattle.admission.specs.Admission.{formulaSize};
 use crate::alike::same_bytes;
@@ -36,18 +34,8 @@ fn variables_row(column: [u8; 64], blocks: u8, count: u16) -> [u8; 256]
     row
 }
 
-// The row with one special attribute more. A column that allows what column 0 does leaves it as it is.
-fn next_row(first: [u8; 64], column: [u8; 64], row: [u8; 256], blocks: u8, count: u16) -> [u8; 256]
-    requires { ⌜ (blocks ≤ 16) × (count ≤ 256) × Costs row ⌝ }
-    ensures { λ r. ⌜ r ≡ cond (alike 32 first column) row (costRow column row (blocks * 16) count) ⌝ }
-{
-    if same_bytes(&first, &column, 32) {
-        return row;
-    }
-    cost_row(&column, &row, blocks, count)
-}
-
-// The table of a node whose formula stands in the work space, for so many subsets and blocks of sixteen of them.
+// The table of a node whose formula stands in the work space, for so many subsets and blocks of sixteen of them. A column
+// that allows what column 0 does leaves the row as it is.
 fn fill_table(work: &[u8], node: u8, blocks: u8, count: u16, table: &mut [u8])
     requires { ⌜ (node * formulaSize + formulaSize ≤ length (now work)) × (length (now table) ≡ 4096) ⌝ }
     requires { ⌜ (blocks ≤ 16) × (count ≤ blocks * 16) × (allowedAt (now work) node 0 0 ≡ true) ⌝ }
@@ -59,10 +47,15 @@ fn fill_table(work: &[u8], node: u8, blocks: u8, count: u16, table: &mut [u8])
     let mut k = 0u8;
     while k < 15 {
         let column = read_column(work, node, 15 - k);
-        let next = next_row(first, column, row, blocks, count);
-        row = next;
-        k += 1;
-        write_row(table, k, row);
+        if same_bytes(&first, &column, 32) {
+            write_row(table, k + 1, row);
+            k += 1;
+        } else {
+            let next = cost_row(&column, &row, blocks, count);
+            write_row(table, k + 1, next);
+            row = next;
+            k += 1;
+        }
     }
 }
 
