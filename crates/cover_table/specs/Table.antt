@@ -157,7 +157,7 @@ module _ (N : ℕ) (ok : ℕ → Bool) (few : N ≤ 256) where
   unfolding startRow
   start-row = record { size = length-set (replicate 256 infinity) 0 0 ∙ length-replicate 256 infinity; holds = covering-start N ok few; costs = start-costs }
 
-  pub settled-row : (j : ℕ) (column row : List ℕ) (limit : ℕ) → j ≤ 8 → N ≤ limit → limit ≤ 256 → Allows N ok column → IsRow N (covering N ok j) row → alike 256 row (costRow column row limit N) ≡ true → IsRow N (covering N ok 8) row
+  pub settled-row : (j : ℕ) (column row : List ℕ) (limit : ℕ) → j ≤ 8 → N ≤ limit → limit ≤ 256 → Allows N ok column → IsRow N (covering N ok j) row → alike limit row (costRow column row limit N) ≡ true → IsRow N (covering N ok 8) row
   settled-row j column row limit most enough short allows is same =
       record {
         size = is .size;
@@ -168,7 +168,7 @@ module _ (N : ℕ) (ok : ℕ → Bool) (few : N ≤ 256) where
       settled : (need : ℕ) → need < N → covering N ok (suc j) need ≡ covering N ok j need
       settled need h =
           sym (covering-row N ok j column row limit enough short allows (is .holds) need h)
-          ∙ sym (alike-at 256 row (costRow column row limit N) same need (omega arith))
+          ∙ sym (alike-at limit row (costRow column row limit N) same need (omega arith))
           ∙ is .holds need h
 
   pub covering-more : (j : ℕ) (column row : List ℕ) (limit : ℕ) → N ≤ limit → limit ≤ 256 → Allows N ok column → IsRow N (covering N ok j) row → IsRow N (covering N ok (j + 1)) (costRow column row limit N)

@@ -25,7 +25,7 @@ fn variables_row(column: [u8; 64], blocks: u8, count: u16) -> [u8; 256]
     let mut j = 0u8;
     while j < 8 {
         let next = cost_row(&column, &row, blocks, count);
-        if same_bytes(&row, &next, 256) {
+        if same_bytes(&row, &next, blocks as usize * 16) {
             return row;
         }
         row = next;

@@ -1,48 +1,45 @@
 use Prim.Native.Nat.{_-_, _≤_}
-use mathlib.Core.Path.{_≡_, refl, sym, _∙_}
-use mathlib.Core.Bool.{true}
+use mathlib.Core.Path.{_≡_, ap, _∙_}
 use native.Mathlib.Omega.{arith}
-use borrow.Author.Tests.{eq-eqb, ne-eqb}
 use lib.Dec.{eqb}
 use lib.ListN.{getD}
-use Rattle.bits.specs.AllBelow.{allBelow, all-next, not-all}
-use Rattle.cover_table.specs.Alike.{alike-is}
+use Rattle.cover_table.specs.Alike.{alike, alike-none, alike-next, one-at-most}
 use borrow.Author.Needs.{needs}
 use Rattle.cover_table.proofs.alike.same_bytes as fn
 use fn.Statement.{statement}
 use fn.Tie as tie
 
 abbrev Inv : tie.InvT-loop
-Inv a b n i₀ i = (i ≤ n) × (allBelow i (λ j. eqb (getD a j 0) (getD b j 0)) ≡ true)
+Inv a b n differences₀ i₀ differences i = (i ≤ n) × (differences ≤ i) × (eqb differences 0 ≡ alike i a b)
 
 abbrev μ : tie.MeasureT-loop
-μ a b n i₀ i = n - i
+μ a b n differences₀ i₀ differences i = n - i
 
 loop-holds : tie.Need-loop-holds Inv μ
-loop-holds c = (omega arith, refl)
+loop-holds c = (omega arith, omega arith, alike-none _ _)
 
-returns : tie.Need-returns Inv μ
-returns c =
-    let args = c.before.before.before.before.before.args in
-    sym (alike-is args.n args.a.now args.b.now ∙ not-all args.n (λ j. eqb (getD args.a.now j 0) (getD args.b.now j 0)) c.before.before.before.before.loop.i
-    c.before.before.before.loop-test.taken (ne-eqb _ _ c.if1.taken))
+add-differences : tie.Need-add-differences Inv μ
+add-differences c =
+    let args = c .before .before .before .before .before .before .before .args in
+    let loop = c .before .before .before .before .loop in
+    let below = c .before .before .before .loop-test .taken in
+    let few = c .before .before .before .before .before .before .before .pre .0 in
+    let one = one-at-most (eqb (getD args.a.now loop.i 0) (getD args.b.now loop.i 0)) in
+    let is = c .difference .ensures in
+    omega arith
 
 loop-again : tie.Need-loop-again Inv μ
 loop-again c =
-    let args = c.before.before.before.before.before.args in
-    let loop = c.before.before.before.before.loop in
-    let below = c.before.before.before.loop-test.taken in
-    (omega arith, all-next loop.i (λ j. eqb (getD args.a.now j 0) (getD args.b.now j 0)) loop.inv.1 (eq-eqb _ _ c.if1.left))
+    let args = c .before .before .before .before .before .before .before .args in
+    let loop = c .before .before .before .before .loop in
+    let below = c .before .before .before .loop-test .taken in
+    let one = one-at-most (eqb (getD args.a.now loop.i 0) (getD args.b.now loop.i 0)) in
+    let is = c .difference .ensures in
+    (omega arith, omega arith, rw is (alike-next loop.i args.a.now args.b.now loop.differences loop.inv.2))
 
-returns-2 : tie.Need-returns-2 Inv μ
-returns-2 c =
-    let args = c.before.before.args in
-    let most = c.before.loop.inv.0 in
-    let past = c.loop-test.left in
-    let all : c.before.loop.i ≡ args.n = omega arith in
-    sym (alike-is args.n args.a.now args.b.now ∙ rw all at c.before.loop.inv.1)
+returns : tie.Need-returns Inv μ
+returns c = let most = c .before .loop .inv .0 in let past = c .loop-test .left in let all : c .before .loop .i ≡ c .before .before .before .before .args .n = omega arith in rw all at (c .before .loop .inv .2)
 
 pub same-bytes-spec : {M : Type 1} → statement M
 same-bytes-spec =
-    tie.close (tie.spec Inv μ loop-holds (λ c. search needs) (λ c. search needs) returns (λ c. search needs)
-    (λ c. search needs) loop-again returns-2)
+    tie.close (tie.spec Inv μ loop-holds (λ c. search needs) (λ c. search needs) (λ c κs. search needs) add-differences (λ c. search needs) (λ c. search needs) loop-again returns)
