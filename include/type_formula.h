@@ -147,7 +147,7 @@ uint8_t type_formula_formula(const uint8_t *file, size_t file_len, uint8_t *work
  * nothing, or 0 where each allows something and the relations cannot all get an attribute; schema
  * slice and memberships stay. Or answers a refusal, 1 to 13, and everything stays. Unless it refuses,
  * it fills the work space as Formula does.
- * Verdict uses up to about 6 KiB of stack.
+ * Verdict takes up to 6,000 bytes of stack, 4,096 of them for its table of costs.
  */
 uint8_t type_formula_verdict(const uint8_t *file, size_t file_len, size_t node, uint8_t *work, size_t work_len,
                              uint8_t *schema, size_t schema_len, size_t *value, uint8_t *memberships);

@@ -58,7 +58,8 @@ pub enum Verdict<'a> {
 /// list of variables is lower at the first difference.
 ///
 /// Unless it refuses, it fills the work space as [`formula`] does. The schema slice stays beyond
-/// the witness, and whole where there is none. A call uses up to about 6 KiB of stack.
+/// the witness, and whole where there is none. A call takes up to 6,000 bytes of
+/// stack.
 ///
 /// ```
 /// use type_formula::{verdict, Refusal, Verdict, SCHEMA_SIZE, WORK_SIZE};
