@@ -39,8 +39,8 @@ pub fn write_acceptance(acceptance: Acceptance, relations: &mut u8, nodes: &mut 
     }
 }
 
-// 0 with the witness's length and the number of its memberships, 255 with the attribute that is said of an untypable node,
-// or the refusal's number.
+// 0 with the witness's length and the number of its memberships, 255 with the attribute that is said of an untypable
+// node, or the refusal's number.
 pub fn write_outcome(outcome: Outcome, value: &mut usize, memberships: &mut u8) -> u8
     ensures { λ r. ⌜ r ≡ outcomeNumber outcome ⌝ }
     ensures { λ _. ⌜ now (value .exit) ≡ outcomeValue outcome (now (value .entry)) ⌝ }

@@ -1,5 +1,5 @@
--- The work space after Apply (FORMAT 8.6): the formulas, as Formula leaves them, where Apply got as far as reading them;
--- else as it was.
+-- The work space after Apply (FORMAT 8.6): the formulas, as Formula leaves them, where Apply got as far as reading
+-- them; else as it was.
 use Prim.Native.Nat.{ℕ, _≤_}
 use mathlib.Core.Path.{_≡_, refl, sym, ap, ap₂, _∙_}
 use mathlib.Core.Bool.{Bool, true, false, cond, _||_}

@@ -1,9 +1,9 @@
 -- Sums over the numbers below a bound, and how many of them pass a test.
-use Prim.Native.Nat.{ℕ, zero, suc, _+_, _/_, _%_, _^_, _≤_, _<_}
+use Prim.Native.Nat.{ℕ, zero, suc, _+_, _*_, _/_, _%_, _^_, _≤_, _<_}
 use mathlib.Core.Path.{_≡_, refl, sym, ap, ap₂, _∙_}
 use mathlib.Core.Bool.{Bool, true, false, cond}
 use mathlib.Core.Logic.{_⊎_, inl, inr, ⊎-elim}
-use native.Mathlib.Nat.{add-assoc, add-zero, eq-or-lt-of-le, le-of-suc-le-suc, mod-lt, pow-suc}
+use native.Mathlib.Nat.{add-assoc, add-zero, zero-mul, suc-mul, eq-or-lt-of-le, le-of-suc-le-suc, mod-lt, pow-suc}
 use native.Mathlib.Numerals.{add-one}
 use native.Mathlib.Decide.{decLt}
 use native.Mathlib.Omega.{arith}
@@ -58,6 +58,12 @@ pub total-both : (n : ℕ) (f g : ℕ → ℕ) → total n (λ i. f i + g i) ≡
 unfolding total
 total-both zero f g = refl
 total-both (suc n) f g = let rest = total-both n f g in omega arith
+
+-- one number, so many times
+pub total-each : (n c : ℕ) → total n (λ i. c) ≡ n * c
+unfolding total
+total-each zero c = sym (zero-mul c)
+total-each (suc n) c = ap (λ (x : ℕ). x + c) (total-each n c) ∙ sym (suc-mul n c)
 
 pub total-zero : (n : ℕ) → total n (λ i. 0) ≡ 0
 unfolding total

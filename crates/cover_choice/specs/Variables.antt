@@ -25,7 +25,7 @@ use Rattle.set_cover.specs.Cheapest.{variable-picked, takes}
 use Rattle.cover_rows.specs.Rows.{priceIn}
 use Rattle.cover_rows.specs.Holding.{Holds, Allows, pick-variable}
 use Rattle.verdict_answer.specs.Witness.{choiceIn, numbered, ordinariesOf}
-use Rattle.verdict_answer.specs.WitnessLaws.{numbered-length}
+use Rattle.verdict_answer.specs.WitnessLaws.{numbered-length, ordinaries-are}
 
 -- n of them are chosen; `all` are the relations that needed an attribute before, `need` those that need one yet
 pub record Numbering (N : ℕ) (allowed : ℕ → ℕ → Bool) (all n : ℕ) (items : List ℕ) (need : ℕ) : Type 0 where
@@ -154,5 +154,4 @@ pub chosen-entries :
     → drop 15 (choiceIn m allowed) ≡ bestVariables (2 ^ m) allowed need need
     → entries ≡ numbered 16 (bestVariables (2 ^ m) allowed need need)
     → entries ≡ ordinariesOf (choiceIn m allowed)
-unfolding ordinariesOf
-chosen-entries m need allowed entries rests are = are ∙ ap (numbered 16) (sym rests)
+chosen-entries m need allowed entries rests are = are ∙ ap (numbered 16) (sym rests) ∙ sym (ordinaries-are (choiceIn m allowed))

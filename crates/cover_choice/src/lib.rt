@@ -1,5 +1,5 @@
-// The choice that Verdict takes, off the table of costs (FORMAT 7.26): the subsets of the special attributes, and then the
-// variables with their ordinary attributes.
+// The choice that Verdict takes, off the table of costs (FORMAT 7.26): the subsets of the special attributes, and then
+// the variables with their ordinary attributes.
 ghost use mathlib.Core.Path.{_≡_};
 ghost use Prim.Native.Nat.{_+_, _-_, _*_, _≤_, _<_};
 ghost use lib.ListN.{length, take, replicate};
@@ -38,8 +38,8 @@ pub fn choose_specials(work: &[u8], node: u8, count: u16, table: &[u8], subsets:
     need
 }
 
-// Writes an entry for each variable, from attribute 16 on: while a relation needs an attribute, the lowest that costs no
-// more than it must. Gives the number of the entries.
+// Writes an entry for each variable, from attribute 16 on: while a relation needs an attribute, the lowest that costs
+// no more than it must. Gives the number of the entries.
 pub fn choose_variables(
     work: &[u8],
     node: u8,

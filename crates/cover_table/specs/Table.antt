@@ -17,7 +17,7 @@ use Rattle.set_cover.specs.Least.{infinity}
 use Rattle.set_cover.specs.Cost.{cost}
 use Rattle.set_cover.specs.Shortcuts.{covering, covering-is, covering-settled, skip-cost}
 use Rattle.cover_rows.specs.Rows.{Costs, costRow, row-length, row-costs}
-use Rattle.cover_rows.specs.Holding.{Holds, Allows, rows-hold, startRow, start-costs, covering-start, covering-row}
+use Rattle.cover_rows.specs.Holding.{Holds, Allows, rows-hold, startRow, start-row as start-is, start-costs, covering-start, covering-row}
 use Rattle.verdict_answer.specs.Witness.{costIn}
 use Rattle.cover_table.specs.Alike.{alike, alike-at, alike-allowed}
 
@@ -154,8 +154,9 @@ module _ (first column row : List ℕ) (limit N : ℕ) where
 module _ (N : ℕ) (ok : ℕ → Bool) (few : N ≤ 256) where
   -- it begins with none: 0 for the empty set, and else infinity
   pub start-row : IsRow N (covering N ok 0) (set (replicate 256 infinity) 0 0)
-  unfolding startRow
-  start-row = record { size = length-set (replicate 256 infinity) 0 0 ∙ length-replicate 256 infinity; holds = covering-start N ok few; costs = start-costs }
+  start-row =
+      rw (← start-is)
+      (record { size = ap length start-is ∙ length-set (replicate 256 infinity) 0 0 ∙ length-replicate 256 infinity; holds = covering-start N ok few; costs = start-costs })
 
   pub settled-row : (j : ℕ) (column row : List ℕ) (limit : ℕ) → j ≤ 8 → N ≤ limit → limit ≤ 256 → Allows N ok column → IsRow N (covering N ok j) row → alike limit row (costRow column row limit N) ≡ true → IsRow N (covering N ok 8) row
   settled-row j column row limit most enough short allows is same =

@@ -13,7 +13,8 @@ fn difference(a: u8, b: u8) -> u16
     if a == b { 0 } else { 1 }
 }
 
-// Whether the first n bytes are the same. All are looked at, without a branch, so that the compiler takes many at a time.
+// Whether the first n bytes are the same. All are looked at, without a branch, so that the compiler takes many at a
+// time.
 pub fn same_bytes(a: &[u8], b: &[u8], n: usize) -> bool
     requires { ⌜ (n ≤ 256) × (n ≤ length (now a)) × (n ≤ length (now b)) ⌝ }
     ensures { λ r. ⌜ r ≡ alike n (now (a .entry)) (now (b .entry)) ⌝ }

@@ -34,8 +34,8 @@ fn variables_row(column: [u8; 64], blocks: u8, count: u16) -> [u8; 256]
     row
 }
 
-// The table of a node whose formula stands in the work space, for so many subsets and blocks of sixteen of them. A column
-// that allows what column 0 does leaves the row as it is.
+// The table of a node whose formula stands in the work space, for so many subsets and blocks of sixteen of them. A
+// column that allows what column 0 does leaves the row as it is.
 fn fill_table(work: &[u8], node: u8, blocks: u8, count: u16, table: &mut [u8])
     requires { ⌜ (node * formulaSize + formulaSize ≤ length (now work)) × (length (now table) ≡ 4096) ⌝ }
     requires { ⌜ (blocks ≤ 16) × (count ≤ blocks * 16) × (allowedAt (now work) node 0 0 ≡ true) ⌝ }

@@ -1,5 +1,5 @@
--- The starred examples (FORMAT 10.1 to 10.10), an instantiation (FORMAT 10.11), and one in which two schemas have the fewest
--- memberships (FORMAT 10.13); and queries that are refused (FORMAT 10.14).
+-- The starred examples (FORMAT 10.1 to 10.10), an instantiation (FORMAT 10.11), and one in which two schemas have the
+-- fewest memberships (FORMAT 10.13); and queries that are refused (FORMAT 10.14).
 use Prim.Native.Nat.{ℕ, zero, suc}
 use mathlib.Core.List.{List, [], _∷_}
 use Rattle.refusal.specs.declared.Refusal.{Refusal}
@@ -71,8 +71,8 @@ abbrev pub zeros : ℕ → List ℕ → List ℕ
 zeros zero bytes = bytes
 zeros (suc n) bytes = 0 ∷ zeros n bytes
 
--- FORMAT 10.1 to 10.4, 10.11: E1, σ{2,3}((ρ1/2(r0) ∪ r1) ⋈ r2), with Verdict's witness; a schema with an empty record; E3 and
--- E4, schemas with attribute 20; an instantiation that leaves r2 empty, and that of E3
+-- FORMAT 10.1 to 10.4, 10.11: E1, σ{2,3}((ρ1/2(r0) ∪ r1) ⋈ r2), with Verdict's witness; a schema with an empty record;
+-- E3 and E4, schemas with attribute 20; an instantiation that leaves r2 empty, and that of E3
 abbrev pub e1 : Case
 e1 =
     record {
@@ -137,7 +137,8 @@ e6 =
       applications = [];
     }
 
--- FORMAT 10.7: r0 × r0, in which every column allows 00 alone, so that r0 cannot have an attribute: untypable with attribute 0
+-- FORMAT 10.7: r0 × r0, in which every column allows 00 alone, so that r0 cannot have an attribute: untypable with
+-- attribute 0
 abbrev pub e7 : Case
 e7 =
     record {
@@ -199,8 +200,8 @@ e9 =
       applications = [];
     }
 
--- FORMAT 10.10: σ{1}(r0 ⋈ r1) ⋈ ((r0 × r2) − r3), with five variables, all in the output; the witness has attribute 1 in r1 and the
--- ordinary attributes 16 in r0 and r3, 17 in r2 and r3
+-- FORMAT 10.10: σ{1}(r0 ⋈ r1) ⋈ ((r0 × r2) − r3), with five variables, all in the output; the witness has attribute 1
+-- in r1 and the ordinary attributes 16 in r0 and r3, 17 in r2 and r3
 abbrev pub e10 : Case
 e10 =
     record {
@@ -222,8 +223,9 @@ e10 =
       applications = [];
     }
 
--- FORMAT 10.13: σ{1}(((r0 ∪ r1) ⋈ r2) ⋈ r3): by the subsets 03, 04 and 08 each relation has one attribute, whichever of them is that of
--- attribute 1; the witness takes 03 for it, which is the lowest, and then the variables 04 and 08, which come before 0c alone
+-- FORMAT 10.13: σ{1}(((r0 ∪ r1) ⋈ r2) ⋈ r3): by the subsets 03, 04 and 08 each relation has one attribute, whichever of
+-- them is that of attribute 1; the witness takes 03 for it, which is the lowest, and then the variables 04 and 08,
+-- which come before 0c alone
 abbrev pub tie : Case
 tie =
     record {

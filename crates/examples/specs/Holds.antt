@@ -97,8 +97,8 @@ abbrev pub AllHold : ℕ → Expression → List Column → Type 0
 AllHold m e [] = Unit
 AllHold m e (c ∷ cs) = ColumnHolds m e c × AllHold m e cs
 
--- what Verdict does on the last node, in slices that are long enough: the answer, with the length of the witness and its
--- memberships or with the attribute, and the schema slice with the witness or as it was
+-- what Verdict does on the last node, in slices that are long enough: the answer, with the length of the witness and
+-- its memberships or with the attribute, and the schema slice with the witness or as it was
 pub record VerdictHolds (x : Case) (work schema : List ℕ) : Type 0 where
   pub answer : verdictAnswer (x .file) (x .nodes - 1) (length work) (length schema) ≡ outcome (ltb (x .untypable) 16) (x .untypable) (x .witness) (x .memberships)
   pub slice : verdictSchema (x .file) (x .nodes - 1) (length work) schema ≡ cond (ltb (x .untypable) 16) schema (over (x .witness) schema)
@@ -243,7 +243,8 @@ typingsPass : ℕ → Expression → List Typing → Bool
 typingsPass m e [] = true
 typingsPass m e (y ∷ ys) = schemaPasses (filledReading m (y .schema) .judgement) (filledReading m (y .schema) .special) (filledReading m (y .schema) .entries) e (y .result) && typingsPass m e ys
 
--- the instantiation fits: by whether its image leaves no relation empty, schema and output are as the case says, or it has 26
+-- the instantiation fits: by whether its image leaves no relation empty, schema and output are as the case says, or it
+-- has 26
 imagePasses : Bool → ApplyResult → List ℕ → List ℕ → Bool
 imagePasses true (appliedAs schema output) s o = same s schema && same o output
 imagePasses true leftEmpty s o = false

@@ -1,5 +1,6 @@
--- E7 (FORMAT 10.7) and E8 (FORMAT 10.8) for every schema. The rules give E7 no type under a filled assignment, and Typing answers
--- untyped under every schema that is not refused; they give E8 the empty type under every assignment, and Typing answers so.
+-- E7 (FORMAT 10.7) and E8 (FORMAT 10.8) for every schema. The rules give E7 no type under a filled assignment, and
+-- Typing answers untyped under every schema that is not refused; they give E8 the empty type under every assignment,
+-- and Typing answers so.
 use Prim.Native.Nat.{ℕ, _≤_}
 use mathlib.Core.Path.{_≡_, refl, sym, ap, ap₂, fun-ext, _∙_}
 use mathlib.Core.Bool.{Bool, true, false, not, _&&_, and-false, false≢true}

@@ -24,7 +24,8 @@ use Rattle.listing_entries.specs.Naming.{namedBelow}
 abbrev pub isSaid : ℕ → Bool
 isSaid attribute = ltb attribute 16
 
--- untypable, by what the columns of a node allow: a special column allows nothing, or the relations cannot all be filled
+-- untypable, by what the columns of a node allow: a special column allows nothing, or the relations cannot all be
+-- filled
 abbrev pub untypableBy : ℕ → (ℕ → ℕ → Bool) → Bool
 untypableBy m allowed = isSaid (untypableIn m allowed)
 

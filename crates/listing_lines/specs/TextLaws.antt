@@ -1,4 +1,5 @@
--- Laws of the text: of a file that is accepted or refused, the part of a file that it depends on, and the line of a node.
+-- Laws of the text: of a file that is accepted or refused, the part of a file that it depends on, and the line of a
+-- node.
 use Prim.Native.Nat.{ℕ, _+_, _-_, _≤_, _<_}
 use mathlib.Core.Path.{_≡_, refl, sym, ap, _∙_}
 use mathlib.Core.Logic.{_↔_}

@@ -9,14 +9,12 @@ use native.Mathlib.Omega.{arith}
 use borrow.Author.Tests.{lt-ltb, le-ltb, le-leb, lt-leb}
 use lib.Dec.{leb}
 use lib.ListN.{getD, drop}
-use Rattle.bits.specs.Total.{total, total-most}
-use Rattle.types.specs.Memberships.{members, members-most}
 use Rattle.set_cover.specs.Least.{infinity}
 use Rattle.set_cover.specs.Choice.{uncovered}
 use Rattle.set_cover.specs.FirstCover.{firsts}
 use Rattle.verdict_answer.specs.First.{firstIn, blockedIn, chosenBy, subsetsBy}
 use Rattle.verdict_answer.specs.FirstLaws.{subsets-blocked, subsets-chosen}
-use Rattle.verdict_answer.specs.FirstChoice.{membershipsOf, memberships-of, chosen-firsts, covers-cost}
+use Rattle.verdict_answer.specs.FirstChoice.{membershipsOf, memberships-few, chosen-firsts, covers-cost}
 use Rattle.verdict_answer.specs.Formed.{Formed}
 use Rattle.verdict_answer.specs.Witness.{costIn}
 use Rattle.verdict_answer.specs.Verdict.{untypableIn}
@@ -26,11 +24,7 @@ use Rattle.listing_lines.specs.Text.{untypableBy}
 
 -- 16 subsets have fewer memberships than `infinity`
 few-memberships : (subsets : List ℕ) → membershipsOf subsets < infinity
-unfolding total
-few-memberships subsets =
-    let is = memberships-of subsets in
-    let most = total-most 16 (λ i. members (getD subsets i 0)) (λ i. 8) (λ i h. members-most (getD subsets i 0)) in
-    omega arith
+few-memberships subsets = let most = memberships-few subsets in omega arith
 
 module _ (m : ℕ) (allowed : ℕ → ℕ → Bool) where
   -- each column allows something: by whether the relations cannot all be filled

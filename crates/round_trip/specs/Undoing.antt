@@ -84,8 +84,8 @@ recover-table file k schema work out m n ts below r =
 
 -- ---- Apply on an instantiation with these lists
 
--- nothing is refused: node k of an accepted file, an instantiation with these lists whose table fits the node and leaves
--- no relation empty, and slices that are long enough
+-- nothing is refused: node k of an accepted file, an instantiation with these lists whose table fits the node and
+-- leaves no relation empty, and slices that are long enough
 pub record Applies (file : List ℕ) (k : ℕ) (bytes : List ℕ) (space size outSize m n : ℕ) (ls : List (List ℕ)) : Type 0 where
   pub goes : sliced (sliced (admitted file k space) size schemaSize) outSize outputSize ≡ Accepted m n
   pub read : ReadInstantiation bytes (instantiationReading bytes) ls

@@ -48,6 +48,28 @@ lastSubsets m A n (suc k) = holders m A (15 - k) ∷ lastSubsets m A n k
 unfoldable pub subsetList : ℕ → Assignment → ℕ → List ℕ
 subsetList m A bound = lastSubsets m A (bound - 16) 15
 
+-- list by list, from its front
+module _ (m : ℕ) (A : Assignment) where
+  pub ordinary-none : (a : ℕ) → ordinarySubsets m A 0 a ≡ []
+  unfolding ordinarySubsets
+  ordinary-none a = refl
+
+  pub ordinary-more : (n a : ℕ) → ordinarySubsets m A (suc n) a ≡ unlessEmpty (holders m A a) (ordinarySubsets m A n (a + 1))
+  unfolding ordinarySubsets
+  ordinary-more n a = refl
+
+  pub last-ordinary : (n : ℕ) → lastSubsets m A n 0 ≡ ordinarySubsets m A n 16
+  unfolding lastSubsets
+  last-ordinary n = refl
+
+  pub last-more : (n k : ℕ) → lastSubsets m A n (suc k) ≡ holders m A (15 - k) ∷ lastSubsets m A n k
+  unfolding lastSubsets
+  last-more n k = refl
+
+  pub list-last : (bound : ℕ) → subsetList m A bound ≡ lastSubsets m A (bound - 16) 15
+  unfolding subsetList
+  list-last bound = refl
+
 -- each attribute is allowed as the relations have it
 pub record Allowed (m : ℕ) (allowed : ℕ → ℕ → Bool) (A : Assignment) : Type 0 where
   pub special : (i : ℕ) → 1 ≤ i → i ≤ 15 → allowed i (holders m A i) ≡ true

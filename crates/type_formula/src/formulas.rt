@@ -17,9 +17,10 @@ pub extern "C" fn type_formula_formula(file: &[u8], work: &mut [u8]) -> u8
     acceptance_number(formula::formula(file, work))
 }
 
-// Verdict (FORMAT 7.7): 0 with the number of bytes written to the schema slice and that of their memberships; or 255 with
-// the lowest special attribute whose column allows nothing, or with 0 where each allows something but the relations cannot
-// all be filled; or the number of the first refusal of 1 to 13. A number that the answer does not have stays as it was.
+// Verdict (FORMAT 7.7): 0 with the number of bytes written to the schema slice and that of their memberships; or 255
+// with the lowest special attribute whose column allows nothing, or with 0 where each allows something but the
+// relations cannot all be filled; or the number of the first refusal of 1 to 13. A number that the answer does not have
+// stays as it was.
 #[no_mangle]
 pub extern "C" fn type_formula_verdict(
     file: &[u8],

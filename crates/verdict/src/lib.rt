@@ -43,8 +43,8 @@ fn stored_verdict(work: &[u8], m: u8, node: u8, schema: &mut [u8]) -> Outcome
     searched_verdict(work, m, node, schema)
 }
 
-// Verdict (FORMAT 7.7): refusals 1 to 13 (FORMAT 8.5). The witness has the fewest memberships, and their number comes with
-// it.
+// Verdict (FORMAT 7.7): refusals 1 to 13 (FORMAT 8.5). The witness has the fewest memberships, and their number comes
+// with it.
 pub fn verdict(file: &[u8], node: usize, work: &mut [u8], schema: &mut [u8]) -> Outcome
     ensures { λ r. ⌜ r ≡ verdictAnswer (now (file .entry)) node (length (now (work .entry))) (length (now (schema .entry))) ⌝ }
     ensures { λ _. ⌜ now (work .exit) ≡ verdictSpace (now (file .entry)) node (now (work .entry)) (length (now (schema .entry))) ⌝ }

@@ -9,7 +9,7 @@ use lib.ListN.{length, getD, take, drop, length-take, drop-of-length-le}
 use lib.Seq.{take-all, ext-getD}
 use lib.Pow.{pow-mono, pow-pos, ones-lt}
 use borrow.Author.Tests.{eqb-false}
-use Rattle.bits.specs.Total.{total, total-front, total-most}
+use Rattle.bits.specs.Total.{total, total-front, total-most, total-each}
 use Rattle.types.specs.Memberships.{members, members-none, members-most}
 use Rattle.set_cover.specs.Least.{infinity}
 use Rattle.set_cover.specs.Cost.{cost}
@@ -31,8 +31,10 @@ memberships-of subsets = refl
 
 -- at most 8 for each
 pub memberships-few : (subsets : List ℕ) → membershipsOf subsets ≤ 128
-unfolding total
-memberships-few subsets = rw (memberships-of subsets) (total-most 16 (λ i. members (getD subsets i 0)) (λ i. 8) (λ i h. members-most (getD subsets i 0)))
+memberships-few subsets =
+    let most = total-most 16 (λ i. members (getD subsets i 0)) (λ i. 8) (λ i h. members-most (getD subsets i 0)) in
+    let all = total-each 16 8 in
+    rw (memberships-of subsets) (omega arith)
 
 -- of 15 special attributes
 pub memberships-weight : (xs : List ℕ) → length xs ≡ 15 → membershipsOf (0 ∷ xs) ≡ weight xs

@@ -1,4 +1,5 @@
--- Laws of the first subsets: their search, and that a work space says the same as the expression whose columns it holds.
+-- Laws of the first subsets: their search, and that a work space says the same as the expression whose columns it
+-- holds.
 use Prim.Native.Nat.{ℕ, zero, suc, _+_, _-_, _≤_, _<_}
 use mathlib.Core.Path.{_≡_, refl, sym, ap, ap₂, _∙_}
 use mathlib.Core.Bool.{Bool, cond, _&&_}

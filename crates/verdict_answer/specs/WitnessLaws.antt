@@ -90,6 +90,11 @@ pub specials-at : (choice : List ℕ) (i : ℕ) → i < 15 → getD (specialsOf 
 unfolding specialsOf
 specials-at choice i h = getD-take 15 choice i 0 h
 
+-- the entries, by the variables
+pub ordinaries-are : (choice : List ℕ) → ordinariesOf choice ≡ numbered 16 (drop 15 choice)
+unfolding ordinariesOf
+ordinaries-are choice = refl
+
 module _ (m : ℕ) (few : m ≤ 8) (choice : List ℕ) (is : IsChoice m choice) where
   specials-below : (i : ℕ) → i < 16 → getD (specialsOf choice) i 0 < 2 ^ m
   specials-below zero h = rw (specials-none choice) (pow-pos m)

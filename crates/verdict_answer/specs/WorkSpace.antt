@@ -1,4 +1,5 @@
--- The work space after Verdict, whatever it answers (FORMAT 8.6): the formulas, as Formula leaves them, unless it refuses.
+-- The work space after Verdict, whatever it answers (FORMAT 8.6): the formulas, as Formula leaves them, unless it
+-- refuses.
 use Prim.Native.Nat.{ℕ}
 use mathlib.Core.Path.{_≡_, refl, sym, ap, _∙_}
 use mathlib.Core.Bool.{Bool, true, false, cond}

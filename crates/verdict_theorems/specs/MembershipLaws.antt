@@ -1,5 +1,5 @@
--- The memberships of the witness, and that no filled assignment which types the expression has fewer; of those with as few
--- the witness is the lowest, and its ordinary attributes are numbered in turn.
+-- The memberships of the witness, and that no filled assignment which types the expression has fewer; of those with as
+-- few the witness is the lowest, and its ordinary attributes are numbered in turn.
 use Prim.Native.Nat.{ℕ, zero, suc, _+_, _-_, _^_, _≤_, _<_}
 use mathlib.Core.Path.{_≡_, refl, sym, ap, ap₂, _∙_}
 use mathlib.Core.Bool.{Bool, true, false}
@@ -23,7 +23,7 @@ use Rattle.schema.specs.Schema.{assignmentOf}
 use Rattle.set_cover.specs.Choice.{weight, weight-total, NotAbove}
 use Rattle.set_cover.specs.Cheapest.{best-right}
 use Rattle.set_cover.specs.BestLaws.{best-rises}
-use Rattle.set_cover.specs.Assignments.{unlessEmpty, ordinarySubsets, lastSubsets, subsetList, schema-fewest, schema-lowest}
+use Rattle.set_cover.specs.Assignments.{unlessEmpty, ordinarySubsets, lastSubsets, subsetList, ordinary-none, ordinary-more, last-ordinary, last-more, list-last, schema-fewest, schema-lowest}
 use Rattle.verdict_answer.specs.Witness.{costIn, choiceIn, witnessRecords}
 use Rattle.verdict_answer.specs.WitnessLaws.{Variables, IsChoice}
 use Rattle.verdict_answer.specs.Verdict.{untypableIn}
@@ -90,9 +90,10 @@ module _ (m : ℕ) (few : m ≤ 8) (e : Expression) (legal : Legal m e) (said : 
   from-entry i h = drop-cons choice i 0 h
 
   ordinary-subsets : (n i : ℕ) → 15 ≤ i → length (choiceIn m (allowedBit m e)) ≤ i + n → ordinarySubsets m (assignmentOf (witnessRecords m (choiceIn m (allowedBit m e)))) n (suc i) ≡ drop i (choiceIn m (allowedBit m e))
-  unfolding ordinarySubsets
-  ordinary-subsets zero i from enough = sym (drop-of-length-le choice {i = i} (omega arith))
-  ordinary-subsets (suc n) i from enough = go (decLt i (length choice)) (ap (ordinarySubsets m (assignmentOf (witnessRecords m choice)) n) (add-one (suc i)) ∙ ordinary-subsets n (suc i) (omega arith) (omega arith))
+  ordinary-subsets zero i from enough = ordinary-none m (assignmentOf (witnessRecords m choice)) (suc i) ∙ sym (drop-of-length-le choice {i = i} (omega arith))
+  ordinary-subsets (suc n) i from enough =
+      ordinary-more m (assignmentOf (witnessRecords m choice)) n (suc i)
+      ∙ go (decLt i (length choice)) (ap (ordinarySubsets m (assignmentOf (witnessRecords m choice)) n) (add-one (suc i)) ∙ ordinary-subsets n (suc i) (omega arith) (omega arith))
     where
       go :
           Dec (i < length choice)
@@ -105,13 +106,13 @@ module _ (m : ℕ) (few : m ≤ 8) (e : Expression) (legal : Legal m e) (said : 
           ∙ sym (drop-of-length-le choice {i = i} (omega arith))
 
   last-subsets : (n k : ℕ) → k ≤ 15 → length (choiceIn m (allowedBit m e)) ≤ 15 + n → lastSubsets m (assignmentOf (witnessRecords m (choiceIn m (allowedBit m e)))) n k ≡ drop (15 - k) (choiceIn m (allowedBit m e))
-  unfolding lastSubsets
-  last-subsets n zero most enough = ordinary-subsets n 15 (omega arith) enough
+  last-subsets n zero most enough = last-ordinary m (assignmentOf (witnessRecords m choice)) n ∙ ordinary-subsets n 15 (omega arith) enough
   last-subsets n (suc k) most enough =
       let size = long in
       let attribute : 15 - k ≡ suc (14 - k) = omega arith in
       let place : 14 - k ≡ 15 - suc k = omega arith in
-      ap₂ _∷_ (ap held attribute ∙ witness-holders m few e legal said (14 - k)) (last-subsets n k (omega arith) enough ∙ ap (λ (i : ℕ). drop i choice) attribute)
+      last-more m (assignmentOf (witnessRecords m choice)) n k
+      ∙ ap₂ _∷_ (ap held attribute ∙ witness-holders m few e legal said (14 - k)) (last-subsets n k (omega arith) enough ∙ ap (λ (i : ℕ). drop i choice) attribute)
       ∙ sym (from-entry (14 - k) (omega arith))
       ∙ ap (λ (i : ℕ). drop i choice) place
 
@@ -131,12 +132,17 @@ module _ (m : ℕ) (few : m ≤ 8) (e : Expression) (legal : Legal m e) (said : 
       (bound : ℕ)
       → Within m (assignmentOf (witnessRecords m (choiceIn m (allowedBit m e)))) bound
       → subsetList m (assignmentOf (witnessRecords m (choiceIn m (allowedBit m e)))) bound ≡ choiceIn m (allowedBit m e)
-  unfolding subsetList
-  witness-subsets bound within = last-subsets (bound - 16) 15 (omega arith) (bound-enough bound within)
+  witness-subsets bound within = list-last m (assignmentOf (witnessRecords m choice)) bound ∙ last-subsets (bound - 16) 15 (omega arith) (bound-enough bound within)
 
   -- ---- its ordinary attributes: 16 and on without a gap, their subsets rising
 
-  pub witness-numbered : (a b : ℕ) → 16 ≤ a → a < b → 1 ≤ holders m (assignmentOf (witnessRecords m (choiceIn m (allowedBit m e)))) b → (1 ≤ holders m (assignmentOf (witnessRecords m (choiceIn m (allowedBit m e)))) a) × (holders m (assignmentOf (witnessRecords m (choiceIn m (allowedBit m e)))) a < holders m (assignmentOf (witnessRecords m (choiceIn m (allowedBit m e)))) b)
+  pub witness-numbered :
+      (a b : ℕ)
+      → 16 ≤ a
+      → a < b
+      → 1 ≤ holders m (assignmentOf (witnessRecords m (choiceIn m (allowedBit m e)))) b
+      → (1 ≤ holders m (assignmentOf (witnessRecords m (choiceIn m (allowedBit m e)))) a)
+      × (holders m (assignmentOf (witnessRecords m (choiceIn m (allowedBit m e)))) a < holders m (assignmentOf (witnessRecords m (choiceIn m (allowedBit m e)))) b)
   witness-numbered a b from less some = go (decLt (b - 1) (length choice))
     where
       at : (a : ℕ) → 16 ≤ a → held a ≡ getD (drop 15 choice) (a - 16) 0

@@ -167,7 +167,8 @@ module _ (file : List ℕ) (m n : ℕ) (accepted : acceptance file ≡ Accepted 
     abbrev pub witnessPart : List ℕ
     witnessPart = take size (verdictSchema file k (length work) schema)
 
-    -- the witness: it is read as a schema without a refusal, every relation has an attribute, and the rules type the node
+    -- the witness: it is read as a schema without a refusal, every relation has an attribute, and the rules type the
+    -- node
     pub verdict-witness : Witness m (expressionAt file k) witnessPart
     verdict-witness = let found = said-typable work schema size count said in rw (found .bytes) (witness-typed m few (expressionAt file k) legal (found .free))
 
@@ -195,8 +196,8 @@ module _ (file : List ℕ) (m n : ℕ) (accepted : acceptance file ≡ Accepted 
           let found = said-typable work schema size count said in
           rw records-are (witness-numbered m few (expressionAt file k) legal (found .free))
 
-      -- of the filled assignments that type the node with as many memberships none is below it: in the subset of the first
-      -- special attribute in which they differ, or else in the first subset of the ordinary attributes
+      -- of the filled assignments that type the node with as many memberships none is below it: in the subset of the
+      -- first special attribute in which they differ, or else in the first subset of the ordinary attributes
       pub verdict-lowest :
           (own : ℕ)
           → Within m (assignmentOf (w .records)) own

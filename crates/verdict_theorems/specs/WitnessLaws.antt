@@ -1,5 +1,5 @@
--- Verdict is right about types, for an expression of m relations: it is untypable exactly where no filled assignment types
--- it, and the witness is a filled schema that types it.
+-- Verdict is right about types, for an expression of m relations: it is untypable exactly where no filled assignment
+-- types it, and the witness is a filled schema that types it.
 use Prim.Native.Nat.{ℕ, zero, suc, _+_, _-_, _^_, _≤_, _<_}
 use mathlib.Core.Path.{_≡_, refl, sym, ap, ap₂, _∙_}
 use mathlib.Core.Logic.{_↔_, _⊎_, inl, inr, ∥∥₁-elim}
@@ -61,8 +61,8 @@ use Rattle.verdict_answer.specs.WitnessLaws.{Variables, IsChoice, witness-bytes
 use Rattle.verdict_answer.specs.Verdict.{untypableIn}
 use Rattle.verdict_answer.specs.VerdictLaws.{untypable-blocked, untypable-unfilled, untypable-none, typable-parts}
 
--- these bytes are read as a schema of m relations without a refusal, every relation has an attribute, and the rules derive
--- a type of e under the assignment that it means
+-- these bytes are read as a schema of m relations without a refusal, every relation has an attribute, and the rules
+-- derive a type of e under the assignment that it means
 pub record Witness (m : ℕ) (e : Expression) (bytes : List ℕ) : Type 0 where
   pub below : Bytes bytes
   pub records : List TypeRecord

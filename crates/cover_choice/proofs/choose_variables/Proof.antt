@@ -24,52 +24,55 @@ ne-zero : (n : ℕ) → (n ≡ 0 → ⊥) → 1 ≤ n
 ne-zero n other = ⊎-elim (λ e. absurd (other e)) (λ h. h) (eq-zero-or-pos n)
 
 read-row-requires : tie.Need-read-row-requires Inv μ
-read-row-requires c κs = let size = c .before .before .before .before .pre .1 .0 .2 .size in omega arith
+read-row-requires c κs = let size = c.before.before.before.before.pre.1.0.2.size in omega arith
 
 loop-holds : tie.Need-loop-holds Inv μ
-loop-holds c = let pre = c .before .before .before .before .before .pre in numbering-first _ _ pre.1.0.1 _ _ pre.0.1 pre.1.0.0 pre.1.1
+loop-holds c = let pre = c.before.before.before.before.before.pre in numbering-first _ _ pre.1.0.1 _ _ pre.0.1 pre.1.0.0 pre.1.1
 
 array-read-target : tie.Need-array-read-target Inv μ
-array-read-target c = let few = c .before .before .before .before .before .before .before .pre .1 .0 .1 in let below = c .before .loop .inv .below in omega arith
+array-read-target c = let few = c.before.before.before.before.before.before.before.pre.1.0.1 in let below = c.before.loop.inv.below in omega arith
 
 pick-requires : tie.Need-pick-requires Inv μ
-pick-requires c κs = let below = c .before .before .before .before .before .before .before .before .before .pre .1 .0 .0 in (omega arith, c .before .before .before .before .before .before .before .before .before .pre .1 .0 .1, rw (c .before .before .before .before .read-row .ensures) (c .before .before .before .before .before .before .before .before .before .pre .1 .0 .2 .rows 0 (omega arith) .costs))
+pick-requires c κs =
+    let pre = c.before.before.before.before.before.before.before.before.before.pre in
+    let below = pre.1.0.0 in
+    (omega arith, pre.1.0.1, rw c.before.before.before.before.read-row.ensures (pre.1.0.2 .rows 0 (omega arith) .costs))
 
 cast-v : tie.Need-cast-v Inv μ
 cast-v c =
-    let pre = c .before .before .before .before .before .before .before .before .before .before .pre in
-    let loop = c .before .before .before .before .loop in
+    let pre = c.before.before.before.before.before.before.before.before.before.before.pre in
+    let loop = c.before.before.before.before.loop in
     let few = pre.1.0.1 in
-    let holds = rw (sym (c .before .before .before .before .before .read-row .ensures)) at (pre.1.0.2 .rows 0 (omega arith) .holds) in
-    let small = variable-below _ _ few _ loop.n loop.items loop.need loop.inv (c .before .before .before .loop-test .taken) _ _ _ _ (λ s h. ap (λ (l : List _). allowedIn l s) (c .before .before .before .before .before .before .read-column .ensures))
-    holds (holds loop.need loop.inv.below) (c .pick .ensures) in
+    let holds = rw (sym c.before.before.before.before.before.read-row.ensures) at (pre.1.0.2 .rows 0 (omega arith) .holds) in
+    let small = variable-below _ _ few _ loop.n loop.items loop.need loop.inv c.before.before.before.loop-test.taken _ _ _ _ (λ s h. ap (λ (l : List _). allowedIn l s) c.before.before.before.before.before.before.read-column.ensures)
+    holds (holds loop.need loop.inv.below) c.pick.ensures in
     omega arith
 
 slice-write-items : tie.Need-slice-write-items Inv μ
-slice-write-items c = room _ _ (c .before .before .before .before .before .before .before .before .before .before .pre .1 .0 .1) _ _ _ _ (c .before .before .before .before .loop .inv) (c .before .before .before .loop-test .taken)
+slice-write-items c = room _ _ c.before.before.before.before.before.before.before.before.before.before.pre.1.0.1 _ _ _ _ c.before.before.before.before.loop.inv c.before.before.before.loop-test.taken
 
 loop-less : tie.Need-loop-less Inv μ
 loop-less c =
-    let loop = c .before .before .before .before .loop in
+    let loop = c.before.before.before.before.loop in
     let fuel = loop.inv.fuel in
-    let some = ne-zero loop.need (c .before .before .before .loop-test .taken) in
+    let some = ne-zero loop.need c.before.before.before.loop-test.taken in
     omega arith
 
 loop-again : tie.Need-loop-again Inv μ
 loop-again c =
-    let pre = c .before .before .before .before .before .before .before .before .before .before .pre in
-    let loop = c .before .before .before .before .loop in
+    let pre = c.before.before.before.before.before.before.before.before.before.before.pre in
+    let loop = c.before.before.before.before.loop in
     let few = pre.1.0.1 in
-    let holds = rw (sym (c .before .before .before .before .before .read-row .ensures)) at (pre.1.0.2 .rows 0 (omega arith) .holds) in
-    numbering-next _ _ few _ loop.n loop.items loop.need loop.inv (c .before .before .before .loop-test .taken) _ _ _ _ (λ s h. ap (λ (l : List _). allowedIn l s) (c .before .before .before .before .before .before .read-column .ensures))
-    holds (holds loop.need loop.inv.below) (c .pick .ensures) _ _ refl refl
+    let holds = rw (sym c.before.before.before.before.before.read-row.ensures) at (pre.1.0.2 .rows 0 (omega arith) .holds) in
+    numbering-next _ _ few _ loop.n loop.items loop.need loop.inv c.before.before.before.loop-test.taken _ _ _ _ (λ s h. ap (λ (l : List _). allowedIn l s) c.before.before.before.before.before.before.read-column.ensures)
+    holds (holds loop.need loop.inv.below) c.pick.ensures _ _ refl refl
 
 same-length : tie.Need-same-length Inv μ
-same-length c = c .before .loop .inv .size ∙ sym (c .before .before .before .before .before .before .before .pre .0 .1)
+same-length c = c.before.loop.inv.size ∙ sym c.before.before.before.before.before.before.before.pre.0.1
 
 returns : tie.Need-returns Inv μ
 returns c =
-    let ended = numbering-ended _ _ (c .before .before .before .before .before .before .before .pre .1 .0 .1) _ _ _ _ (c .before .loop .inv) (c .loop-test .left) in
+    let ended = numbering-ended _ _ c.before.before.before.before.before.before.before.pre.1.0.1 _ _ _ _ c.before.loop.inv c.loop-test.left in
     ((ended.0, ended.1), ended.2)
 
 pub choose-variables-spec : {M : Type 1} → statement M

@@ -22,12 +22,12 @@ returns c = λ e. absurd (true≢false e)
 
 loop-again : tie.Need-loop-again Inv μ
 loop-again c =
-    let loop = c .before .before .before .before .loop in
-    let below = c .before .before .before .loop-test .taken in
-    (omega arith, omega arith, none-next _ _ _ _ loop.inv.0 loop.inv.2 (sym (c .before .allowed-in .ensures) ∙ c .if1 .left))
+    let loop = c.before.before.before.before.loop in
+    let below = c.before.before.before.loop-test.taken in
+    (omega arith, omega arith, none-next _ _ _ _ loop.inv.0 loop.inv.2 (sym c.before.allowed-in.ensures ∙ c.if1.left))
 
 returns-2 : tie.Need-returns-2 Inv μ
-returns-2 c = let past = c .loop-test .left in λ e s h below is. c .before .loop .inv .2 s (omega arith) below is
+returns-2 c = let past = c.loop-test.left in λ e s h below is. c.before.loop.inv.2 s (omega arith) below is
 
 pub allows-low-spec : {M : Type 1} → statement M
 allows-low-spec =

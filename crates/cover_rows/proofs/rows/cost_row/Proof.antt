@@ -15,37 +15,37 @@ abbrev μ : tie.MeasureT-loop
 μ column next blocks count row₀ table₀ lows low₀ row table low = lows - low
 
 loop-holds : tie.Need-loop-holds Inv μ
-loop-holds c = let pre = c .before .pre in (refl, reached-none (omega arith) pre.1)
+loop-holds c = let pre = c.before.pre in (refl, reached-none (omega arith) pre.1)
 
 allows-low-requires : tie.Need-allows-low-requires Inv μ
 allows-low-requires c κs =
-    let lows = c .before .before .low-parts .ensures in
-    let below = c .loop-test .taken in
-    (omega arith, c .before .before .before .pre .1)
+    let lows = c.before.before.low-parts.ensures in
+    let below = c.loop-test.taken in
+    (omega arith, c.before.before.before.pre.1)
 
 try-low-requires : tie.Need-try-low-requires Inv μ
 try-low-requires c κs =
-    let pre = c .before .before .before .before .before .before .before .pre in
-    let lows = c .before .before .before .before .before .before .low-parts .ensures in
-    let below = c .before .before .before .before .loop-test .taken in
-    let loop = c .before .before .before .before .before .loop in
+    let pre = c.before.before.before.before.before.before.before.pre in
+    let lows = c.before.before.before.before.before.before.low-parts.ensures in
+    let below = c.before.before.before.before.loop-test.taken in
+    let loop = c.before.before.before.before.before.loop in
     ((omega arith, pre.0, pre.1, pre.2, loop.inv.0), loop.inv.1)
 
 loop-again : tie.Need-loop-again Inv μ
-loop-again c = (c .try-low .ensures .1, c .try-low .ensures .0)
+loop-again c = (c.try-low.ensures.1, c.try-low.ensures.0)
 
 loop-again-2 : tie.Need-loop-again-2 Inv μ
 loop-again-2 c =
-    let pre = c .before .before .before .before .before .pre in
-    let loop = c .before .before .before .loop in
-    (loop.inv.0, reached-past (omega arith) pre.1 loop.low (c .before .allows-low .ensures (c .if1 .left)) loop.inv.1)
+    let pre = c.before.before.before.before.before.pre in
+    let loop = c.before.before.before.loop in
+    (loop.inv.0, reached-past (omega arith) pre.1 loop.low (c.before.allows-low.ensures c.if1.left) loop.inv.1)
 
 returns : tie.Need-returns Inv μ
 returns c =
-    let pre = c .before .before .before .pre in
-    let loop = c .before .loop in
-    let lows = c .before .before .low-parts .ensures in
-    let past = c .loop-test .left in
+    let pre = c.before.before.before.pre in
+    let loop = c.before.loop in
+    let lows = c.before.before.low-parts.ensures in
+    let past = c.loop-test.left in
     reached-all (omega arith) pre.1 loop.low (omega arith) loop.inv.1
 
 pub cost-row-spec : {M : Type 1} → statement M

@@ -19,25 +19,25 @@ loop-holds : tie.Need-loop-holds Inv μ
 loop-holds c = (omega arith, written-none _ _)
 
 cast-table-2 : tie.Need-cast-table-2 Inv μ
-cast-table-2 c = omega (arith, and-le-l (c .before .loop .x) (255 - c .before .before .args .low))
+cast-table-2 c = omega (arith, and-le-l c.before.loop.x (255 - c.before.before.args.low))
 
 element-copy-out-table : tie.Need-element-copy-out-table Inv μ
-element-copy-out-table c = omega (arith, and-le-l (c .before .loop .x) (255 - c .before .before .args .low))
+element-copy-out-table c = omega (arith, and-le-l c.before.loop.x (255 - c.before.before.args.low))
 
 element-write-table : tie.Need-element-write-table Inv μ
-element-write-table c = let below = c .before .loop-test .taken in omega arith
+element-write-table c = let below = c.before.loop-test.taken in omega arith
 
 loop-again : tie.Need-loop-again Inv μ
 loop-again c =
-    let args = c .before .before .before .args in
-    let loop = c .before .before .loop in
+    let args = c.before.before.before.args in
+    let loop = c.before.before.loop in
     let size = loop.inv.1.size in
-    let long = c .before .before .before .pre .2 in
-    let below = c .before .loop-test .taken in
+    let long = c.before.before.before.pre.2 in
+    let below = c.before.loop-test.taken in
     (omega arith, written-more (lowEntry args.next.now args.low) loop.x _ loop.table _ (omega arith) loop.inv.1 (low-and args.next.now args.low loop.x))
 
 returns : tie.Need-returns Inv μ
-returns c = let most = c .before .loop .inv .0 in let past = c .loop-test .left in let all : c .before .loop .x ≡ c .before .before .args .limit = omega arith in rw all at (c .before .loop .inv .1)
+returns c = let most = c.before.loop.inv.0 in let past = c.loop-test.left in let all : c.before.loop.x ≡ c.before.before.args.limit = omega arith in rw all at c.before.loop.inv.1
 
 pub low-entries-spec : {M : Type 1} → statement M
 low-entries-spec =

@@ -20,25 +20,25 @@ loop-holds c = (omega arith, omega arith, alike-none _ _)
 
 add-differences : tie.Need-add-differences Inv μ
 add-differences c =
-    let args = c .before .before .before .before .before .before .before .args in
-    let loop = c .before .before .before .before .loop in
-    let below = c .before .before .before .loop-test .taken in
-    let few = c .before .before .before .before .before .before .before .pre .0 in
+    let args = c.before.before.before.before.before.before.before.args in
+    let loop = c.before.before.before.before.loop in
+    let below = c.before.before.before.loop-test.taken in
+    let few = c.before.before.before.before.before.before.before.pre.0 in
     let one = one-at-most (eqb (getD args.a.now loop.i 0) (getD args.b.now loop.i 0)) in
-    let is = c .difference .ensures in
+    let is = c.difference.ensures in
     omega arith
 
 loop-again : tie.Need-loop-again Inv μ
 loop-again c =
-    let args = c .before .before .before .before .before .before .before .args in
-    let loop = c .before .before .before .before .loop in
-    let below = c .before .before .before .loop-test .taken in
+    let args = c.before.before.before.before.before.before.before.args in
+    let loop = c.before.before.before.before.loop in
+    let below = c.before.before.before.loop-test.taken in
     let one = one-at-most (eqb (getD args.a.now loop.i 0) (getD args.b.now loop.i 0)) in
-    let is = c .difference .ensures in
+    let is = c.difference.ensures in
     (omega arith, omega arith, rw is (alike-next loop.i args.a.now args.b.now loop.differences loop.inv.2))
 
 returns : tie.Need-returns Inv μ
-returns c = let most = c .before .loop .inv .0 in let past = c .loop-test .left in let all : c .before .loop .i ≡ c .before .before .before .before .args .n = omega arith in rw all at (c .before .loop .inv .2)
+returns c = let most = c.before.loop.inv.0 in let past = c.loop-test.left in let all : c.before.loop.i ≡ c.before.before.before.before.args.n = omega arith in rw all at c.before.loop.inv.2
 
 pub same-bytes-spec : {M : Type 1} → statement M
 same-bytes-spec =

@@ -1,8 +1,8 @@
 use Prim.Native.Nat.{ℕ, _+_, _-_, _≤_, _<_}
-use mathlib.Core.Path.{_≡_, refl}
+use mathlib.Core.Path.{_≡_, refl, sym, _∙_}
 use native.Mathlib.Omega.{arith}
 use lib.ListN.{length, getD, length-set}
-use Rattle.planes.specs.Storage.{columnAt, copied-more, copied-done}
+use Rattle.planes.specs.Storage.{column-part, copied-more, copied-done}
 use borrow.Author.Needs.{needs}
 use Rattle.cover_table.proofs.storage.read_row as fn
 use fn.Statement.{statement}
@@ -29,8 +29,9 @@ loop-again c =
     )
 
 returns : tie.Need-returns Inv μ
-unfolding columnAt
-returns c = let all : c.before.loop.i ≡ 256 = omega arith in copied-done 256 _ _ _ c.before.loop.inv.1 c.before.before.pre (rw all at c.before.loop.inv.2)
+returns c =
+    let all : c.before.loop.i ≡ 256 = omega arith in
+    copied-done 256 _ _ _ c.before.loop.inv.1 c.before.before.pre (rw all at c.before.loop.inv.2) ∙ sym (column-part 256 _ c.before.before.args.k)
 
 pub read-row-spec : {M : Type 1} → statement M
 read-row-spec =

@@ -19,57 +19,59 @@ abbrev μ : tie.MeasureT-loop
 μ work node blocks count table₀ first row₀ k₀ table row k = 15 - k
 
 variables-row-requires : tie.Need-variables-row-requires Inv μ
-variables-row-requires c κs = let pre = c .before .before .before .pre in (pre.1.0, pre.1.1)
+variables-row-requires c κs = let pre = c.before.before.before.pre in (pre.1.0, pre.1.1)
 
 write-row-requires : tie.Need-write-row-requires Inv μ
-write-row-requires c κs = let size = c .before .before .before .before .before .pre .0 .1 in omega arith
+write-row-requires c κs = let size = c.before.before.before.before.before.pre.0.1 in omega arith
 
 loop-holds : tie.Need-loop-holds Inv μ
 loop-holds c =
-    let args = c .before .before .before .before .before .before .before .before .args in
-    let pre = c .before .before .before .before .before .before .before .before .pre in
-    let column = ap (λ (l : List _). allowedIn l) (c .before .before .before .before .before .read-column .ensures) in
-    let first = table-first args.count (allowedAt args.work.now args.node) (omega arith) pre.1.2 args.table.now _ _ pre.0.1 (rw column at (c .before .before .before .before .variables-row .ensures)) (c .before .before .write-row .ensures) in
+    let args = c.before.before.before.before.before.before.before.before.args in
+    let pre = c.before.before.before.before.before.before.before.before.pre in
+    let column = ap (λ (l : List _). allowedIn l) c.before.before.before.before.before.read-column.ensures in
+    let first = table-first args.count (allowedAt args.work.now args.node) (omega arith) pre.1.2 args.table.now _ _ pre.0.1 (rw column at c.before.before.before.before.variables-row.ensures) c.before.before.write-row.ensures in
     (omega arith, first.0, first.1)
 
 write-row-requires-2 : tie.Need-write-row-requires-2 Inv μ
-write-row-requires-2 c κs = let size = c .before .before .before .before .before .before .before .loop .inv .1 .size in let below = c .before .before .before .before .before .before .loop-test .taken in omega arith
+write-row-requires-2 c κs = let size = c.before.before.before.before.before.before.before.loop.inv.1.size in let below = c.before.before.before.before.before.before.loop-test.taken in omega arith
 
 loop-again : tie.Need-loop-again Inv μ
 loop-again c =
-    let args = c .before .before .before .before .before .before .before .before .before .before .before .before .before .before .before .before .before .before .before .args in
-    let pre = c .before .before .before .before .before .before .before .before .before .before .before .before .before .before .before .before .before .before .before .pre in
-    let loop = c .before .before .before .before .before .before .before .before .before .before .loop in
-    let below = c .before .before .before .before .before .before .before .before .before .loop-test .taken in
-    let same = sym (c .before .before .before .before .before .same-bytes .ensures) ∙ c .before .before .before .before .if1 .taken in
+    let args = c.before.before.before.before.before.before.before.before.before.before.before.before.before.before.before.before.before.before.before.args in
+    let pre = c.before.before.before.before.before.before.before.before.before.before.before.before.before.before.before.before.before.before.before.pre in
+    let loop = c.before.before.before.before.before.before.before.before.before.before.loop in
+    let below = c.before.before.before.before.before.before.before.before.before.loop-test.taken in
+    let same = sym c.before.before.before.before.before.same-bytes.ensures ∙ c.before.before.before.before.if1.taken in
     let next = table-next args.count (allowedAt args.work.now args.node) (omega arith) pre.1.2 loop.k _ _ loop.row _ loop.table _ (args.blocks * 16) pre.1.1 (omega arith) below
-    (λ s h. ap (λ (l : List _). allowedIn l s) (c .before .before .before .before .before .before .before .before .before .before .before .before .before .before .before .before .read-column .ensures)) (λ s h. ap (λ (l : List _). allowedIn l s) (c .before .before .before .before .before .before .before .before .read-column2 .ensures)) loop.inv.2 loop.inv.1
-    (kept-row _ _ loop.row (args.blocks * 16) args.count same) (c .before .before .write-row2 .ensures) in
+    (λ s h. ap (λ (l : List _). allowedIn l s) c.before.before.before.before.before.before.before.before.before.before.before.before.before.before.before.before.read-column.ensures)
+    (λ s h. ap (λ (l : List _). allowedIn l s) c.before.before.before.before.before.before.before.before.read-column2.ensures) loop.inv.2 loop.inv.1
+    (kept-row _ _ loop.row (args.blocks * 16) args.count same) c.before.before.write-row2.ensures in
     (omega arith, next.0, next.1)
 
 cost-row-requires : tie.Need-cost-row-requires Inv μ
-cost-row-requires c κs = let pre = c .before .before .before .before .before .before .before .before .before .before .before .before .before .before .before .before .before .pre in (pre.1.0, omega arith, c .before .before .before .before .before .before .before .before .loop .inv .2 .costs)
+cost-row-requires c κs = let pre = c.before.before.before.before.before.before.before.before.before.before.before.before.before.before.before.before.before.pre in (pre.1.0, omega arith, c.before.before.before.before.before.before.before.before.loop.inv.2.costs)
 
 write-row-requires-3 : tie.Need-write-row-requires-3 Inv μ
-write-row-requires-3 c κs = let size = c .before .before .before .before .before .before .before .before .before .before .loop .inv .1 .size in let below = c .before .before .before .before .before .before .before .before .before .loop-test .taken in omega arith
+write-row-requires-3 c κs = let size = c.before.before.before.before.before.before.before.before.before.before.loop.inv.1.size in let below = c.before.before.before.before.before.before.before.before.before.loop-test.taken in omega arith
 
 loop-again-2 : tie.Need-loop-again-2 Inv μ
 loop-again-2 c =
-    let args = c .before .before .before .before .before .before .before .before .before .before .before .before .before .before .before .before .before .before .before .before .before .before .args in
-    let pre = c .before .before .before .before .before .before .before .before .before .before .before .before .before .before .before .before .before .before .before .before .before .before .pre in
-    let loop = c .before .before .before .before .before .before .before .before .before .before .before .before .before .loop in
-    let below = c .before .before .before .before .before .before .before .before .before .before .before .before .loop-test .taken in
-    let other = sym (c .before .before .before .before .before .before .before .before .same-bytes .ensures) ∙ c .before .before .before .before .before .before .before .if1 .left in
+    let args = c.before.before.before.before.before.before.before.before.before.before.before.before.before.before.before.before.before.before.before.before.before.before.args in
+    let pre = c.before.before.before.before.before.before.before.before.before.before.before.before.before.before.before.before.before.before.before.before.before.before.pre in
+    let loop = c.before.before.before.before.before.before.before.before.before.before.before.before.before.loop in
+    let below = c.before.before.before.before.before.before.before.before.before.before.before.before.loop-test.taken in
+    let other = sym c.before.before.before.before.before.before.before.before.same-bytes.ensures ∙ c.before.before.before.before.before.before.before.if1.left in
     let next = table-next args.count (allowedAt args.work.now args.node) (omega arith) pre.1.2 loop.k _ _ loop.row _ loop.table _ (args.blocks * 16) pre.1.1 (omega arith) below
-    (λ s h. ap (λ (l : List _). allowedIn l s) (c .before .before .before .before .before .before .before .before .before .before .before .before .before .before .before .before .before .before .before .read-column .ensures)) (λ s h. ap (λ (l : List _). allowedIn l s) (c .before .before .before .before .before .before .before .before .before .before .before .read-column2 .ensures)) loop.inv.2 loop.inv.1
-    (made-row _ _ loop.row (args.blocks * 16) args.count _ (c .before .before .before .before .cost-row .ensures) other) (c .before .before .write-row3 .ensures) in
+    (λ s h. ap (λ (l : List _). allowedIn l s) c.before.before.before.before.before.before.before.before.before.before.before.before.before.before.before.before.before.before.before.read-column.ensures)
+    (λ s h. ap (λ (l : List _). allowedIn l s) c.before.before.before.before.before.before.before.before.before.before.before.read-column2.ensures) loop.inv.2 loop.inv.1
+    (made-row _ _ loop.row (args.blocks * 16) args.count _ c.before.before.before.before.cost-row.ensures other) c.before.before.write-row3.ensures in
     (omega arith, next.0, next.1)
 
 same-length : tie.Need-same-length Inv μ
-same-length c = c .before .loop .inv .1 .size ∙ sym (c .before .before .before .before .before .before .before .before .before .before .pre .0 .1)
+same-length c = c.before.loop.inv.1.size ∙ sym c.before.before.before.before.before.before.before.before.before.before.pre.0.1
 
 returns : tie.Need-returns Inv μ
-returns c = let most = c .before .loop .inv .0 in let past = c .loop-test .left in let all : c .before .loop .k ≡ 15 = omega arith in rw all at (c .before .loop .inv .1)
+returns c = let most = c.before.loop.inv.0 in let past = c.loop-test.left in let all : c.before.loop.k ≡ 15 = omega arith in rw all at c.before.loop.inv.1
 
 pub fill-table-spec : {M : Type 1} → statement M
 fill-table-spec =

@@ -29,32 +29,32 @@ slice-aggregate-same-bytes c = sym c.before.before.before.before.before.loop.inv
 
 same-bytes-requires : tie.Need-same-bytes-requires Inv μ
 same-bytes-requires c κs =
-    let pre = c .before .before .before .before .before .before .before .pre in
-    let size = c .before .before .before .before .before .before .loop .inv .1 .size in
-    let made : length (c .before .before .cost-row .result) ≡ 256 = rw (c .before .before .cost-row .ensures) (row-length _ _ _ _) in
+    let pre = c.before.before.before.before.before.before.before.pre in
+    let size = c.before.before.before.before.before.before.loop.inv.1.size in
+    let made : length c.before.before.cost-row.result ≡ 256 = rw c.before.before.cost-row.ensures (row-length _ _ _ _) in
     (omega arith, omega arith, omega arith)
 
 returns : tie.Need-returns Inv μ
 returns c =
-    let loop = c .before .before .before .before .before .before .before .before .loop in
-    let args = c .before .before .before .before .before .before .before .before .before .args in
-    let pre = c .before .before .before .before .before .before .before .before .before .pre in
+    let loop = c.before.before.before.before.before.before.before.before.loop in
+    let args = c.before.before.before.before.before.before.before.before.before.args in
+    let pre = c.before.before.before.before.before.before.before.before.before.pre in
     settled-row args.count (allowedIn args.t1) (omega arith) _ args.t1 _ (args.blocks * 16) loop.inv.0 pre.1 (omega arith) (λ s h. refl) loop.inv.1
-    (ap (alike (args.blocks * 16) loop.row) (sym (c .before .before .before .before .cost-row .ensures)) ∙ sym (c .before .same-bytes .ensures) ∙ c .if1 .taken)
+    (ap (alike (args.blocks * 16) loop.row) (sym c.before.before.before.before.cost-row.ensures) ∙ sym c.before.same-bytes.ensures ∙ c.if1.taken)
 
 loop-again : tie.Need-loop-again Inv μ
 loop-again c =
-    let loop = c .before .before .before .before .before .before .before .before .loop in
-    let args = c .before .before .before .before .before .before .before .before .before .args in
-    let pre = c .before .before .before .before .before .before .before .before .before .pre in
-    let below = c .before .before .before .before .before .before .before .loop-test .taken in
-    (omega arith, rw (c .before .before .before .before .cost-row .ensures) (covering-more args.count (allowedIn args.t1) (omega arith) _ args.t1 _ (args.blocks * 16) pre.1 (omega arith) (λ s h. refl) loop.inv.1))
+    let loop = c.before.before.before.before.before.before.before.before.loop in
+    let args = c.before.before.before.before.before.before.before.before.before.args in
+    let pre = c.before.before.before.before.before.before.before.before.before.pre in
+    let below = c.before.before.before.before.before.before.before.loop-test.taken in
+    (omega arith, rw c.before.before.before.before.cost-row.ensures (covering-more args.count (allowedIn args.t1) (omega arith) _ args.t1 _ (args.blocks * 16) pre.1 (omega arith) (λ s h. refl) loop.inv.1))
 
 returns-2 : tie.Need-returns-2 Inv μ
 returns-2 c =
-    let loop = c .before .loop in
+    let loop = c.before.loop in
     let most = loop.inv.0 in
-    let past = c .loop-test .left in
+    let past = c.loop-test.left in
     let all : loop.j ≡ 8 = omega arith in
     rw all at loop.inv.1
 

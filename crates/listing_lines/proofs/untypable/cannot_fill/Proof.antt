@@ -7,7 +7,7 @@ use fn.Statement.{statement}
 use fn.Tie as tie
 
 returns : tie.Need-returns
-returns c = ap (leb infinity) (c .before .fill-costs .ensures .0)
+returns c = ap (leb infinity) c.before.fill-costs.ensures.0
 
 pub cannot-fill-spec : {M : Type 1} → statement M
 cannot-fill-spec = tie.close (tie.spec (λ c. search needs) (λ c κs. search needs) returns)

@@ -14,22 +14,22 @@ use fn.Tie as tie
 
 choose-specials-requires : tie.Need-choose-specials-requires
 choose-specials-requires c κs =
-    let pre = c .before .before .before .before .before .pre in
+    let pre = c.before.before.before.before.before.pre in
     let can = rw (pre.1.1.0) at pre.1.1.1 in
-    rw (c .before .subset-count .ensures) ((pre.1.0.0, refl), ((pow-pos (c .before .before .before .before .before .args .m), pow-mono {j = 8} pre.0.0, pre.1.0.1), can))
+    rw c.before.subset-count.ensures ((pre.1.0.0, refl), ((pow-pos c.before.before.before.before.before.args.m, pow-mono {j = 8} pre.0.0, pre.1.0.1), can))
 
 choose-variables-requires : tie.Need-choose-variables-requires
 choose-variables-requires c κs =
-    let pre = c .before .before .before .before .before .before .before .before .pre in
-    let chosen = rw (c .before .before .before .before .subset-count .ensures) at (c .before .before .choose-specials .ensures) in
-    rw (c .before .before .before .before .subset-count .ensures) ((pre.1.0.0, refl), ((chosen.below, pow-mono {j = 8} pre.0.0, pre.1.0.1), chosen.less))
+    let pre = c.before.before.before.before.before.before.before.before.pre in
+    let chosen = rw c.before.before.before.before.subset-count.ensures at c.before.before.choose-specials.ensures in
+    rw c.before.before.before.before.subset-count.ensures ((pre.1.0.0, refl), ((chosen.below, pow-mono {j = 8} pre.0.0, pre.1.0.1), chosen.less))
 
 write-witness-requires : tie.Need-write-witness-requires
 write-witness-requires c κs =
-    let pre = c .before .before .before .before .before .before .before .before .before .before .before .before .before .pre in
-    let args = c .before .before .before .before .before .before .before .before .before .before .before .before .before .args in
-    let chosen = rw (c .before .before .before .before .before .before .before .before .before .subset-count .ensures) at (c .before .before .before .before .before .before .before .choose-specials .ensures) in
-    let listed = c .before .before .before .before .choose-variables .ensures in (
+    let pre = c.before.before.before.before.before.before.before.before.before.before.before.before.before.pre in
+    let args = c.before.before.before.before.before.before.before.before.before.before.before.before.before.args in
+    let chosen = rw c.before.before.before.before.before.before.before.before.before.subset-count.ensures at c.before.before.before.before.before.before.before.choose-specials.ensures in
+    let listed = c.before.before.before.before.choose-variables.ensures in (
       (pre.0.0, pre.0.1),
       (
         rw (chosen.specials) (specials-size _ (best-least (2 ^ args.m) (allowedAt args.work.now args.node) (pow-mono {j = 8} pre.0.0) 15 _)),
@@ -41,11 +41,11 @@ write-witness-requires c κs =
 
 returns : tie.Need-returns
 returns c =
-    let pre = c .before .before .before .before .before .before .before .before .before .before .before .before .before .before .before .before .pre in
-    let args = c .before .before .before .before .before .before .before .before .before .before .before .before .before .before .before .before .args in
-    let chosen = rw (c .before .before .before .before .before .before .before .before .before .before .before .before .subset-count .ensures) at (c .before .before .before .before .before .before .before .before .before .before .choose-specials .ensures) in
-    let listed = rw (c .before .before .before .before .before .before .before .before .before .before .before .before .subset-count .ensures) at (c .before .before .before .before .before .before .before .choose-variables .ensures .1) in
-    let wrote = c .before .before .write-witness .ensures in
+    let pre = c.before.before.before.before.before.before.before.before.before.before.before.before.before.before.before.before.pre in
+    let args = c.before.before.before.before.before.before.before.before.before.before.before.before.before.before.before.before.args in
+    let chosen = rw c.before.before.before.before.before.before.before.before.before.before.before.before.subset-count.ensures at c.before.before.before.before.before.before.before.before.before.before.choose-specials.ensures in
+    let listed = rw c.before.before.before.before.before.before.before.before.before.before.before.before.subset-count.ensures at c.before.before.before.before.before.before.before.choose-variables.ensures.1 in
+    let wrote = c.before.before.write-witness.ensures in
     let can = rw (pre.1.1.0) at pre.1.1.1 in
     stored-typable args.m (allowedAt args.work.now args.node) args.schema.now _ _ _ _ _ pre.0.2 can chosen.specials
     (chosen-entries args.m _ (allowedAt args.work.now args.node) _ chosen.variables listed) wrote.0 wrote.1 pre.1.1.0

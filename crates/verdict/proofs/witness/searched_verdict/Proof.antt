@@ -7,7 +7,7 @@ use fn.Statement.{statement}
 use fn.Tie as tie
 
 fill-costs-requires : tie.Need-fill-costs-requires
-fill-costs-requires c κs = let pre = c .before .before .before .pre in ((pre.1.0, refl), (pre.0.0, pre.1.1))
+fill-costs-requires c κs = let pre = c.before.before.before.pre in ((pre.1.0, refl), (pre.0.0, pre.1.1))
 
 chosen-verdict-requires : tie.Need-chosen-verdict-requires
 chosen-verdict-requires c κs =
@@ -17,10 +17,10 @@ chosen-verdict-requires c κs =
     (pre.0, ((pre.1.0, costs.ensures.1), (costs.ensures.0, omega arith)))
 
 returns : tie.Need-returns
-returns c = c .before .before .chosen-verdict .ensures
+returns c = c.before.before.chosen-verdict.ensures
 
 returns-2 : tie.Need-returns-2
-returns-2 c = let pre = c .before .before .before .before .before .before .pre in stored-unfilled _ _ _ pre.0.2 (rw (c .before .before .fill-costs .ensures .0) at (c .if1 .left))
+returns-2 c = let pre = c.before.before.before.before.before.before.pre in stored-unfilled _ _ _ pre.0.2 (rw c.before.before.fill-costs.ensures.0 at c.if1.left)
 
 pub searched-verdict-spec : {M : Type 1} → statement M
 searched-verdict-spec =
