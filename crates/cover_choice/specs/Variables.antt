@@ -1,6 +1,6 @@
 -- The variables, as they are chosen one after the other, each with the next ordinary attribute.
 use Prim.Native.Nat.{ℕ, zero, suc, _+_, _-_, _^_, _≤_, _<_}
-use mathlib.Core.Path.{_≡_, refl, sym, ap, ap₂, _∙_}
+use mathlib.Core.Path.{_≡_, sym, ap, _∙_}
 use mathlib.Core.Bool.{Bool}
 use mathlib.Core.List.{List, [], _∷_}
 use mathlib.Core.Logic.{_⊎_, inl, inr, ⊎-elim}
@@ -17,7 +17,7 @@ use Rattle.types.specs.Memberships.{members, members-most, members-some}
 use Rattle.states.specs.Formula.{typeVariable}
 use Rattle.membership.specs.Entries.{entry}
 use Rattle.membership.specs.Holders.{ItemsFit}
-use Rattle.set_cover.specs.Remainder.{rest, rest-and, rest-least, rest-fewer}
+use Rattle.set_cover.specs.Remainder.{rest, rest-and, rest-fewer}
 use Rattle.set_cover.specs.Least.{infinity}
 use Rattle.set_cover.specs.Cost.{cost}
 use Rattle.set_cover.specs.Choice.{picked, bestVariables, pickedVariable, variables-step, no-variables}

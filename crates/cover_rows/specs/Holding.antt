@@ -20,7 +20,7 @@ use Rattle.set_cover.specs.Remainder.{rest, rest-least}
 use Rattle.set_cover.specs.Least.{infinity, least, least-same}
 use Rattle.set_cover.specs.Cost.{price, cost, cost-next}
 use Rattle.set_cover.specs.Choice.{picked, picked-lowest}
-use Rattle.set_cover.specs.Shortcuts.{covering, covering-none, covering-next, covering-settled, covering-is, skip-cost}
+use Rattle.set_cover.specs.Shortcuts.{covering, covering-none, covering-next, covering-is}
 use Rattle.cover_rows.specs.Rows.{Costs, priceIn, costRow}
 
 -- the row has the values of f at the needs below N
@@ -118,12 +118,3 @@ module _ (N : ℕ) (allowed : ℕ → ℕ → Bool) (few : N ≤ 256) (grounded 
   -- after eight
   pub covering-all : Holds N (covering N (allowed 0) 8) row → Holds N (cost N allowed 0) row
   covering-all holds need h = holds need h ∙ covering-is N allowed few grounded need h
-
-  -- or once a row stays the same
-  pub covering-stays : (j : ℕ) → j ≤ 8 → Holds N (covering N (allowed 0) j) row → Holds N (covering N (allowed 0) (suc j)) row → Holds N (cost N allowed 0) row
-  covering-stays j most before after =
-      covering-all (λ need h. before need h ∙ sym (covering-settled N (allowed 0) j (λ x l. sym (after x l) ∙ before x l) most need h))
-
-  -- a column that allows what column 0 allows has the row of what follows
-  pub skip-holds : (k : ℕ) → ((s : ℕ) → s < N → allowed (15 - k) s ≡ allowed 0 s) → Holds N (cost N allowed k) row → Holds N (cost N allowed (suc k)) row
-  skip-holds k alike holds need h = holds need h ∙ sym (skip-cost N allowed few grounded k alike need h)

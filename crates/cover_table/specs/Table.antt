@@ -1,5 +1,5 @@
 -- The table of costs in memory: sixteen rows of 256 bytes, row k for variables and the last k special attributes.
-use Prim.Native.Nat.{ℕ, zero, suc, _+_, _-_, _*_, _^_, _≤_, _<_}
+use Prim.Native.Nat.{ℕ, suc, _+_, _-_, _*_, _^_, _≤_, _<_}
 use mathlib.Core.Path.{_≡_, refl, sym, ap, _∙_}
 use mathlib.Core.Bool.{Bool, true, false, cond}
 use mathlib.Core.List.{List}
@@ -7,17 +7,15 @@ use mathlib.Core.Logic.{_⊎_, inl, inr}
 use native.Mathlib.Nat.{eq-or-lt-of-le}
 use native.Mathlib.Numerals.{add-one}
 use native.Mathlib.Omega.{arith}
-use lib.Arith.{digits-lt}
 use lib.ListN.{length, getD, set, replicate, length-set, length-replicate}
 use lib.Pow.{pow-mono, pow-pos, ones-lt}
 use lib.Seq.{paste, length-paste}
-use Rattle.planes.specs.Storage.{columnAt, column-byte, column-is, column-size, paste-inside, paste-outside}
-use Rattle.column.specs.Column.{allowedIn}
+use Rattle.planes.specs.Storage.{columnAt, column-byte, column-is, paste-inside, paste-outside}
 use Rattle.set_cover.specs.Least.{infinity}
 use Rattle.set_cover.specs.Cost.{cost}
-use Rattle.set_cover.specs.Shortcuts.{covering, covering-is, covering-settled, skip-cost}
+use Rattle.set_cover.specs.Shortcuts.{covering, covering-settled, skip-cost}
 use Rattle.cover_rows.specs.Rows.{Costs, costRow, row-length, row-costs}
-use Rattle.cover_rows.specs.Holding.{Holds, Allows, rows-hold, startRow, start-row as start-is, start-costs, covering-start, covering-row}
+use Rattle.cover_rows.specs.Holding.{Holds, Allows, rows-hold, start-row as start-is, start-costs, covering-start, covering-row, covering-all}
 use Rattle.verdict_answer.specs.Witness.{costIn}
 use Rattle.cover_table.specs.Alike.{alike, alike-at, alike-allowed}
 
@@ -90,7 +88,7 @@ whole-cost m count allowed few is table t =
 
 module _ (N : ℕ) (allowed : ℕ → ℕ → Bool) (few : N ≤ 256) (grounded : allowed 0 0 ≡ true) where
   pub variables-row : (row : List ℕ) → IsRow N (covering N (allowed 0) 8) row → IsRow N (cost N allowed 0) row
-  variables-row row is = record { size = is .size; holds = λ x h. is .holds x h ∙ covering-is N allowed few grounded x h; costs = is .costs }
+  variables-row row is = record { size = is .size; holds = covering-all N allowed few grounded row (is .holds); costs = is .costs }
 
   -- ---- the row of one special attribute more: a column that allows what column 0 does leaves it as it is
 

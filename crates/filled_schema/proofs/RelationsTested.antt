@@ -1,11 +1,11 @@
 -- The relations tested one after the other: whether each has an attribute.
 use Prim.Native.Nat.{ℕ, _+_, _≤_, _<_}
-use mathlib.Core.Path.{_≡_, refl, sym, ap, _∙_}
+use mathlib.Core.Path.{_≡_, sym, ap, _∙_}
 use mathlib.Core.Bool.{Bool, true, false, not, _||_}
 use mathlib.Core.List.{List}
 use native.Mathlib.Omega.{arith}
 use lib.Dec.{eqb}
-use lib.ListN.{getD, take}
+use lib.ListN.{getD}
 use Rattle.bits.specs.AllBelow.{allBelow, all-next, not-all}
 use Rattle.bits.specs.Bit.{bit}
 use Rattle.filled_schema.specs.FilledSchema.{holdsSome, SomeHeld, tableFilled}

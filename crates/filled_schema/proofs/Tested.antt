@@ -4,11 +4,11 @@ use mathlib.Core.Path.{_≡_, sym, ap, ap₂, _∙_}
 use mathlib.Core.Bool.{Bool, true, false}
 use mathlib.Core.List.{List}
 use native.Mathlib.Omega.{arith}
-use lib.ListN.{length, take, replicate}
+use lib.ListN.{take, replicate}
 use Rattle.bits.specs.Word.{Bytes}
 use Rattle.refusal.specs.declared.Refusal.{Refusal}
 use Rattle.refusal.specs.declared.Refusal.the-variants.{EmptyRecord}
-use Rattle.schema.specs.Schema.{Schema, refusedSchema, schemaReading, readingOf, EntriesStand, WritesFrom}
+use Rattle.schema.specs.Schema.{refusedSchema, schemaReading, readingOf, EntriesStand, WritesFrom}
 use Rattle.schema.specs.EntriesLaws.{maps-none}
 use Rattle.schema.specs.TableLaws.{schema-read, handed-on, read-table}
 use Rattle.schema.specs.declared.reading.Judgement.{Judgement}

@@ -1,7 +1,7 @@
 -- A table is filled exactly where the assignment that its records mean gives every relation an attribute, and exactly
 -- where none of the records is empty.
 use Prim.Native.Nat.{ℕ, zero, suc, _≤_, _<_}
-use mathlib.Core.Path.{_≡_, refl, sym, ap, ap₂, subst, _∙_}
+use mathlib.Core.Path.{_≡_, refl, sym, ap, ap₂, _∙_}
 use mathlib.Core.Logic.{_↔_, ∥∥₁-elim}
 use mathlib.Core.Bool.{Bool, true, false, cond, not, _||_, or-true, true≢false, false≢true}
 use mathlib.Core.List.{List, [], _∷_}

@@ -1,14 +1,14 @@
 -- Whether a node is untypable, by what the code finds: the first subsets of its special attributes, the relations that
 -- these leave without an attribute, and what it costs to fill all relations.
 use Prim.Native.Nat.{ℕ, _-_, _^_, _≤_, _<_}
-use mathlib.Core.Path.{_≡_, sym, ap, ap₂, _∙_}
+use mathlib.Core.Path.{_≡_, sym, ap₂, _∙_}
 use mathlib.Core.Bool.{Bool, true, false}
 use mathlib.Core.List.{List}
 use native.Mathlib.Decide.{decLt}
 use native.Mathlib.Omega.{arith}
 use borrow.Author.Tests.{lt-ltb, le-ltb, le-leb, lt-leb}
 use lib.Dec.{leb}
-use lib.ListN.{getD, drop}
+use lib.ListN.{drop}
 use Rattle.set_cover.specs.Least.{infinity}
 use Rattle.set_cover.specs.Choice.{uncovered}
 use Rattle.set_cover.specs.FirstCover.{firsts}

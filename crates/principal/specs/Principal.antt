@@ -17,7 +17,7 @@ use Rattle.states.specs.Principal.{FormulaOf as StateFormulaOf, CellOf as State
 use Rattle.principal.specs.Formula.{Formula, Fits, Grounded}
 use Rattle.principal.specs.Instantiation.{Instantiation, InImage, HasImage, HasOutput, FilledImage, filled-image}
 use Rattle.principal.specs.Plain.{statesFormula, toStates, fromStates, types-are, fits-is, image-is, has-image, has-output}
-use Rattle.principal.specs.Blocked.{Blocked, Fitting, Choice, chosen, chosenType, choice-fits, blocked-none, none-blocked}
+use Rattle.principal.specs.Blocked.{Blocked, Fitting, blocked-none, none-blocked}
 
 -- F is a formula of e: its bits are the cells of e, at the columns and subsets that there are
 pub record FormulaOf (e : Expression) (F : Formula) : Type 0 where
@@ -127,7 +127,3 @@ module _ (e : Expression) (F : Formula) (legal : Legal (F .relations) e) (is : F
   -- verdict: some special column allows nothing exactly when no assignment types e
   pub verdict : Blocked F ↔ (Typing (F .relations) e → ⊥)
   verdict = ((λ blocked t. blocked-none F blocked (typing-fitting t)), (λ none. none-blocked F grounded (λ f. none (fitting-typing f))))
-
-  -- a subset for each special attribute, allowed in its column, gives an assignment that types e
-  pub choice-typed : (choice : Choice F) → Typed (chosen choice) e (chosenType choice)
-  choice-typed choice = typed-fits (chosen choice) (chosenType choice) .1 (choice-fits F grounded choice)

@@ -7,7 +7,6 @@ use mathlib.Core.Bool.{Bool, true, false}
 use mathlib.Core.List.{List}
 use native.Mathlib.Omega.{arith}
 use lib.ListN.{length, getD}
-use Rattle.bits.specs.Booleans.{clash}
 use Rattle.bits.specs.Word.{Bytes}
 use Rattle.refusal.specs.declared.Refusal.{Refusal}
 use Rattle.refusal.specs.declared.Refusal.the-variants.{EmptyRecord, EmptyImage}
@@ -19,7 +18,7 @@ use Rattle.admission.specs.Admission.{sliced, admitted}
 use Rattle.admission.specs.AdmissionLaws.{sliced-passed, admitted-passed}
 use Rattle.node_expression.specs.NodeExpression.{expressionAt}
 use Rattle.type_record.specs.Record.{TypeRecord, outputSize}
-use Rattle.schema.specs.Schema.{readRecords, noRecord, assignmentOf, recordsOf, entriesOf, mapsOf, schemaSize}
+use Rattle.schema.specs.Schema.{readRecords, noRecord, assignmentOf, recordsOf, entriesOf, schemaSize}
 use Rattle.schema.specs.TableLaws.{read-schema}
 use Rattle.schema.specs.Image.{IsTable, image-size, image-records, image-maps, image-entries}
 use Rattle.schema.specs.declared.reading.Judgement.{Judgement}

@@ -1,6 +1,6 @@
 -- The list `best`: how long it is, and what its entries are.
 use Prim.Native.Nat.{ℕ, zero, suc, _+_, _-_, _≤_, _<_}
-use mathlib.Core.Path.{_≡_, refl, sym, ap, _∙_}
+use mathlib.Core.Path.{_≡_, refl, ap, _∙_}
 use mathlib.Core.Bool.{Bool, true, false}
 use mathlib.Core.List.{List, [], _∷_}
 use mathlib.Core.Logic.{_⊎_, inl, inr}
@@ -18,7 +18,7 @@ use Rattle.states.specs.Formula.{typeVariable}
 use Rattle.set_cover.specs.Remainder.{rest, rest-least, rest-none, rest-fewer}
 use Rattle.set_cover.specs.Least.{infinity, least-of}
 use Rattle.set_cover.specs.Cost.{price, cost, cost-next}
-use Rattle.set_cover.specs.Choice.{Chosen, picked, bestVariables, best, pickedVariable, no-variables, variables-step, best-variables}
+use Rattle.set_cover.specs.Choice.{Chosen, picked, bestVariables, best, pickedVariable, no-variables, variables-step}
 use Rattle.set_cover.specs.Cheapest.{price-ok, price-not, special-picked, variable-picked, takes, best-right, variables-rise}
 use Rattle.set_cover.specs.Shortcuts.{cost-most}
 use Rattle.set_cover.specs.Covered.{EachBelow}
@@ -144,55 +144,6 @@ module _ (N : ℕ) (allowed : ℕ → ℕ → Bool) (few : N ≤ 256) where
           rw (variables-step N allowed more need some) (omega arith)
 
   -- ---- the variables one by one
-
-  -- at most as many as the number of `need` are enough, since each remainder is lower
-  variables-enough :
-      (more less need : ℕ)
-      → need ≤ more
-      → need ≤ less
-      → need < N
-      → cost N allowed 0 need < infinity
-      → bestVariables N allowed more need ≡ bestVariables N allowed less need
-  variables-enough zero less need a b h low = no-variables N allowed zero need (omega arith) ∙ sym (no-variables N allowed less need (omega arith))
-  variables-enough (suc more) zero need a b h low = no-variables N allowed (suc more) need (omega arith) ∙ sym (no-variables N allowed zero need (omega arith))
-  variables-enough (suc more) (suc less) need a b h low = go (eq-zero-or-pos need) (variables-enough more less)
-    where
-      go :
-          (need ≡ 0) ⊎ (0 < need)
-          → ((need : ℕ) → need ≤ more → need ≤ less → need < N → cost N allowed 0 need < infinity → bestVariables N allowed more need ≡ bestVariables N allowed less need)
-          → bestVariables N allowed (suc more) need ≡ bestVariables N allowed (suc less) need
-      go (inl none) others = no-variables N allowed (suc more) need none ∙ sym (no-variables N allowed (suc less) need none)
-      go (inr some) others =
-          let p = variable-picked N allowed few need some h low in
-          let is = p .is in
-          let taken = takes N allowed few need (pickedVariable N allowed need) (p .below) (p .isAllowed) (p .is) in
-          variables-step N allowed more need some
-          ∙ ap (λ (xs : List ℕ). pickedVariable N allowed need ∷ xs) (others (rest need (pickedVariable N allowed need)) (omega arith) (omega arith) (omega arith) (omega arith))
-          ∙ sym (variables-step N allowed less need some)
-
-  -- none where nothing is needed
-  pub variables-none : best N allowed 0 0 ≡ []
-  variables-none = best-variables N allowed 0 ∙ no-variables N allowed 0 0 refl
-
-  -- the one that is picked, and then those for what remains
-  pub variables-next :
-      (need v : ℕ)
-      → 0 < need
-      → need < N
-      → cost N allowed 0 need < infinity
-      → picked N (typeVariable (allowed 0)) (cost N allowed 0) need (cost N allowed 0 need) ≡ v
-      → best N allowed 0 need ≡ v ∷ best N allowed 0 (rest need v)
-  variables-next zero v some h low e = absurd (omega arith)
-  variables-next (suc n) v some h low e =
-      let p = variable-picked N allowed few (suc n) some h low in
-      let is = p .is in
-      let taken = takes N allowed few (suc n) (pickedVariable N allowed (suc n)) (p .below) (p .isAllowed) (p .is) in
-      best-variables N allowed (suc n)
-      ∙ variables-step N allowed n (suc n) some
-      ∙ ap (λ (xs : List ℕ). pickedVariable N allowed (suc n) ∷ xs)
-      (variables-enough n (rest (suc n) (pickedVariable N allowed (suc n))) (rest (suc n) (pickedVariable N allowed (suc n))) (omega arith) (omega arith) (omega arith) (omega arith)
-      ∙ sym (best-variables N allowed (rest (suc n) (pickedVariable N allowed (suc n)))))
-      ∙ ap (λ (x : ℕ). x ∷ best N allowed 0 (rest (suc n) x)) e
 
   -- ---- the variables of `best`
 

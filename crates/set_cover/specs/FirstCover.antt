@@ -7,7 +7,6 @@ use mathlib.Core.List.{List, [], _∷_}
 use native.Mathlib.Nat.{le-antisymm, le-of-suc-le-suc}
 use native.Mathlib.Omega.{arith}
 use lib.ListN.{length, getD}
-use Rattle.bits.specs.Tab.{tab, tab-is}
 use Rattle.types.specs.Memberships.{members, members-most}
 use Rattle.set_cover.specs.Remainder.{rest, rest-least}
 use Rattle.set_cover.specs.Least.{least, least-over}
@@ -30,17 +29,14 @@ firsts subset (suc k) = subset (15 - k) ∷ firsts subset k
 
 -- as a list by attribute, 1 to 15
 module _ (subset : ℕ → ℕ) where
-  firsts-length : (k : ℕ) → length (firsts subset k) ≡ k
+  pub firsts-length : (k : ℕ) → length (firsts subset k) ≡ k
   firsts-length zero = refl
   firsts-length (suc k) = ap suc (firsts-length k)
 
-  firsts-entry : (k i : ℕ) → k ≤ 15 → i < k → getD (firsts subset k) i 0 ≡ subset (16 - k + i)
+  pub firsts-entry : (k i : ℕ) → k ≤ 15 → i < k → getD (firsts subset k) i 0 ≡ subset (16 - k + i)
   firsts-entry zero i h l = absurd (omega arith)
   firsts-entry (suc k) zero h l = ap subset (omega arith)
   firsts-entry (suc k) (suc i) h l = firsts-entry k i (omega arith) (le-of-suc-le-suc l) ∙ ap subset (omega arith)
-
-  pub firsts-list : firsts subset 15 ≡ tab 15 (λ i. subset (i + 1))
-  firsts-list = tab-is 15 (λ i. subset (i + 1)) 0 (firsts subset 15) (firsts-length 15) (λ i h. firsts-entry 15 i (omega arith) h ∙ ap subset (omega arith))
 
 module _ (N : ℕ) (allowed : ℕ → ℕ → Bool) (few : N ≤ 256) (subset : ℕ → ℕ) (first : (i : ℕ) → 1 ≤ i → i ≤ 15 → FewestMembers N (allowed i) (subset i)) where
   at : (k : ℕ) → suc k ≤ 15 → FewestMembers N (allowed (15 - k)) (subset (15 - k))

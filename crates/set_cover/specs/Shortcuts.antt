@@ -96,16 +96,6 @@ module _ (N : ℕ) (allowed : ℕ → ℕ → Bool) (few : N ≤ 256) (grounded 
         let is = cost-next N allowed k need h in
         omega arith
 
-    -- and the empty subset is picked in it
-    pub skip-picked : (need : ℕ) → need < N → cost N allowed (suc k) need < infinity → picked N (allowed (15 - k)) (cost N allowed k) need (cost N allowed (suc k) need) ≡ 0
-    skip-picked need h less =
-        let p = special-picked N allowed few k need h less in
-        let none = members-none in
-        let same = ap (cost N allowed k) (rest-none need (omega arith)) in
-        let skip = skip-cost need h in
-        let l = p .lowest 0 (omega arith) (alike 0 (omega arith) ∙ grounded) (omega arith) in
-        omega arith
-
   -- ---- as many variables as there are relations are enough
 
   covering-over : (j need : ℕ) → need < N → cost N allowed 0 need ≤ covering N (allowed 0) j need

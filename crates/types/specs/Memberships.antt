@@ -11,7 +11,7 @@ use lib.Pow.{pow-mono}
 use Rattle.bits.specs.Bit.{bit, bit-none, bit-above}
 use Rattle.bits.specs.Booleans.{clash}
 use Rattle.bits.specs.Pack.{pack, bit-pack, bits-once, pack-below}
-use Rattle.bits.specs.Total.{total, count, total-zero, total-same, total-swap, total-more, total-part, count-most, count-fewer, ones-count}
+use Rattle.bits.specs.Total.{total, count, total-zero, total-same, total-swap, total-more, count-most, count-fewer, ones-count}
 use Rattle.types.specs.Types.{Assignment, IsAssignment, holders}
 use Rattle.types.specs.Laws.{holders-packed, finite-bound}
 
@@ -107,12 +107,6 @@ module _ (m : ℕ) (A : Assignment) where
   memberships-by few bound =
       total-swap m bound (λ r a. cond (A r a) 1 0)
       ∙ total-same bound (λ a. count m (λ r. A r a)) (λ a. members (holders m A a)) (λ a h. members-held m few A a)
-
-  -- those of the attributes below n are some of them
-  pub memberships-part : m ≤ 8 → (n bound : ℕ) → Within m A bound → total n (λ a. members (holders m A a)) ≤ memberships m A bound
-  memberships-part few n bound within =
-      let more = sym (memberships-more bound n within) ∙ ap (memberships m A) (add-comm bound n) ∙ memberships-by few (n + bound) in
-      rw more (total-part n bound (λ a. members (holders m A a)))
 
 -- types have a bound that none of their attributes reaches
 pub within-some : (m : ℕ) (A : Assignment) → IsAssignment m A → ∥ ((bound : ℕ) × Within m A bound) ∥₁

@@ -1,21 +1,19 @@
 -- Where the first subsets of the special attributes already give every relation an attribute: they are the choice.
-use Prim.Native.Nat.{ℕ, zero, suc, _+_, _-_, _*_, _^_, _≤_, _<_}
+use Prim.Native.Nat.{ℕ, zero, suc, _+_, _-_, _^_, _≤_, _<_}
 use mathlib.Core.Path.{_≡_, refl, sym, ap, ap₂, _∙_}
-use mathlib.Core.Bool.{Bool, true, false}
+use mathlib.Core.Bool.{Bool}
 use mathlib.Core.List.{List, [], _∷_}
 use native.Mathlib.Omega.{arith}
 use lib.Arith.{lt-of-le-ne}
-use lib.ListN.{length, getD, take, drop, length-take, drop-of-length-le}
+use lib.ListN.{length, getD, take}
 use lib.Seq.{take-all, ext-getD}
-use lib.Pow.{pow-mono, pow-pos, ones-lt}
+use lib.Pow.{pow-mono, ones-lt}
 use borrow.Author.Tests.{eqb-false}
 use Rattle.bits.specs.Total.{total, total-front, total-most, total-each}
 use Rattle.types.specs.Memberships.{members, members-none, members-most}
-use Rattle.set_cover.specs.Least.{infinity}
-use Rattle.set_cover.specs.Cost.{cost}
 use Rattle.set_cover.specs.Choice.{weight, uncovered, weight-total}
-use Rattle.set_cover.specs.FirstCover.{FewestMembers, firsts, firsts-best, firsts-cost}
-use Rattle.verdict_answer.specs.First.{fewestIn, firstIn, blockedBy, blockedIn, chosenBy}
+use Rattle.set_cover.specs.FirstCover.{FewestMembers, firsts, firsts-length, firsts-entry, firsts-best, firsts-cost}
+use Rattle.verdict_answer.specs.First.{firstIn, blockedBy, blockedIn, chosenBy}
 use Rattle.verdict_answer.specs.FewestLaws.{fewest-in}
 use Rattle.verdict_answer.specs.FirstLaws.{blocked-lowest, chosen-size, chosen-none, chosen-special}
 use Rattle.verdict_answer.specs.Formed.{Formed}
@@ -45,26 +43,15 @@ memberships-weight xs size =
     ∙ omega arith
 
 module _ (first : ℕ → ℕ) where
-  firsts-length : (k : ℕ) → length (firsts first k) ≡ k
-  firsts-length zero = refl
-  firsts-length (suc k) = ap suc (firsts-length k)
-
-  firsts-at : (k i : ℕ) → k ≤ 15 → i < k → getD (firsts first k) i 0 ≡ first (16 - k + i)
-  firsts-at zero i most h = absurd (omega arith)
-  firsts-at (suc k) zero most h = let here : 15 - k ≡ 16 - suc k + 0 = omega arith in ap first here
-  firsts-at (suc k) (suc i) most h =
-      let next : 16 - k + i ≡ 16 - suc k + suc i = omega arith in
-      firsts-at k i (omega arith) (omega arith) ∙ ap first next
-
   -- where no column is blocked, they are what was chosen
   pub chosen-firsts : 16 ≤ blockedBy first → chosenBy first ≡ 0 ∷ firsts first 15
   chosen-firsts none =
-      let size = firsts-length 15 in
+      let size = firsts-length first 15 in
       ext-getD 0 (chosenBy first) (0 ∷ firsts first 15) (chosen-size first ∙ sym (ap suc size)) (λ i h. each i (let all = chosen-size first in omega arith))
     where
       each : (i : ℕ) → i < 16 → getD (chosenBy first) i 0 ≡ getD (0 ∷ firsts first 15) i 0
       each zero h = chosen-none first
-      each (suc i) h = chosen-special first (suc i) none (omega arith) h ∙ sym (firsts-at 15 i (omega arith) (omega arith) ∙ ap first (let same : 16 - 15 + i ≡ suc i = omega arith in same))
+      each (suc i) h = chosen-special first (suc i) none (omega arith) h ∙ sym (firsts-entry first 15 i (omega arith) (omega arith) ∙ ap first (let same : 16 - 15 + i ≡ suc i = omega arith in same))
 
 -- ---- they have the fewest members
 

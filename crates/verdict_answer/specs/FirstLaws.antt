@@ -10,7 +10,7 @@ use borrow.Author.Tests.{eq-eqb, ne-eqb, lt-ltb, le-ltb, le-leb}
 use lib.Dec.{eqb, ltb, leb, lit<}
 use lib.ListN.{length, getD, set, replicate, getD-replicate}
 use Rattle.bits.specs.Lowest.{lowestFrom, Lowest, search-found, search-next, search-ended, lowest-is, lowest-same}
-use Rattle.bits.specs.Tab.{tab, length-tab, getD-tab, tab-is}
+use Rattle.bits.specs.Tab.{length-tab, getD-tab, tab-is}
 use Rattle.bits.specs.Written.{Written, written-more}
 use Rattle.algebra.specs.Expression.{Expression}
 use Rattle.column.specs.Column.{allowedIn}
@@ -107,12 +107,6 @@ module _ (f g : ℕ → ℕ) (same : (i : ℕ) → i < 16 → f i ≡ g i) where
   pub blocked-same : blockedBy f ≡ blockedBy g
   unfolding blockedBy
   blocked-same = lowest-same 15 1 (λ i. eqb (f i) 256) (λ i. eqb (g i) 256) (λ i low high. ap (λ (x : ℕ). eqb x 256) (same i high))
-
-  pub chosen-same : chosenBy f ≡ chosenBy g
-  unfolding chosenBy
-  chosen-same =
-      tab-is 16 (λ i. cond (ltb i (blockedBy g) && leb 1 i) (g i) 0) 0 (tab 16 (λ i. cond (ltb i (blockedBy f) && leb 1 i) (f i) 0)) (length-tab 16 (λ i. cond (ltb i (blockedBy f) && leb 1 i) (f i) 0))
-      (λ i h. getD-tab 16 (λ i. cond (ltb i (blockedBy f) && leb 1 i) (f i) 0) i 0 h ∙ ap₂ (λ (b x : ℕ). cond (ltb i b && leb 1 i) x 0) blocked-same (same i h))
 
 -- ---- columns that allow the same
 

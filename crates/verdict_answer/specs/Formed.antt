@@ -1,6 +1,6 @@
 -- What the columns of a node's formula are: subsets of its m relations, and an attribute that no relation has breaks no
 -- rule. By it the choice of Verdict is found.
-use Prim.Native.Nat.{ℕ, _^_, _≤_, _<_}
+use Prim.Native.Nat.{ℕ, _^_, _<_}
 use mathlib.Core.Path.{_≡_, refl, sym, _∙_}
 use mathlib.Core.Bool.{Bool, true, false}
 use mathlib.Core.List.{List}

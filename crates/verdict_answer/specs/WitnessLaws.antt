@@ -1,17 +1,15 @@
 -- Laws of the witness: the table that it is written from, and who has which attribute in it.
-use Prim.Native.Nat.{ℕ, zero, suc, _+_, _-_, _*_, _^_, _≤_, _<_}
-use mathlib.Core.Path.{_≡_, refl, sym, ap, ap₂, _∙_}
+use Prim.Native.Nat.{ℕ, zero, suc, _+_, _-_, _^_, _≤_, _<_}
+use mathlib.Core.Path.{_≡_, refl, ap, _∙_}
 use mathlib.Core.Bool.{Bool, cond}
 use mathlib.Core.List.{List, [], _∷_}
 use native.Mathlib.Nat.{lt-of-lt-of-le}
-use native.Mathlib.Decide.{decLt}
 use native.Mathlib.Omega.{arith}
 use borrow.Author.Tests.{eq-eqb, ne-eqb}
-use lib.Dec.{eqb}
-use lib.ListN.{length, getD, take, drop, length-drop}
+use lib.ListN.{length, getD, drop, length-drop}
 use lib.Pow.{pow-mono, pow-pos}
 use lib.Seq.{length-take-le, getD-take, getD-drop}
-use Rattle.membership.specs.Entries.{entry, attributeOf, subsetOf, holdersIn}
+use Rattle.membership.specs.Entries.{entry, subsetOf, holdersIn}
 use Rattle.membership.specs.EnterLaws.{RisingEntries, entry-attribute, entry-subset}
 use Rattle.membership.specs.TableLaws.{Below}
 use Rattle.special_maps.specs.Special.{mapsFrom}

@@ -2,7 +2,6 @@
 -- few the witness is the lowest, and its ordinary attributes are numbered in turn.
 use Prim.Native.Nat.{ℕ, zero, suc, _+_, _-_, _^_, _≤_, _<_}
 use mathlib.Core.Path.{_≡_, refl, sym, ap, ap₂, _∙_}
-use mathlib.Core.Bool.{Bool, true, false}
 use mathlib.Core.List.{List, [], _∷_}
 use native.Mathlib.Decide.{decLt}
 use native.Mathlib.Numerals.{add-one}
@@ -10,8 +9,7 @@ use native.Mathlib.Omega.{arith}
 use lib.ListN.{length, getD, drop, length-drop, drop-of-length-le, List·getD-eq-default}
 use lib.Pow.{pow-mono, ones-lt}
 use lib.Seq.{drop-cons, getD-drop}
-use Rattle.bits.specs.Bit.{bit}
-use Rattle.bits.specs.Rising.{Rising, rising-places}
+use Rattle.bits.specs.Rising.{rising-places}
 use Rattle.bits.specs.Total.{total, total-front, total-same, total-more}
 use Rattle.types.specs.Types.{holders}
 use Rattle.types.specs.Memberships.{members, memberships, Within, members-none, memberships-same, memberships-by}
@@ -20,12 +18,12 @@ use Rattle.principal.specs.Plain.{holders-none}
 use Rattle.principal.specs.Principal.{FilledTyping}
 use Rattle.stored_formula.specs.FormulaBytes.{allowedBit}
 use Rattle.schema.specs.Schema.{assignmentOf}
-use Rattle.set_cover.specs.Choice.{weight, weight-total, NotAbove}
+use Rattle.set_cover.specs.Choice.{weight-total, NotAbove}
 use Rattle.set_cover.specs.Cheapest.{best-right}
 use Rattle.set_cover.specs.BestLaws.{best-rises}
 use Rattle.set_cover.specs.Assignments.{unlessEmpty, ordinarySubsets, lastSubsets, subsetList, ordinary-none, ordinary-more, last-ordinary, last-more, list-last, schema-fewest, schema-lowest}
 use Rattle.verdict_answer.specs.Witness.{costIn, choiceIn, witnessRecords}
-use Rattle.verdict_answer.specs.WitnessLaws.{Variables, IsChoice}
+use Rattle.verdict_answer.specs.WitnessLaws.{Variables}
 use Rattle.verdict_answer.specs.Verdict.{untypableIn}
 use Rattle.verdict_answer.specs.VerdictLaws.{typable-parts}
 use Rattle.verdict_theorems.specs.WitnessLaws.{typing-allowed, is-choice, witness-holders, holders-zero, witness-within}

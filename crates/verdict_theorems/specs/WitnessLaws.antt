@@ -2,8 +2,8 @@
 -- types it, and the witness is a filled schema that types it.
 use Prim.Native.Nat.{ℕ, zero, suc, _+_, _-_, _^_, _≤_, _<_}
 use mathlib.Core.Path.{_≡_, refl, sym, ap, ap₂, _∙_}
-use mathlib.Core.Logic.{_↔_, _⊎_, inl, inr, ∥∥₁-elim}
-use mathlib.Core.Bool.{Bool, true, false}
+use mathlib.Core.Logic.{_↔_, ∥∥₁-elim}
+use mathlib.Core.Bool.{true, false}
 use mathlib.Core.List.{List, [], _∷_}
 use native.Mathlib.Nat.{lt-of-lt-of-le}
 use native.Mathlib.Decide.{decLt}
@@ -12,7 +12,7 @@ use lib.Arith.{lt-of-le-ne}
 use lib.Dec.{ltb}
 use borrow.Author.Tests.{eqb-true, eqb-false, ltb-true}
 use lib.ListN.{length, getD, drop, length-drop, List·getD-eq-default}
-use lib.Pow.{pow-mono, pow-pos, ones-lt}
+use lib.Pow.{pow-mono, ones-lt}
 use lib.Seq.{getD-drop}
 use Rattle.bits.specs.Bit.{bit, bit-none}
 use Rattle.bits.specs.Booleans.{and-left, and-right}
@@ -20,8 +20,8 @@ use Rattle.bits.specs.Word.{Bytes}
 use Rattle.bits.specs.Truth.{by-true, by-false}
 use Rattle.attribute_set.specs.AttrSet.{special}
 use Rattle.attribute_set.specs.Laws.{special-in, special-zero, special-above}
-use Rattle.types.specs.Types.{Attrs, IsType, Assignment, Filled, column, holders}
-use Rattle.types.specs.Laws.{finite-by, column-of-special, column-of-other, holders-below}
+use Rattle.types.specs.Types.{Attrs, IsType, Filled, column, holders}
+use Rattle.types.specs.Laws.{finite-by, column-of-special, column-of-other}
 use Rattle.types.specs.Memberships.{Within, within-some}
 use Rattle.algebra.specs.Expression.{Expression, Legal}
 use Rattle.algebra.specs.Rules.{Typed}
@@ -55,7 +55,6 @@ use Rattle.set_cover.specs.Assignments.{Allowed, schema-none}
 use Rattle.verdict_answer.specs.First.{firstIn, blockedIn}
 use Rattle.verdict_answer.specs.FewestLaws.{fewest-in}
 use Rattle.verdict_answer.specs.FirstLaws.{blocked-lowest}
-use Rattle.verdict_answer.specs.Formed.{cells-formed}
 use Rattle.verdict_answer.specs.Witness.{costIn, choiceIn, specialsOf, ordinariesOf, witnessRecords, witnessBytes}
 use Rattle.verdict_answer.specs.WitnessLaws.{Variables, IsChoice, witness-bytes, specials-at, choice-table, ordinaries-holders}
 use Rattle.verdict_answer.specs.Verdict.{untypableIn}

@@ -1,8 +1,7 @@
-use Prim.Native.Nat.{_+_, _-_, _*_, _≤_, _<_}
-use mathlib.Core.Path.{_≡_, refl, sym, ap, _∙_}
+use Prim.Native.Nat.{_-_}
+use mathlib.Core.Path.{refl, ap}
 use mathlib.Core.List.{List}
 use native.Mathlib.Omega.{arith}
-use lib.ListN.{length, length-replicate}
 use Rattle.column.specs.Column.{allowedIn}
 use Rattle.verdict_answer.specs.First.{allowedAt}
 use Rattle.cover_table.specs.Table.{table-byte}

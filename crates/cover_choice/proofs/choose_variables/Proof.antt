@@ -1,10 +1,9 @@
-use Prim.Native.Nat.{ℕ, _+_, _-_, _*_, _≤_, _<_}
+use Prim.Native.Nat.{ℕ, _-_, _≤_}
 use mathlib.Core.Path.{_≡_, refl, sym, ap, _∙_}
 use mathlib.Core.List.{List}
 use native.Mathlib.Omega.{arith}
 use native.Mathlib.Nat.{eq-zero-or-pos}
 use mathlib.Core.Logic.{⊎-elim}
-use lib.ListN.{length}
 use Rattle.column.specs.Column.{allowedIn}
 use Rattle.verdict_answer.specs.First.{allowedAt}
 use Rattle.cover_choice.specs.Variables.{Numbering, numbering-first, numbering-next, numbering-ended, room, variable-below}

@@ -1,5 +1,5 @@
 use Prim.Native.Nat.{_-_, _*_}
-use mathlib.Core.Path.{_≡_, refl, sym, _∙_}
+use mathlib.Core.Path.{_≡_, refl}
 use native.Mathlib.Omega.{arith}
 use lib.ListN.{length}
 use Rattle.cover_rows.specs.Tried.{Reached, Before, reached-none, reached-past, reached-all}

@@ -1,7 +1,6 @@
 use mathlib.Core.Path.{sym, ap}
 use mathlib.Core.Bool.{Bool, cond}
 use borrow.Author.Tests.{eq-eqb, ne-eqb}
-use borrow.Author.Needs.{needs}
 use Rattle.cover_table.proofs.alike.difference as fn
 use fn.Statement.{statement}
 use fn.Tie as tie

@@ -1,8 +1,6 @@
-use Prim.Native.Nat.{_+_, _-_, _*_, _^_, _≤_, _<_}
-use mathlib.Core.Path.{_≡_, sym, ap, _∙_}
+use Prim.Native.Nat.{_-_}
 use native.Mathlib.Omega.{arith}
 use lib.Pow.{pow-mono, ones-lt}
-use Rattle.verdict_answer.specs.First.{allowedAt}
 use Rattle.cover_table.specs.Table.{whole-cost}
 use borrow.Author.Needs.{needs}
 use Rattle.cover_table.proofs.table.fill_costs as fn

@@ -1,8 +1,7 @@
-use Prim.Native.Nat.{_*_, _%_, _^_}
-use mathlib.Core.Path.{ap, _∙_}
-use native.Mathlib.Nat.{mod-eq-of-lt, one-mul, lt-of-le-of-lt}
+use Prim.Native.Nat.{_^_}
+use mathlib.Core.Path.{_∙_}
+use native.Mathlib.Nat.{mod-eq-of-lt, one-mul}
 use native.Mathlib.Omega.{arith}
-use lib.Dec.{lit<}
 use lib.Pow.{pow-mono}
 use borrow.Author.Needs.{needs}
 use Rattle.cover_table.proofs.table.subset_count as fn

@@ -1,6 +1,5 @@
 use Prim.Native.Nat.{_^_}
-use mathlib.Core.Path.{refl, sym, _∙_}
-use native.Mathlib.Nat.{lt-of-lt-of-le}
+use mathlib.Core.Path.{refl}
 use lib.Pow.{pow-mono, pow-pos}
 use Rattle.verdict_answer.specs.First.{allowedAt}
 use Rattle.verdict_answer.specs.WitnessLaws.{specials-none, specials-size}
