@@ -1,14 +1,14 @@
 #!/bin/sh
-# Prints the instructions of one call of each operation and its alternatives as a markdown
-# table, and those of the engine and of the hand-written code as nodes double and as the text of
-# a query doubles. Sizes are those of the benchmark: a number of nodes, so many with an untypable
-# last node, relations that the fewest subsets fill (fewest) or that others must be sought for
-# (coverofthree, coverofeight, coverofdense), 64 nodes of which most are unions (64unionsofeight, 64unionsofone), or 64 nodes with
-# 255 ordinary attributes in three lists (64x255) or with one in each list (64x255each); of a query
-# a number of bytes, E1 (24), 63 prefixes (191deep), or lists of 15 attributes (512lists). Each is
-# counted by callgrind for two numbers of calls; the difference divided by that of the calls leaves
-# out what comes before them. A copy by one repeated instruction counts as an instruction for each
-# byte.
+# Prints the instructions of one call of each operation and its alternatives as a markdown table,
+# and those of the engine and of the hand-written code as nodes double and as the text of a query
+# doubles. Sizes are those of the benchmark: a number of nodes, so many with an untypable last
+# node, relations that the fewest subsets fill (fewest) or that others must be sought for
+# (coverofthree, coverofeight, coverofdense), 64 nodes of which most are unions (64unionsofeight,
+# 64unionsofone), or 64 nodes with 255 ordinary attributes in three lists (64x255) or with one in
+# each list (64x255each); of a query a number of bytes, E1 (24), 63 prefixes (191deep), or lists
+# of 15 attributes (512lists). Each is counted by callgrind for two numbers of calls; the
+# difference divided by that of the calls leaves out what comes before them. A copy by one
+# repeated instruction counts as an instruction for each byte.
 set -eu
 cd "$(dirname "$0")"
 few=5 many=25

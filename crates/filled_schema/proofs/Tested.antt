@@ -8,9 +8,8 @@ use lib.ListN.{take, replicate}
 use Rattle.bits.specs.Word.{Bytes}
 use Rattle.refusal.specs.declared.Refusal.{Refusal}
 use Rattle.refusal.specs.declared.Refusal.the-variants.{EmptyRecord}
-use Rattle.schema.specs.Schema.{refusedSchema, schemaReading, readingOf, EntriesStand, WritesFrom}
-use Rattle.schema.specs.EntriesLaws.{maps-none}
-use Rattle.schema.specs.TableLaws.{schema-read, handed-on, read-table}
+use Rattle.schema.specs.Schema.{schemaReading, readingOf, EntriesStand, WritesFrom}
+use Rattle.schema.specs.TableLaws.{schema-read, handed-on, refused-reading, read-table}
 use Rattle.schema.specs.declared.reading.Judgement.{Judgement}
 use Rattle.schema.specs.declared.reading.Judgement.the-variants.{Read, Refused}
 use Rattle.schema.specs.declared.reading.SchemaReading.{SchemaReading}
@@ -60,9 +59,8 @@ module _ (m : ℕ) (bytes items : List ℕ) (x : SchemaReading) (is : x ≡ read
         → t ≡ tableFilled m (x .special) (take (x .count) items)
         → (record { judgement = Refused EmptyRecord; special = replicate 8 0; count = 0 } ≡ readingOf (filledReading m bytes))
         × EntriesStand (Refused EmptyRecord) (filledReading m bytes .entries) items
-    unfolding refusedSchema readingOf
     tested-empty t fails t-is = (
-      ap (λ (s : List ℕ). record { judgement = Refused EmptyRecord; special = s; count = 0 }) (sym maps-none)
+      sym (refused-reading EmptyRecord)
           ∙ ap readingOf (sym (read-empty m bytes (judged said) (sym test-is ∙ sym t-is ∙ fails))),
       never EmptyRecord (filledReading m bytes .entries) items,
     )

@@ -14,15 +14,11 @@ use Rattle.refusal.specs.Several.{severalRead as recordsRead}
 use Rattle.type_record.specs.Record.{TypeRecord}
 use Rattle.schema.specs.Schema.{Schema, readRecords, noRecord, entriesOf, mapsOf, refusedSchema, schemaReading}
 use Rattle.schema.specs.RecordsLaws.{AllRecords, records-read}
-use Rattle.schema.specs.TableLaws.{ReadSchema, schema-read, read-schema, read-entries}
+use Rattle.schema.specs.TableLaws.{ReadSchema, refused-judged, refused-not, schema-read, read-schema, read-entries}
 use Rattle.schema.specs.declared.reading.Judgement.{Judgement}
 use Rattle.schema.specs.declared.reading.Judgement.the-variants.{Read, Refused}
 use Rattle.filled_schema.specs.FilledSchema.{tableFilled, unlessEmpty, filledReading}
 use Rattle.filled_schema.specs.FilledRecords.{none-empty, some-empty}
-
-refused-not : (r : Refusal) → refusedSchema r .judgement ≡ Read → ⊥
-unfolding refusedSchema
-refused-not r e = let z : _≡_ {A = ℕ} 0 1 = cc in omega arith
 
 module _ (m : ℕ) (bytes : List ℕ) where
   -- the reading without 25
@@ -91,7 +87,6 @@ pub empty-record :
     → Bytes bytes
     → ReadSchema m bytes (schemaReading m bytes) ts
     → (filledReading m bytes .judgement ≡ Refused EmptyRecord) ↔ ((r : ℕ) × ((r < m) × (getD ts r noRecord ≡ noRecord)))
-unfolding refusedSchema
 empty-record m bytes ts few below r = (λ said. found said (readFilled m bytes) refl, said)
   where
     judged : schemaReading m bytes .judgement ≡ Read
@@ -109,4 +104,4 @@ empty-record m bytes ts few below r = (λ said. found said (readFilled m bytes) 
     said : (r : ℕ) × ((r < m) × (getD ts r noRecord ≡ noRecord)) → filledReading m bytes .judgement ≡ Refused EmptyRecord
     said (q, (less, none)) =
         let fails = is-false (tableFilled m (mapsOf ts) (entriesOf ts)) (λ h. none-empty m few ts (records .0) (records .1) .0 h q less none) in
-        ap (λ (x : Schema). x .judgement) (read-empty m bytes judged (records-filled m bytes ts r ∙ fails))
+        ap (λ (x : Schema). x .judgement) (read-empty m bytes judged (records-filled m bytes ts r ∙ fails)) ∙ refused-judged EmptyRecord

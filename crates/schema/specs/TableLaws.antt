@@ -7,7 +7,7 @@ use native.Mathlib.Decide.{decLt}
 use native.Mathlib.Omega.{arith}
 use borrow.Author.Tests.{le-ltb, ltb-false}
 use lib.Dec.{ltb}
-use lib.ListN.{length, getD, take, List·getD-eq-default}
+use lib.ListN.{length, getD, take, replicate, List·getD-eq-default}
 use Rattle.bits.specs.Tab.{tab, length-tab, getD-tab}
 use Rattle.bits.specs.Word.{Bytes}
 use Rattle.refusal.specs.declared.Refusal.{Refusal}
@@ -17,8 +17,8 @@ use Rattle.type_record.specs.Record.{TypeRecord}
 use Rattle.membership.specs.TableLaws.{items-stand}
 use Rattle.schema.specs.Schema.{Schema, Records, readRecords, noRecord, entriesOf, mapsOf, refusedSchema, tabled, schemaReading, readingOf, WritesFrom}
 use Rattle.schema.specs.RecordsLaws.{AllRecords, records-read}
-use Rattle.schema.specs.EntriesLaws.{entries-below}
-use Rattle.schema.specs.declared.reading.Judgement.the-variants.{Read}
+use Rattle.schema.specs.EntriesLaws.{entries-below, maps-none}
+use Rattle.schema.specs.declared.reading.Judgement.the-variants.{Read, Refused}
 use Rattle.schema.specs.declared.reading.SchemaReading.{SchemaReading}
 
 -- a schema of m relations that was read from these bytes, with its records
@@ -27,7 +27,12 @@ pub record ReadSchema (m : ℕ) (bytes : List ℕ) (s : Schema) (records : List 
   pub few : length (entriesOf records) ≤ 255
   pub is : s ≡ record { judgement = Read; special = mapsOf records; entries = entriesOf records }
 
-refused-not : (r : Refusal) → refusedSchema r .judgement ≡ Read → ⊥
+-- a refused one
+pub refused-judged : (r : Refusal) → refusedSchema r .judgement ≡ Refused r
+unfolding refusedSchema
+refused-judged r = refl
+
+pub refused-not : (r : Refusal) → refusedSchema r .judgement ≡ Read → ⊥
 unfolding refusedSchema
 refused-not r e = let z : _≡_ {A = ℕ} 0 1 = cc in omega arith
 
@@ -71,6 +76,11 @@ handed-on s x is =
       special = ap (λ (y : SchemaReading). y .special) is;
       count = ap (λ (y : SchemaReading). y .count) is;
     }
+
+-- and of a refused one
+pub refused-reading : (r : Refusal) → readingOf (refusedSchema r) ≡ record { judgement = Refused r; special = replicate 8 0; count = 0 }
+unfolding readingOf refusedSchema
+refused-reading r = ap (λ (s : List ℕ). record { judgement = Refused r; special = s; count = 0 }) maps-none
 
 -- ---- what stands in its table
 
