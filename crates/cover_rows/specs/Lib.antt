@@ -1,4 +1,5 @@
 pub mod Rows
 pub mod Blocks
+pub mod LowEntries
 pub mod Tried
 pub mod Holding

@@ -18,7 +18,8 @@ use Rattle.column.specs.Column.{allowedIn}
 use Rattle.set_cover.specs.Remainder.{rest}
 use Rattle.set_cover.specs.Least.{infinity, least, least-most, least-of, least-over}
 use Rattle.cover_rows.specs.Rows.{priceIn, costRow, price-allowed, price-forbidden}
-use Rattle.cover_rows.specs.Blocks.{withoutHigh, lowEntry, high-least, both-parts, loweredRow}
+use Rattle.cover_rows.specs.Blocks.{withoutHigh, high-least, both-parts, loweredRow}
+use Rattle.cover_rows.specs.LowEntries.{lowEntry}
 
 -- each entry below the limit is at least the least price, at most infinity, and at most the price of each subset tried;
 -- the others are infinity

@@ -7,8 +7,9 @@ ghost use lib.ListN.{length, getD};
 ghost use Rattle.bits.specs.Written.{Written};
 ghost use Rattle.set_cover.specs.Least.{infinity};
 ghost use Rattle.cover_rows.specs.Rows.{Costs, costRow};
-ghost use Rattle.cover_rows.specs.Blocks.{Lowered, lowEntry, loweredRow};
+ghost use Rattle.cover_rows.specs.Blocks.{WrittenAt, loweredEntry, loweredRow};
 ghost use Rattle.cover_rows.specs.Tried.{Reached, Before, NoneAllowed};
+use crate::low::low_entries;
 use column::allowed_in;
 
 fn lesser(a: u8, b: u8) -> u8
@@ -39,22 +40,10 @@ fn allows_low(column: &[u8; 64], low: u8, count: u16) -> bool
     false
 }
 
-// Writes the row at what remains of each need without the first four relations of a subset.
-fn low_entries(table: &mut [u8; 256], next: &[u8; 256], low: u8, limit: u16)
-    requires { ⌜ (low < 16) × (limit ≤ 256) × (length (now table) ≡ 256) ⌝ }
-    ensures { λ _. ⌜ Written (lowEntry (now (next .entry)) low) limit (now (table .entry)) (now (table .exit)) ⌝ }
-{
-    let mut x = 0u16;
-    while x < limit {
-        table[x as usize] = next[((x as u8) & !low) as usize];
-        x += 1;
-    }
-}
-
 // Sixteen entries are lowered to those of the table and so many members.
 fn lower_block(row: &mut [u8; 256], to: usize, table: &[u8; 256], from: usize, members: u8)
     requires { ⌜ (to ≤ 240) × (from ≤ 240) × (members ≤ 8) × (length (now row) ≡ 256) × ((i : ℕ) → i < 16 → getD (now table) (from + i) 0 ≤ infinity) ⌝ }
-    ensures { λ _. ⌜ Lowered (now (row .entry)) (now (table .entry)) to from members 16 (now (row .exit)) ⌝ }
+    ensures { λ _. ⌜ WrittenAt (loweredEntry (now (row .entry)) (now (table .entry)) to from members) to 16 (now (row .entry)) (now (row .exit)) ⌝ }
 {
     let mut n = 0usize;
     while n < 16 {
@@ -93,7 +82,7 @@ fn try_low(
     ensures { λ _. ⌜ Reached (now (column .entry)) (now (next .entry)) (blocks * 16) count (Before (low + 1)) (now (row .exit)) ⌝ }
     ensures { λ _. ⌜ length (now (table .exit)) ≡ 256 ⌝ }
 {
-    low_entries(table, next, low, blocks as u16 * 16);
+    low_entries(table, next, low, blocks);
     let mut s = low as u16;
     while s < count {
         if allowed_in(column, s as usize) {

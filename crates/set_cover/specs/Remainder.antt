@@ -1,12 +1,12 @@
 -- The relations that still need an attribute once those of a subset have one.
 use Prim.Native.Nat.{ℕ, _-_, _≤_, _<_}
 use mathlib.Core.Path.{_≡_, refl, sym, ap, _∙_}
-use mathlib.Core.Bool.{Bool, true, false, not, _&&_}
+use mathlib.Core.Bool.{Bool, true, false, not, _&&_, _||_}
 use mathlib.Core.Logic.{_⊎_, inl, inr}
 use native.Mathlib.Nat.{mod-eq-of-lt}
 use native.Mathlib.Omega.{arith}
-use lib.Bits.{bitAnd, and-le-l, and-mask}
-use Rattle.bits.specs.Bit.{bit, bit-and, bit-not}
+use lib.Bits.{bitAnd, bitOr, and-le-l, and-mask, or-lt}
+use Rattle.bits.specs.Bit.{bit, bit-and, bit-or, bit-not}
 use Rattle.bits.specs.Booleans.{and-left}
 use Rattle.bits.specs.Pack.{bits-once}
 use Rattle.types.specs.Memberships.{members, members-fewer}
@@ -31,6 +31,24 @@ rest-none need h = and-mask need 8 ∙ mod-eq-of-lt h
 pub rest-bit : (need s j : ℕ) → s < 256 → j < 8 → bit (rest need s) j ≡ bit need j && not (bit s j)
 unfolding rest
 rest-bit need s j hs hj = bit-and need (255 - s) j ∙ ap (λ (b : Bool). bit need j && b) (bit-not 8 s j hs hj)
+
+both : (n a b : Bool) → (n && not a) && not b ≡ n && not (a || b)
+both true true b = refl
+both true false b = refl
+both false a b = refl
+
+-- one subset and then another leave what both together leave
+pub rest-union : (need a b : ℕ) → need < 256 → a < 256 → b < 256 → rest (rest need a) b ≡ rest need (bitOr a b)
+rest-union need a b h ha hb =
+    let la = rest-least need a in
+    let lab = rest-least (rest need a) b in
+    let lor = rest-least need (bitOr a b) in
+    bits-once 8 _ _ (omega arith) (omega arith)
+    (λ j l.
+    rest-bit (rest need a) b j hb l
+    ∙ ap (λ (x : Bool). x && not (bit b j)) (rest-bit need a j ha l)
+    ∙ both (bit need j) (bit a j) (bit b j)
+    ∙ sym (rest-bit need (bitOr a b) j (or-lt 8 a b ha hb) l ∙ ap (λ (x : Bool). bit need j && not x) (bit-or a b j)))
 
 swap : (n a b : Bool) → (n && a) && b ≡ (n && b) && a
 swap true true true = refl

@@ -4,7 +4,7 @@ use native.Mathlib.Omega.{arith}
 use lib.Bits.{and-le-l}
 use lib.ListN.{length}
 use Rattle.bits.specs.Written.{Written, written-none}
-use Rattle.cover_rows.specs.Blocks.{loweredRow, block-and, block-more}
+use Rattle.cover_rows.specs.Blocks.{loweredRow, lowered-block}
 use borrow.Author.Needs.{needs}
 use Rattle.cover_rows.proofs.rows.lower_row as fn
 use fn.Statement.{statement}
@@ -36,7 +36,7 @@ loop-again c =
     let below = c.before.before.loop-test.taken in (
       omega arith,
       c.lower-block.ensures.size ∙ loop.inv.1,
-      block-more args.row.now args.table.now args.high args.members loop.h loop.row c.lower-block.last.0 loop.inv.2 (rw (block-and loop.h (15 - args.high)) at c.lower-block.ensures),
+      lowered-block args.row.now args.table.now args.high args.members loop.h loop.row c.lower-block.last.0 loop.inv.2 c.lower-block.ensures,
     )
 
 returns : tie.Need-returns Inv μ

@@ -3,7 +3,7 @@ use mathlib.Core.Path.{_≡_, sym, _∙_}
 use native.Mathlib.Omega.{arith}
 use Rattle.types.specs.Memberships.{members-ones, ones-most}
 use Rattle.set_cover.specs.Remainder.{rest}
-use Rattle.cover_rows.specs.Blocks.{low-entry}
+use Rattle.cover_rows.specs.LowEntries.{low-entry}
 use Rattle.cover_rows.specs.Tried.{Reached, Through, reached-start, reached-more, reached-skip, reached-end}
 use borrow.Author.Needs.{needs}
 use Rattle.cover_rows.proofs.rows.try_low as fn
@@ -17,7 +17,7 @@ abbrev μ : tie.MeasureT-loop
 μ row₀ table column next low blocks count s₀ row s = 272 - s
 
 low-entries-requires : tie.Need-low-entries-requires Inv μ
-low-entries-requires c κs = let pre = c.before.pre in (pre.0.0, omega arith, pre.0.4)
+low-entries-requires c κs = let pre = c.before.pre in (pre.0.0, pre.0.1, pre.0.4)
 
 loop-holds : tie.Need-loop-holds Inv μ
 loop-holds c = let pre = c.before.before.pre in (omega arith, omega arith, reached-start (omega arith) pre.0.2 c.before.before.args.low pre.1)
@@ -65,6 +65,6 @@ returns c =
 
 pub try-low-spec : {M : Type 1} → statement M
 try-low-spec =
-    tie.close (tie.spec Inv μ (λ c. search needs) low-entries-requires loop-holds (λ c. search needs)
+    tie.close (tie.spec Inv μ low-entries-requires loop-holds (λ c. search needs)
     (λ c κs. search needs) (λ c. search needs) cast-members-2 (λ c. search needs) lower-row-requires
     (λ c. search needs) (λ c. search needs) loop-again (λ c. search needs) (λ c. search needs) loop-again-2 returns)
