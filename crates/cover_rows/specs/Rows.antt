@@ -19,6 +19,10 @@ use Rattle.set_cover.specs.Cheapest.{price-ok, price-not}
 abbrev pub Costs : List ℕ → Type 0
 Costs row = (x : ℕ) → getD row x 0 ≤ infinity
 
+-- none up to this one is
+abbrev pub CostsUpTo : ℕ → List ℕ → Type 0
+CostsUpTo need row = (x : ℕ) → x ≤ need → getD row x 0 ≤ infinity
+
 -- what subset s of a column costs where the relations of `need` lack an attribute; `next` has what the others then cost
 unfoldable pub priceIn : List ℕ → List ℕ → ℕ → ℕ → ℕ
 priceIn column next need s = price (allowedIn column) (λ x. getD next x 0) need s

@@ -6,18 +6,7 @@ ghost use lib.ListN.{length};
 ghost use Rattle.bits.specs.Written.{Written};
 ghost use Rattle.cover_rows.specs.Blocks.{WrittenAt};
 ghost use Rattle.cover_rows.specs.LowEntries.{lowEntry, droppedEntry, heldPart};
-
-// Copies so many entries.
-fn copy_entries(table: &mut [u8; 256], row: &[u8; 256], limit: u16)
-    requires { ⌜ (limit ≤ 256) × (length (now table) ≡ 256) ⌝ }
-    ensures { λ _. ⌜ Written (lowEntry (now (row .entry)) 0) limit (now (table .entry)) (now (table .exit)) ⌝ }
-{
-    let mut x = 0u16;
-    while x < limit {
-        table[x as usize] = row[x as usize];
-        x += 1;
-    }
-}
+use copying::copy_bytes;
 
 // Block h: each entry becomes the one at what remains of its need without the relation, one of the first four.
 fn drop_in_block(table: &mut [u8; 256], h: u8, relation: u8)
@@ -60,7 +49,7 @@ pub fn low_entries(table: &mut [u8; 256], row: &[u8; 256], low: u8, blocks: u8)
     requires { ⌜ (low < 16) × (blocks ≤ 16) × (length (now table) ≡ 256) ⌝ }
     ensures { λ _. ⌜ Written (lowEntry (now (row .entry)) low) (blocks * 16) (now (table .entry)) (now (table .exit)) ⌝ }
 {
-    copy_entries(table, row, blocks as u16 * 16);
+    copy_bytes(table, 0, row, blocks as usize * 16);
     drop_held(table, low, 1, blocks);
     drop_held(table, low, 2, blocks);
     drop_held(table, low, 4, blocks);

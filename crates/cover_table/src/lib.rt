@@ -1,8 +1,8 @@
 // The table of costs: what it costs to fill each set of relations, off the work space (FORMAT 7.26).
 mod alike;
-mod storage;
 mod table;
 
-pub use storage::read_row;
+pub use table::all_relations;
 pub use table::fill_costs;
+pub use table::row_width;
 pub use table::subset_count;

@@ -1,6 +1,6 @@
 // Whether a node is untypable: whether no assignment that fills its relations types it (FORMAT 7.15).
 ghost use mathlib.Core.Path.{_≡_};
-ghost use Prim.Native.Nat.{_+_, _-_, _*_, _^_, _≤_};
+ghost use Prim.Native.Nat.{_+_, _*_, _≤_};
 ghost use lib.Dec.{leb};
 ghost use lib.ListN.{length};
 ghost use Rattle.set_cover.specs.Least.{infinity};
@@ -9,17 +9,10 @@ ghost use Rattle.verdict_answer.specs.Formed.{Formed};
 ghost use Rattle.verdict_answer.specs.Witness.{costIn};
 ghost use Rattle.listing_lines.specs.Text.{untypableBy};
 ghost use Rattle.admission.specs.Admission.{formulaSize};
+use cover_table::all_relations;
 use cover_table::fill_costs;
 use first_subsets::first_subsets;
 use first_subsets::uncovered_relations;
-
-// The subset of all m relations.
-fn all_relations(m: u8) -> u8
-    requires { ⌜ m ≤ 8 ⌝ }
-    ensures { λ r. ⌜ r ≡ 2 ^ m - 1 ⌝ }
-{
-    ((1u16 << m) - 1) as u8
-}
 
 // Whether the relations of a node cannot all be filled, by the table of costs.
 fn cannot_fill(work: &[u8], m: u8, node: u8) -> bool

@@ -6,6 +6,7 @@ ghost use lib.Seq.{paste};
 ghost use Rattle.stored_formula.specs.ColumnPlace.{columnAt};
 ghost use Rattle.admission.specs.Admission.{formulaSize};
 use admission::FORMULA_SIZE;
+use copying::copy_bytes;
 
 // Column c of a node (FORMAT 3.3, 3.4).
 pub fn read_column(work: &[u8], node: u8, c: u8) -> [u8; 64]
@@ -14,11 +15,7 @@ pub fn read_column(work: &[u8], node: u8, c: u8) -> [u8; 64]
 {
     let at = node as usize * FORMULA_SIZE + c as usize * 64;
     let mut column = [0u8; 64];
-    let mut i = 0;
-    while i < 64 {
-        column[i] = work[at + i];
-        i += 1;
-    }
+    copy_bytes(&mut column, 0, &work[at..], 64);
     column
 }
 
@@ -27,10 +24,5 @@ pub fn write_column(part: &mut [u8], c: u8, column: [u8; 64])
     requires { ⌜ c * 64 + 64 ≤ length (now part) ⌝ }
     ensures { λ _. ⌜ now (part .exit) ≡ paste (now (part .entry)) (c * 64) column 64 ⌝ }
 {
-    let at = c as usize * 64;
-    let mut i = 0;
-    while i < 64 {
-        part[at + i] = column[i];
-        i += 1;
-    }
+    copy_bytes(part, c as usize * 64, &column, 64);
 }

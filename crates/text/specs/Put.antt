@@ -5,8 +5,8 @@ use mathlib.Core.List.{List, [], _∷_, _++_, append-assoc}
 use native.Mathlib.Nat.{add-assoc, add-zero, zero-add}
 use native.Mathlib.Numerals.{add-one}
 use native.Mathlib.Omega.{arith}
-use lib.ListN.{length, getD, take, drop, set, length-append, length-drop, take-append-drop}
-use lib.Seq.{length-take-le, take-at, drop-drop, take-suc, set-split, drop-append-add}
+use lib.ListN.{length, take, drop, set, length-append, length-drop, take-append-drop}
+use lib.Seq.{paste, length-take-le, take-length, take-at, drop-drop, set-split, drop-append-add}
 use Rattle.bits.specs.Tab.{over, over-with}
 
 -- the bytes from place `at` on, and the rest as it was
@@ -93,16 +93,12 @@ wrote-two {at} {a} b c u v = wrote-as (sym (append-assoc a b c)) (wrote-more u v
 pub wrote-front : {bytes old now : List ℕ} {end : ℕ} → Wrote 0 bytes old now end → (now ≡ over bytes old) × (end ≡ length bytes)
 wrote-front {bytes} {old} u = let e = u .end-is in (u .now-is ∙ put-front bytes old, omega arith)
 
--- a copy of a list, element by element
-pub wrote-next :
-    (at i : ℕ) (bytes old now : List ℕ)
-    → i < length bytes
-    → at + i < length old
-    → Wrote at (take i bytes) old now (at + i)
-    → Wrote at (take (i + 1) bytes) old (set now (at + i) (getD bytes i 0)) (at + (i + 1))
-wrote-next at i bytes old now h k u =
-    let size = u .size in
-    let one = wrote-byte (at + i) (getD bytes i 0) now (omega arith) in
-    let both = wrote-more u one in
-    let last : at + i + 1 ≡ at + (i + 1) = omega arith in
-    rw (add-one i, take-suc bytes i 0 h, ← add-one i, ← last) both
+-- a copy of a list
+pub wrote-copied : (at : ℕ) (bytes old now : List ℕ) → at + length bytes ≤ length old → now ≡ paste old at bytes (length bytes) → Wrote at bytes old now (at + length bytes)
+unfolding put
+wrote-copied at bytes old now h copied =
+    let is : now ≡ put at bytes old =
+    copied
+    ∙ ap (λ (s : List ℕ). (take at old ++ s) ++ drop (at + length bytes) old) (take-length bytes)
+    ∙ append-assoc (take at old) bytes (drop (at + length bytes) old) in
+    record { end-is = refl; fits = h; size = ap length is ∙ put-length at bytes old h; now-is = is }

@@ -5,6 +5,7 @@ ghost use Prim.Native.Nat.{_+_, _≤_, _<_};
 ghost use lib.ListN.{length};
 ghost use Rattle.text.specs.Put.{Wrote};
 ghost use Rattle.text.specs.Characters.{decimal, hexDigit, subsetText};
+use copying::copy_bytes;
 
 // One byte.
 pub fn write_byte(text: &mut [u8], at: usize, b: u8) -> usize
@@ -20,12 +21,9 @@ pub fn write_bytes(text: &mut [u8], at: usize, bytes: &[u8]) -> usize
     requires { ⌜ at + length (now bytes) ≤ length (now text) ⌝ }
     ensures { λ r. ⌜ Wrote at (now (bytes .entry)) (now (text .entry)) (now (text .exit)) r ⌝ }
 {
-    let mut i = 0;
-    while i < bytes.len() {
-        text[at + i] = bytes[i];
-        i += 1;
-    }
-    at + i
+    let n = bytes.len();
+    copy_bytes(text, at, bytes, n);
+    at + n
 }
 
 // A number below 100, without leading zeros (FORMAT 7.16).

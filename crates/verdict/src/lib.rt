@@ -13,7 +13,7 @@ use crate::witness::searched_verdict;
 use crate::witness::write_witness;
 use admission::admit;
 use admission::with_slice;
-use cover_table::subset_count;
+use cover_table::all_relations;
 use expression_file::Acceptance;
 use filling::fill;
 use first_subsets::count_memberships;
@@ -35,7 +35,7 @@ fn stored_verdict(work: &[u8], m: u8, node: u8, schema: &mut [u8]) -> Outcome
         return Outcome::Untypable(subsets.blocked);
     }
     let chosen = subsets.chosen;
-    if uncovered_relations(&chosen, (subset_count(m) - 1) as u8) == 0 {
+    if uncovered_relations(&chosen, all_relations(m)) == 0 {
         let items = [0u32; 1];
         let size = write_witness(schema, m, &chosen, &items, 0);
         return Outcome::Typable(size, count_memberships(&chosen));

@@ -1,9 +1,8 @@
-use Prim.Native.Nat.{ℕ, _-_, _≤_}
+use Prim.Native.Nat.{ℕ, _≤_}
 use mathlib.Core.Path.{refl, ap, _∙_}
 use mathlib.Core.List.{[]}
 use native.Mathlib.Omega.{arith}
 use lib.ListN.{drop}
-use lib.Pow.{pow-mono, pow-pos, ones-lt}
 use Rattle.set_cover.specs.Choice.{uncovered}
 use Rattle.verdict_answer.specs.VerdictLaws.{stored-blocked, stored-open, first-writes, first-typable}
 use borrow.Author.Needs.{needs}
@@ -13,20 +12,6 @@ use fn.Tie as tie
 
 returns : tie.Need-returns
 returns c = stored-blocked _ _ _ _ c.before.before.first-subsets.ensures c.if1.taken
-
-sub-uncovered-relations : tie.Need-sub-uncovered-relations
-sub-uncovered-relations c =
-    let some = pow-pos c.before.before.before.before.before.before.before.before.args.m in
-    let count = c.subset-count.ensures in
-    omega arith
-
-cast-uncovered-relations : tie.Need-cast-uncovered-relations
-cast-uncovered-relations c =
-    let start = c.before.before.before.before.before.before.before.before in
-    let few = pow-mono {j = 8} start.pre.0.0 in
-    let less = ones-lt start.args.m in
-    let count = c.subset-count.ensures in
-    omega arith
 
 write-witness-requires : tie.Need-write-witness-requires
 write-witness-requires c κs =
@@ -47,7 +32,7 @@ returns-2 c =
     let start = at-if1.before.before.before.before.before in
     let past = at-if1.if1.left in
     let unblocked : 16 ≤ first.result.blocked = omega arith in
-    let left = at-if2.before.uncovered-relations.ensures ∙ ap (λ (n : ℕ). uncovered (n - 1) (drop 1 first.result.chosen)) at-if2.before.before.subset-count.ensures in
+    let left = at-if2.before.uncovered-relations.ensures ∙ ap (λ (n : ℕ). uncovered n (drop 1 first.result.chosen)) at-if2.before.before.all-relations.ensures in
     first-typable _ start.pre.0.0 _ start.pre.1.1 start.args.schema.now first.result first.ensures unblocked _ _ _ [] _ left at-if2.if2.taken refl wrote.ensures.0
     wrote.ensures.1 c.count-memberships.ensures
 
@@ -65,6 +50,5 @@ returns-3 c = c.before.before.searched-verdict.ensures
 
 pub stored-verdict-spec : {M : Type 1} → statement M
 stored-verdict-spec =
-    tie.close (tie.spec (λ c κs. search needs) returns (λ c. search needs) (λ c κs. search needs) sub-uncovered-relations
-    cast-uncovered-relations (λ c κs. search needs) (λ c. search needs) (λ c. search needs) write-witness-requires (λ c. search needs)
+    tie.close (tie.spec (λ c κs. search needs) returns (λ c. search needs) (λ c κs. search needs) (λ c κs. search needs) (λ c. search needs) (λ c. search needs) write-witness-requires (λ c. search needs)
     (λ c κs. search needs) (λ c. search needs) returns-2 searched-verdict-requires (λ c. search needs) returns-3)

@@ -28,13 +28,13 @@ loop-holds c = (omega arith, refl)
 
 returns : tie.Need-returns Inv μ
 returns c =
-    let args = c.before.before.before.before.args in
+    let args = c.before.before.before.before.before.args in
     search-found args.count _ _ (test args.column.now args.next.now args.need args.target) c.before.before.before.loop.inv.1
     c.before.before.loop-test.taken (eq-eqb _ _ (sym c.before.price.ensures ∙ c.if1.taken))
 
 loop-again : tie.Need-loop-again Inv μ
 loop-again c =
-    let args = c.before.before.before.before.args in (
+    let args = c.before.before.before.before.before.args in (
       omega arith,
       search-next args.count _ _ (test args.column.now args.next.now args.need args.target) c.before.before.before.loop.inv.1
           c.before.before.loop-test.taken (ne-eqb _ _ (λ e. c.if1.left (c.before.price.ensures ∙ e))),
@@ -42,7 +42,7 @@ loop-again c =
 
 returns-2 : tie.Need-returns-2 Inv μ
 returns-2 c =
-    let args = c.before.before.args in
+    let args = c.before.before.before.args in
     search-ended args.count _ _ (test args.column.now args.next.now args.need args.target) c.before.loop.inv.1 c.loop-test.left
 
 pub pick-spec : {M : Type 1} → statement M

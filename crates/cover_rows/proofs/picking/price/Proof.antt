@@ -12,24 +12,24 @@ use fn.Statement.{statement}
 use fn.Tie as tie
 
 cast-result : tie.Need-cast-result
-cast-result c = let few = ones-most c.before.before.before.args.s (omega arith) in omega arith
+cast-result c = let args = c.before.before.before.before.args in let few = ones-most args.s (omega arith) in omega arith
 
 cast-result-2 : tie.Need-cast-result-2
-cast-result-2 c = let args = c.before.before.before.args in omega (arith, and-le-l args.need (255 - args.s))
+cast-result-2 c = let args = c.before.before.before.before.args in omega (arith, and-le-l args.need (255 - args.s))
 
-element-copy-out-result : tie.Need-element-copy-out-result
-element-copy-out-result c = let args = c.before.before.before.args in omega (arith, and-le-l args.need (255 - args.s))
+shared-slice-read-result : tie.Need-shared-slice-read-result
+shared-slice-read-result c = let args = c.before.before.before.before.before.args in omega (arith, and-le-l args.need (255 - args.s))
 
 add-result : tie.Need-add-result
 add-result c =
-    let args = c.before.before.before.before.args in
+    let args = c.before.before.before.before.before.args in
     let few = ones-most args.s (omega arith) in
-    let most = c.before.before.before.before.pre (bitAnd args.need (255 - args.s)) in
+    let most = c.before.before.before.before.before.pre.1 (bitAnd args.need (255 - args.s)) (and-le-l args.need (255 - args.s)) in
     omega arith
 
 returns : tie.Need-returns
 returns c =
-    let args = c.before.before.before.before.args in
+    let args = c.before.before.before.before.before.args in
     ap₂ (λ (n x : ℕ). n + getD args.next.now x 0) (members-ones args.s (omega arith)) (sym (rest-and args.need args.s))
     ∙ sym (price-allowed args.column.now args.next.now args.need args.s (sym c.before.before.allowed-in.ensures ∙ c.before.if1.taken))
 
@@ -38,4 +38,4 @@ returns-2 c = sym (price-forbidden _ _ _ _ (sym c.before.allowed-in.ensures ∙ 
 
 pub price-spec : {M : Type 1} → statement M
 price-spec =
-    tie.close (tie.spec (λ c κs. search needs) cast-result cast-result-2 element-copy-out-result add-result returns returns-2)
+    tie.close (tie.spec (λ c κs. search needs) cast-result cast-result-2 shared-slice-read-result add-result returns returns-2)
