@@ -3,7 +3,7 @@
 ghost use mathlib.Core.Path.{_≡_};
 ghost use mathlib.Core.Bool.{false};
 ghost use Prim.Native.Nat.{ℕ, _+_, _*_, _≤_, _<_, min};
-ghost use lib.ListN.{length, getD};
+ghost use lib.ListN.{length, getD, replicate};
 ghost use Rattle.bits.specs.Written.{Written};
 ghost use Rattle.set_cover.specs.Least.{infinity};
 ghost use Rattle.cover_rows.specs.Rows.{Costs, costRow};
@@ -95,22 +95,21 @@ fn try_low(
     }
 }
 
-// What each need below sixteen times `blocks` costs by one of `count` subsets of this column and then as `next` has it.
-pub fn cost_row(column: &[u8; 64], next: &[u8; 256], blocks: u8, count: u16) -> [u8; 256]
-    requires { ⌜ (blocks ≤ 16) × (count ≤ 256) × Costs (now next) ⌝ }
-    ensures { λ r. ⌜ r ≡ costRow (now (column .entry)) (now (next .entry)) (blocks * 16) count ⌝ }
+// Writes what each need below sixteen times `blocks` costs by one of `count` subsets of this column and then as `next`
+// has it. The row begins with infinity everywhere.
+pub fn cost_row(row: &mut [u8; 256], column: &[u8; 64], next: &[u8; 256], blocks: u8, count: u16)
+    requires { ⌜ (blocks ≤ 16) × (count ≤ 256) × Costs (now next) × (now row ≡ replicate 256 infinity) ⌝ }
+    ensures { λ _. ⌜ now (row .exit) ≡ costRow (now (column .entry)) (now (next .entry)) (blocks * 16) count ⌝ }
 {
-    let mut row = [200u8; 256];
     let mut table = [0u8; 256];
     let lows = low_parts(count);
     let mut low = 0u8;
     while low < lows {
         if allows_low(column, low, count) {
-            try_low(&mut row, &mut table, column, next, low, blocks, count);
+            try_low(row, &mut table, column, next, low, blocks, count);
             low += 1;
         } else {
             low += 1;
         }
     }
-    row
 }

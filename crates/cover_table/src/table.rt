@@ -24,7 +24,8 @@ fn variables_row(column: [u8; 64], blocks: u8, count: u16) -> [u8; 256]
     row[0] = 0;
     let mut j = 0u8;
     while j < 8 {
-        let next = cost_row(&column, &row, blocks, count);
+        let mut next = [200u8; 256];
+        cost_row(&mut next, &column, &row, blocks, count);
         if same_bytes(&row, &next, blocks as usize * 16) {
             return row;
         }
@@ -53,7 +54,8 @@ fn fill_table(work: &[u8], node: u8, blocks: u8, count: u16, table: &mut [u8])
             copy_bytes(table, at, &row, width);
             k += 1;
         } else {
-            let next = cost_row(&column, &row, blocks, count);
+            let mut next = [200u8; 256];
+            cost_row(&mut next, &column, &row, blocks, count);
             copy_bytes(table, at, &next, width);
             row = next;
             k += 1;

@@ -9,13 +9,13 @@ use fn.Statement.{statement}
 use fn.Tie as tie
 
 abbrev Inv : tie.InvT-loop
-Inv column next blocks count row₀ table₀ lows low₀ row table low = (length table ≡ 256) × Reached column next (blocks * 16) count (Before low) row
+Inv row₀ column next blocks count table₀ lows low₀ row table low = (length table ≡ 256) × Reached column next (blocks * 16) count (Before low) row
 
 abbrev μ : tie.MeasureT-loop
-μ column next blocks count row₀ table₀ lows low₀ row table low = lows - low
+μ row₀ column next blocks count table₀ lows low₀ row table low = lows - low
 
 loop-holds : tie.Need-loop-holds Inv μ
-loop-holds c = let pre = c.before.pre in (refl, reached-none (omega arith) pre.1)
+loop-holds c = let pre = c.before.pre in (refl, rw (pre.3) (reached-none (omega arith) pre.1))
 
 allows-low-requires : tie.Need-allows-low-requires Inv μ
 allows-low-requires c κs =

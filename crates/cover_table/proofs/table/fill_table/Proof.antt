@@ -71,28 +71,31 @@ loop-again c =
     (omega arith, c.before.before.copy-bytes2.kept.0 ∙ loop.inv.1, next.0, next.1)
 
 cost-row-requires : tie.Need-cost-row-requires Inv μ
-cost-row-requires c κs = let pre = c.before.before.before.before.before.before.before.before.before.before.before.before.before.before.before.before.before.before.pre in (pre.1.0, omega arith, c.before.before.before.before.before.before.before.before.loop.inv.3.costs)
+cost-row-requires c κs = let pre = c.before.before.before.before.before.before.before.before.before.before.before.before.before.before.before.before.before.before.before.pre in (pre.1.0, omega arith, c.before.before.before.before.before.before.before.before.before.loop.inv.3.costs, refl)
+
+slice-aggregate-copy-bytes-3 : tie.Need-slice-aggregate-copy-bytes-3 Inv μ
+slice-aggregate-copy-bytes-3 c = sym (rw (c.before.before.cost-row.ensures) (row-length _ _ _ _))
 
 copy-bytes-requires-3 : tie.Need-copy-bytes-requires-3 Inv μ
 copy-bytes-requires-3 c κs =
-    let loop = c.before.before.before.before.before.before.before.before.before.before.before.loop in
-    let below = c.before.before.before.before.before.before.before.before.before.before.loop-test.taken in
-    let most = row-fits (loop.k + 1) (c.before.before.before.before.before.before.before.before.before.before.before.before.before.before.before.before.before.before.before.before.before.args.blocks * 16) (omega arith) in
-    let pre = c.before.before.before.before.before.before.before.before.before.before.before.before.before.before.before.before.before.before.before.before.before.pre in
+    let loop = c.before.before.before.before.before.before.before.before.before.before.before.before.loop in
+    let below = c.before.before.before.before.before.before.before.before.before.before.before.loop-test.taken in
+    let most = row-fits (loop.k + 1) (c.before.before.before.before.before.before.before.before.before.before.before.before.before.before.before.before.before.before.before.before.before.before.args.blocks * 16) (omega arith) in
+    let pre = c.before.before.before.before.before.before.before.before.before.before.before.before.before.before.before.before.before.before.before.before.before.before.pre in
     let size = loop.inv.1 in
-    let long : length (c.before.before.cost-row.result) ≡ 256 = rw (c.before.before.cost-row.ensures) (row-length _ _ _ _) in
+    let long : length (c.before.before.cost-row.last.0) ≡ 256 = rw (c.before.before.cost-row.ensures) (row-length _ _ _ _) in
     (omega arith, omega arith)
 
 loop-again-2 : tie.Need-loop-again-2 Inv μ
 loop-again-2 c =
-    let args = c.before.before.before.before.before.before.before.before.before.before.before.before.before.before.before.before.before.before.before.before.before.before.before.before.args in
-    let pre = c.before.before.before.before.before.before.before.before.before.before.before.before.before.before.before.before.before.before.before.before.before.before.before.before.pre in
-    let loop = c.before.before.before.before.before.before.before.before.before.before.before.before.before.before.loop in
-    let below = c.before.before.before.before.before.before.before.before.before.before.before.before.before.loop-test.taken in
-    let other = sym (c.before.before.before.before.before.before.before.before.before.same-bytes.ensures) ∙ c.before.before.before.before.before.before.before.before.if1.left in
+    let args = c.before.before.before.before.before.before.before.before.before.before.before.before.before.before.before.before.before.before.before.before.before.before.before.before.before.args in
+    let pre = c.before.before.before.before.before.before.before.before.before.before.before.before.before.before.before.before.before.before.before.before.before.before.before.before.before.pre in
+    let loop = c.before.before.before.before.before.before.before.before.before.before.before.before.before.before.before.loop in
+    let below = c.before.before.before.before.before.before.before.before.before.before.before.before.before.before.loop-test.taken in
+    let other = sym (c.before.before.before.before.before.before.before.before.before.before.same-bytes.ensures) ∙ c.before.before.before.before.before.before.before.before.before.if1.left in
     let next = table-next args.count (allowedAt args.work.now args.node) (omega arith) pre.1.2 loop.k _ _ loop.row _ loop.table _ (args.blocks * 16) pre.1.1 (omega arith) below
-    (λ s h. ap (λ (l : List _). allowedIn l s) (c.before.before.before.before.before.before.before.before.before.before.before.before.before.before.before.before.before.before.before.before.before.read-column.ensures))
-    (λ s h. ap (λ (l : List _). allowedIn l s) (c.before.before.before.before.before.before.before.before.before.before.before.before.read-column2.ensures)) loop.inv.3 loop.inv.2
+    (λ s h. ap (λ (l : List _). allowedIn l s) (c.before.before.before.before.before.before.before.before.before.before.before.before.before.before.before.before.before.before.before.before.before.before.read-column.ensures))
+    (λ s h. ap (λ (l : List _). allowedIn l s) (c.before.before.before.before.before.before.before.before.before.before.before.before.before.read-column2.ensures)) loop.inv.3 loop.inv.2
     (made-row _ _ loop.row (args.blocks * 16) args.count _ (c.before.before.before.before.before.cost-row.ensures) other) (c.before.before.copy-bytes3.ensures) in
     (omega arith, c.before.before.copy-bytes3.kept.0 ∙ loop.inv.1, next.0, next.1)
 
@@ -107,4 +110,4 @@ fill-table-spec =
     tie.close (tie.spec Inv μ (λ c. search needs) (λ c κs. search needs) variables-row-requires slice-aggregate-copy-bytes copy-bytes-requires loop-holds
     (λ c. search needs) (λ c κs. search needs) (λ c. search needs) (λ c. search needs) mul-at (λ c. search needs) (λ c. search needs)
     (λ c κs. search needs) slice-aggregate-copy-bytes-2 copy-bytes-requires-2 (λ c. search needs) (λ c. search needs) loop-again
-    cost-row-requires (λ c. search needs) copy-bytes-requires-3 (λ c. search needs) (λ c. search needs) loop-again-2 same-length returns)
+    cost-row-requires slice-aggregate-copy-bytes-3 copy-bytes-requires-3 (λ c. search needs) (λ c. search needs) loop-again-2 same-length returns)
