@@ -104,7 +104,7 @@ module _ (low relation : ℕ) where
 
 -- the first four are all that a number below sixteen has
 abbrev fourHeld : ℕ → ℕ
-fourHeld low = bitOr (heldPart low 8) (bitOr (heldPart low 4) (bitOr (heldPart low 2) (bitOr (heldPart low 1) 0)))
+fourHeld low = bitOr (heldPart low 1) (bitOr (heldPart low 2) (bitOr (heldPart low 4) (bitOr (heldPart low 8) 0)))
 
 four-test : allBelow 16 (λ low. eqb (fourHeld low) low) ≡ true
 unfolding heldPart
@@ -136,20 +136,20 @@ pub dropped-four :
     → low < 16
     → limit ≤ 256
     → Written (lowEntry row 0) limit none first
-    → Written (lowEntry first (heldPart low 1)) limit first second
-    → Written (lowEntry second (heldPart low 2)) limit second third
-    → Written (lowEntry third (heldPart low 4)) limit third fourth
-    → Written (lowEntry fourth (heldPart low 8)) limit fourth last
+    → Written (lowEntry first (heldPart low 8)) limit first second
+    → Written (lowEntry second (heldPart low 4)) limit second third
+    → Written (lowEntry third (heldPart low 2)) limit third fourth
+    → Written (lowEntry fourth (heldPart low 1)) limit fourth last
     → Written (lowEntry row low) limit none last
 dropped-four row none first second third fourth last low limit few short copied one two three four =
-    let h₁ = held-most low 1 in
-    let h₂ = held-most low 2 in
-    let h₄ = held-most low 4 in
     let h₈ = held-most low 8 in
-    let l₁ = or-lt 8 (heldPart low 1) 0 (omega arith) (omega arith) in
-    let l₂ = or-lt 8 (heldPart low 2) (bitOr (heldPart low 1) 0) (omega arith) l₁ in
-    let l₄ = or-lt 8 (heldPart low 4) (bitOr (heldPart low 2) (bitOr (heldPart low 1) 0)) (omega arith) l₂ in
-    let without₁ = dropped-both row none first second 0 (heldPart low 1) limit (omega arith) (omega arith) short copied one in
-    let without₂ = dropped-both row none second third _ (heldPart low 2) limit l₁ (omega arith) short without₁ two in
-    let without₄ = dropped-both row none third fourth _ (heldPart low 4) limit l₂ (omega arith) short without₂ three in
-    rw (four-held low few) at (dropped-both row none fourth last _ (heldPart low 8) limit l₄ (omega arith) short without₄ four)
+    let h₄ = held-most low 4 in
+    let h₂ = held-most low 2 in
+    let h₁ = held-most low 1 in
+    let l₈ = or-lt 8 (heldPart low 8) 0 (omega arith) (omega arith) in
+    let l₄ = or-lt 8 (heldPart low 4) (bitOr (heldPart low 8) 0) (omega arith) l₈ in
+    let l₂ = or-lt 8 (heldPart low 2) (bitOr (heldPart low 4) (bitOr (heldPart low 8) 0)) (omega arith) l₄ in
+    let without₈ = dropped-both row none first second 0 (heldPart low 8) limit (omega arith) (omega arith) short copied one in
+    let without₄ = dropped-both row none second third _ (heldPart low 4) limit l₈ (omega arith) short without₈ two in
+    let without₂ = dropped-both row none third fourth _ (heldPart low 2) limit l₄ (omega arith) short without₄ three in
+    rw (four-held low few) at (dropped-both row none fourth last _ (heldPart low 1) limit l₂ (omega arith) short without₂ four)

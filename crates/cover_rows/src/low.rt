@@ -1,5 +1,6 @@
 // A row at what remains of each need without the first four relations of a subset. Dropping is by relations that are
-// constants: the compiler makes moves of one, two, four and eight bytes of it.
+// constants: the compiler makes moves of eight, four, two and one bytes of it. In this order none reads bytes that were
+// written in two steps.
 ghost use mathlib.Core.Path.{_≡_};
 ghost use Prim.Native.Nat.{_*_, _≤_, _<_};
 ghost use lib.ListN.{length};
@@ -50,8 +51,8 @@ pub fn low_entries(table: &mut [u8; 256], row: &[u8; 256], low: u8, blocks: u8)
     ensures { λ _. ⌜ Written (lowEntry (now (row .entry)) low) (blocks * 16) (now (table .entry)) (now (table .exit)) ⌝ }
 {
     copy_bytes(table, 0, row, blocks as usize * 16);
-    drop_held(table, low, 1, blocks);
-    drop_held(table, low, 2, blocks);
-    drop_held(table, low, 4, blocks);
     drop_held(table, low, 8, blocks);
+    drop_held(table, low, 4, blocks);
+    drop_held(table, low, 2, blocks);
+    drop_held(table, low, 1, blocks);
 }
