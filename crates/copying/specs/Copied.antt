@@ -3,7 +3,6 @@ use Prim.Native.Nat.{ℕ, _+_, _-_, _≤_, _<_}
 use mathlib.Core.Path.{_≡_, sym, ap, _∙_}
 use mathlib.Core.List.{List, _++_, append-nil}
 use mathlib.Core.Logic.{_⊎_, inl, inr}
-use native.Mathlib.Nat.{zero-add}
 use native.Mathlib.Omega.{arith}
 use lib.ListN.{length, getD, take, drop, length-append, drop-of-length-le, List·getD-append}
 use lib.Seq.{paste, length-take-le, getD-take, getD-drop, getD-append-add}
@@ -39,6 +38,12 @@ module _ (old source : List ℕ) (at n : ℕ) (fits : at + n ≤ length old) (en
       ∙ getD-append-add (take at old ++ take n source) (drop (at + n) old) (i - (at + n)) 0
       ∙ getD-drop (at + n) old (i - (at + n)) 0
       ∙ ap (λ (k : ℕ). getD old k 0) back
+
+-- from the front
+pub paste-front : (old source : List ℕ) (n : ℕ) → n ≤ length old → n ≤ length source → (i : ℕ) → i < n → getD (paste old 0 source n) i 0 ≡ getD source i 0
+paste-front old source n fits enough i h =
+    let place : 0 + i ≡ i = omega arith in
+    rw place at (paste-inside old source 0 n (omega arith) enough i h)
 
 -- all elements replaced
 pub paste-whole : (old source : List ℕ) (n : ℕ) → length old ≡ n → paste old 0 source n ≡ take n source

@@ -14,7 +14,7 @@ use lib.ListN.{length, getD}
 use lib.Seq.{paste, length-paste}
 use Rattle.bits.specs.AllBelow.{allBelow, all-in}
 use Rattle.bits.specs.Written.{Written}
-use Rattle.copying.specs.Copied.{paste-inside, paste-outside}
+use Rattle.copying.specs.Copied.{paste-front, paste-outside}
 use Rattle.set_cover.specs.Remainder.{rest, rest-least, rest-none, rest-again, rest-union}
 use Rattle.cover_rows.specs.Blocks.{WrittenAt, block-more, rest-low}
 
@@ -39,14 +39,9 @@ pub copied-none : (row old now : List ℕ) (limit : ℕ) → limit ≤ 256 → l
 copied-none row old now limit short fits enough e =
     record {
       size = ap length e ∙ length-paste old 0 row limit (omega arith) enough;
-      front = λ x h. ap (λ (l : List ℕ). getD l x 0) e ∙ at x h ∙ low-none row x (omega arith);
+      front = λ x h. ap (λ (l : List ℕ). getD l x 0) e ∙ paste-front old row limit fits enough x h ∙ low-none row x (omega arith);
       back = λ x h. ap (λ (l : List ℕ). getD l x 0) e ∙ paste-outside old row 0 limit (omega arith) enough x (inr (omega arith));
     }
-  where
-    at : (x : ℕ) → x < limit → getD (paste old 0 row limit) x 0 ≡ getD row x 0
-    at x h =
-        let place : 0 + x ≡ x = omega arith in
-        rw place at (paste-inside old row 0 limit (omega arith) enough x h)
 
 -- ---- one relation, or some of the first four, in place and in blocks of sixteen
 

@@ -49,10 +49,10 @@ pub record TableHolds (N : ℕ) (allowed : ℕ → ℕ → Bool) (w c : ℕ) (ta
   pub rows : (k need : ℕ) → k < c → need < N → getD table (k * w + need) 0 ≡ cost N allowed k need
 
 -- the rows lie one after the other
-pub row-next : (k w : ℕ) → (k + 1) * w ≡ k * w + w
+row-next : (k w : ℕ) → (k + 1) * w ≡ k * w + w
 row-next k w = rw (add-mul k 1 w, one-mul w)
 
-pub row-fits : (k w : ℕ) → k < 16 → k * w + w ≤ 16 * w
+row-fits : (k w : ℕ) → k < 16 → k * w + w ≤ 16 * w
 row-fits k w h =
     let upTo : k + 1 ≤ 16 = omega arith in
     let most = mul-le-mul-right w upTo in
@@ -93,6 +93,10 @@ pub record LentRow (N : ℕ) (f : ℕ → ℕ) (row : List ℕ) : Type 0 where
   pub costs : (need : ℕ) → need < N → CostsUpTo need row
 
 module _ (N : ℕ) (allowed : ℕ → ℕ → Bool) (w c : ℕ) (table : List ℕ) (t : TableHolds N allowed w c table) where
+  -- each of the sixteen lies in the table, also where it is not written yet
+  pub row-within : (k : ℕ) → k < 16 → k * w + w ≤ length table
+  row-within k h = let size = t .size in let most = row-fits k w h in omega arith
+
   -- the part begins with row k
   lent : (k : ℕ) (row : List ℕ) → k < c → w ≤ length row → ((x : ℕ) → getD row x 0 ≡ getD table (k * w + x) 0) → LentRow N (cost N allowed k) row
   lent k row h enough same =
@@ -108,13 +112,16 @@ module _ (N : ℕ) (allowed : ℕ → ℕ → Bool) (w c : ℕ) (table : List �
   pub row-lent : (k : ℕ) → k < c → k < 16 → LentRow N (cost N allowed k) (take (length table - k * w) (drop (k * w) table))
   row-lent k h below =
       rw (part-from table (k * w))
-      (lent k (drop (k * w) table) h (let size = t .size in let most = row-fits k w below in let rest = length-drop (k * w) table in omega arith)
+      (lent k (drop (k * w) table) h (let within = row-within k below in let rest = length-drop (k * w) table in omega arith)
       (λ x. getD-drop (k * w) table x 0))
 
   pub first-lent : 0 < c → LentRow N (cost N allowed 0) table
   first-lent some = lent 0 table some (let size = t .size in omega arith) (λ x. ap (λ (at : ℕ). getD table at 0) (sym (ap (λ (n : ℕ). n + x) (zero-mul w) ∙ zero-add x)))
 
   -- the row after it, by its place
+  pub after-within : (k need : ℕ) → k + 1 < 16 → need < N → k * w + w + need < length table
+  after-within k need h less = let wide = t .wide in let within = row-within (k + 1) h in let next = row-next k w in omega arith
+
   pub row-after : (k after need : ℕ) → after ≡ k + 1 → after < c → need < N → getD table (k * w + w + need) 0 ≡ cost N allowed after need
   row-after k after need is h less = ap (λ (at : ℕ). getD table (at + need) 0) (sym (ap (λ (n : ℕ). n * w) is ∙ row-next k w)) ∙ t .rows after need h less
 

@@ -7,6 +7,7 @@ ghost use Rattle.schema.specs.Schema.{EntriesStand};
 ghost use Rattle.instantiation.specs.Instantiation.{refusedInstantiation, readingOf, subsetsOf, readLists, instantiationReading};
 ghost use Rattle.instantiation.specs.Gathering.{gathered, GatheredIn};
 use crate::appending::append;
+use copying::copy_bytes;
 use entry_sorting::rises;
 use entry_sorting::sort_by_attribute;
 use instantiation::InstantiationReading;
@@ -34,11 +35,7 @@ fn subsets_of(bytes: &[u8]) -> [u8; 16]
     ensures { λ r. ⌜ r ≡ subsetsOf (now (bytes .entry)) ⌝ }
 {
     let mut subsets = [0u8; 16];
-    let mut i = 0;
-    while i < 15 {
-        subsets[i + 1] = bytes[i];
-        i += 1;
-    }
+    copy_bytes(&mut subsets, 1, bytes, 15);
     subsets
 }
 

@@ -6,6 +6,7 @@ ghost use Prim.Native.Nat.{_+_, _≤_};
 ghost use Rattle.instantiation.specs.Instantiation.{listsOf, instantiationBytes, WritesFrom, instantiationSize};
 use crate::lists::write_lists;
 use crate::maps::write_map;
+use copying::copy_bytes;
 use entry_sorting::sort_by_subset;
 
 // Writes the subsets of the special attributes 1 to 15 to the front of the slice.
@@ -14,11 +15,7 @@ fn write_special(out: &mut [u8], subsets: &[u8])
     requires { ⌜ 15 ≤ length (now out) ⌝ }
     ensures { λ _. ⌜ now (out .exit) ≡ over (tab 15 (λ i. getD (now (subsets .entry)) (i + 1) 0)) (now (out .entry)) ⌝ }
 {
-    let mut i = 0;
-    while i < 15 {
-        out[i] = subsets[i + 1];
-        i += 1;
-    }
+    copy_bytes(out, 0, &subsets[1..], 15);
 }
 
 // Writes the instantiation of these subsets and entries to the front of the slice, and gives its length. The last slice

@@ -1,10 +1,10 @@
-use Prim.Native.Nat.{_+_, _-_}
+use Prim.Native.Nat.{_-_}
 use mathlib.Core.Path.{refl, ap}
 use mathlib.Core.List.{List}
 use native.Mathlib.Omega.{arith}
 use Rattle.column.specs.Column.{allowedIn}
 use Rattle.verdict_answer.specs.First.{allowedAt}
-use Rattle.cover_table.specs.Table.{row-next, row-fits, row-lent, row-after}
+use Rattle.cover_table.specs.Table.{row-within, after-within, row-lent, row-after}
 use Rattle.cover_choice.specs.Specials.{Choosing, choosing-first, choosing-next, choosing-ended, picked-below}
 use borrow.Author.Needs.{needs}
 use Rattle.cover_choice.proofs.choose_specials as fn
@@ -31,46 +31,42 @@ read-column-requires c κs = let space = c.before.before.before.before.before.pr
 
 mul-next : tie.Need-mul-next Inv μ
 mul-next c =
-    let size = c.before.before.before.before.before.before.pre.1.0.2.size in
+    let start = c.before.before.before.before.before.before in
     let some = c.before.before.loop.inv.some in
-    let most = row-fits (15 - c.before.before.loop.i) (c.before.before.before.before.before.before.args.width) (omega arith) in
+    let within = row-within _ _ start.args.width 16 _ start.pre.1.0.2 (15 - c.before.before.loop.i) (omega arith) in
     omega arith
 
 add-target : tie.Need-add-target Inv μ
 add-target c =
-    let size = c.before.before.before.before.before.before.pre.1.0.2.size in
-    let most = row-fits (15 - c.before.before.loop.i) (c.before.before.before.before.before.before.args.width) (omega arith) in
+    let start = c.before.before.before.before.before.before in
+    let within = row-within _ _ start.args.width 16 _ start.pre.1.0.2 (15 - c.before.before.loop.i) (omega arith) in
     omega arith
 
 add-target-2 : tie.Need-add-target-2 Inv μ
 add-target-2 c =
-    let size = c.before.before.before.before.before.before.pre.1.0.2.size in
-    let some = c.before.before.loop.inv.some in
-    let most = row-fits (15 - c.before.before.loop.i) (c.before.before.before.before.before.before.args.width) (omega arith) in
+    let start = c.before.before.before.before.before.before in
+    let loop = c.before.before.loop in
+    let some = loop.inv.some in
+    let within = after-within _ _ start.args.width 16 _ start.pre.1.0.2 (15 - loop.i) loop.need (omega arith) loop.inv.below in
     omega arith
 
 shared-slice-read-target : tie.Need-shared-slice-read-target Inv μ
 shared-slice-read-target c =
-    let table = c.before.before.before.before.before.before.before.pre.1.0.2 in
+    let start = c.before.before.before.before.before.before.before in
     let loop = c.before.before.before.loop in
     let some = loop.inv.some in
-    let need = loop.inv.below in
-    let next = row-next (15 - loop.i) (c.before.before.before.before.before.before.before.args.width) in
-    let most = row-fits (15 - loop.i + 1) (c.before.before.before.before.before.before.before.args.width) (omega arith) in
-    let size = table.size in
-    let wide = table.wide in
-    omega arith
+    after-within _ _ start.args.width 16 _ start.pre.1.0.2 (15 - loop.i) loop.need (omega arith) loop.inv.below
 
 sub-pick : tie.Need-sub-pick Inv μ
 sub-pick c =
-    let size = c.before.before.before.before.before.before.before.before.pre.1.0.2.size in
-    let most = row-fits (15 - c.before.before.before.before.loop.i) (c.before.before.before.before.before.before.before.before.args.width) (omega arith) in
+    let start = c.before.before.before.before.before.before.before.before in
+    let within = row-within _ _ start.args.width 16 _ start.pre.1.0.2 (15 - c.before.before.before.before.loop.i) (omega arith) in
     omega arith
 
 part-pick-start : tie.Need-part-pick-start Inv μ
 part-pick-start c =
-    let size = c.before.before.before.before.before.before.before.before.pre.1.0.2.size in
-    let most = row-fits (15 - c.before.before.before.before.loop.i) (c.before.before.before.before.before.before.before.before.args.width) (omega arith) in
+    let start = c.before.before.before.before.before.before.before.before in
+    let within = row-within _ _ start.args.width 16 _ start.pre.1.0.2 (15 - c.before.before.before.before.loop.i) (omega arith) in
     omega arith
 
 pick-requires : tie.Need-pick-requires Inv μ
@@ -90,8 +86,8 @@ cast-s c =
     let below = c.before.before.before.before.before.loop-test.taken in
     let few = pre.1.0.1 in
     let aims = row-after _ _ _ 16 _ pre.1.0.2 (15 - loop.i) (16 - loop.i) loop.need (omega arith) (omega arith) loop.inv.below in
-    let small = picked-below _ _ few loop.i loop.subsets loop.need loop.inv _ _ _ _ below (λ s h. ap (λ (l : List _). allowedIn l s) (c.before.before.before.before.read-column.ensures))
-    (row-lent _ _ _ 16 _ pre.1.0.2 (15 - loop.i) (omega arith) (omega arith) .holds) aims (c.pick.ensures) in
+    let small = picked-below _ _ few loop.i loop.subsets loop.need loop.inv _ _ _ _ below (λ s h. ap (λ (l : List _). allowedIn l s) c.before.before.before.before.read-column.ensures)
+    (row-lent _ _ _ 16 _ pre.1.0.2 (15 - loop.i) (omega arith) (omega arith) .holds) aims c.pick.ensures in
     omega arith
 
 slice-write-subsets : tie.Need-slice-write-subsets Inv μ
@@ -105,14 +101,14 @@ loop-again c =
     let below = c.before.before.before.before.before.loop-test.taken in
     let few = pre.1.0.1 in
     let aims = row-after _ _ _ 16 _ pre.1.0.2 (15 - loop.i) (16 - loop.i) loop.need (omega arith) (omega arith) loop.inv.below in
-    choosing-next _ _ few loop.i loop.subsets loop.need loop.inv _ _ _ _ below (λ s h. ap (λ (l : List _). allowedIn l s) (c.before.before.before.before.read-column.ensures))
-    (row-lent _ _ _ 16 _ pre.1.0.2 (15 - loop.i) (omega arith) (omega arith) .holds) aims (c.pick.ensures) _ refl
+    choosing-next _ _ few loop.i loop.subsets loop.need loop.inv _ _ _ _ below (λ s h. ap (λ (l : List _). allowedIn l s) c.before.before.before.before.read-column.ensures)
+    (row-lent _ _ _ 16 _ pre.1.0.2 (15 - loop.i) (omega arith) (omega arith) .holds) aims c.pick.ensures _ refl
 
 same-length : tie.Need-same-length Inv μ
-same-length c = let pre = c.before.before.before.before.before.pre in rw (pre.0.1) (c.before.loop.inv.size)
+same-length c = let pre = c.before.before.before.before.before.pre in rw (pre.0.1) c.before.loop.inv.size
 
 returns : tie.Need-returns Inv μ
-returns c = choosing-ended _ _ (c.before.before.before.before.before.pre.1.0.1) _ _ _ (c.before.loop.inv) (let past = c.loop-test.left in omega arith)
+returns c = choosing-ended _ _ c.before.before.before.before.before.pre.1.0.1 _ _ _ c.before.loop.inv (let past = c.loop-test.left in omega arith)
 
 pub choose-specials-spec : {M : Type 1} → statement M
 choose-specials-spec =

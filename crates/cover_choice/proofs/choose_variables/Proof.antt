@@ -34,7 +34,7 @@ pick-requires c κs =
     let below = pre.1.0.0 in
     let need = c.before.before.before.loop.inv.below in
     let long = pre.1.0.2.long in
-    (omega arith, pre.1.0.1, omega arith, pre.1.0.2 .costs (c.before.before.before.loop.need) need)
+    (omega arith, pre.1.0.1, omega arith, pre.1.0.2 .costs c.before.before.before.loop.need need)
 
 cast-v : tie.Need-cast-v Inv μ
 cast-v c =
@@ -42,18 +42,18 @@ cast-v c =
     let loop = c.before.before.before.before.loop in
     let few = pre.1.0.1 in
     let holds = pre.1.0.2.holds in
-    let small = variable-below _ _ few _ loop.n loop.items loop.need loop.inv (c.before.before.before.loop-test.taken) _ _ _ _ (λ s h. ap (λ (l : List _). allowedIn l s) (c.before.before.before.before.before.read-column.ensures))
-    holds (holds loop.need loop.inv.below) (c.pick.ensures) in
+    let small = variable-below _ _ few _ loop.n loop.items loop.need loop.inv c.before.before.before.loop-test.taken _ _ _ _ (λ s h. ap (λ (l : List _). allowedIn l s) c.before.before.before.before.before.read-column.ensures)
+    holds (holds loop.need loop.inv.below) c.pick.ensures in
     omega arith
 
 slice-write-items : tie.Need-slice-write-items Inv μ
-slice-write-items c = room _ _ (c.before.before.before.before.before.before.before.before.before.pre.1.0.1) _ _ _ _ (c.before.before.before.before.loop.inv) (c.before.before.before.loop-test.taken)
+slice-write-items c = room _ _ c.before.before.before.before.before.before.before.before.before.pre.1.0.1 _ _ _ _ c.before.before.before.before.loop.inv c.before.before.before.loop-test.taken
 
 loop-less : tie.Need-loop-less Inv μ
 loop-less c =
     let loop = c.before.before.before.before.loop in
     let fuel = loop.inv.fuel in
-    let some = ne-zero loop.need (c.before.before.before.loop-test.taken) in
+    let some = ne-zero loop.need c.before.before.before.loop-test.taken in
     omega arith
 
 loop-again : tie.Need-loop-again Inv μ
@@ -62,15 +62,15 @@ loop-again c =
     let loop = c.before.before.before.before.loop in
     let few = pre.1.0.1 in
     let holds = pre.1.0.2.holds in
-    numbering-next _ _ few _ loop.n loop.items loop.need loop.inv (c.before.before.before.loop-test.taken) _ _ _ _ (λ s h. ap (λ (l : List _). allowedIn l s) (c.before.before.before.before.before.read-column.ensures))
-    holds (holds loop.need loop.inv.below) (c.pick.ensures) _ _ refl refl
+    numbering-next _ _ few _ loop.n loop.items loop.need loop.inv c.before.before.before.loop-test.taken _ _ _ _ (λ s h. ap (λ (l : List _). allowedIn l s) c.before.before.before.before.before.read-column.ensures)
+    holds (holds loop.need loop.inv.below) c.pick.ensures _ _ refl refl
 
 same-length : tie.Need-same-length Inv μ
-same-length c = c.before.loop.inv.size ∙ sym (c.before.before.before.before.before.before.pre.0.1)
+same-length c = c.before.loop.inv.size ∙ sym c.before.before.before.before.before.before.pre.0.1
 
 returns : tie.Need-returns Inv μ
 returns c =
-    let ended = numbering-ended _ _ (c.before.before.before.before.before.before.pre.1.0.1) _ _ _ _ (c.before.loop.inv) (c.loop-test.left) in
+    let ended = numbering-ended _ _ c.before.before.before.before.before.before.pre.1.0.1 _ _ _ _ c.before.loop.inv c.loop-test.left in
     ((ended.0, ended.1), ended.2)
 
 pub choose-variables-spec : {M : Type 1} → statement M

@@ -15,18 +15,18 @@ fill-table-requires c κs =
     ((pre.0.0, omega arith), (omega arith, omega arith, pre.1.1.grounded))
 
 sub-result : tie.Need-sub-result
-sub-result c = let some = pow-pos (c.before.before.before.before.before.before.before.before.args.m) in let count = c.before.before.before.before.before.subset-count.ensures in omega arith
+sub-result c = let some = pow-pos c.before.before.before.before.before.before.before.before.args.m in let count = c.before.before.before.before.before.subset-count.ensures in omega arith
 
 slice-read-result : tie.Need-slice-read-result
 slice-read-result c =
-    let some = pow-pos (c.before.before.before.before.before.before.before.before.before.args.m) in
+    let some = pow-pos c.before.before.before.before.before.before.before.before.before.args.m in
     let count = c.before.before.before.before.before.before.subset-count.ensures in
     let size = c.before.before.before.fill-table.ensures.size in
     let wide = c.before.before.before.fill-table.ensures.wide in
     omega arith
 
 returns : tie.Need-returns
-returns c = whole-cost _ _ _ _ (c.before.before.before.before.before.before.subset-count.ensures) (c.before.before.before.before.before.row-blocks.ensures) _ (c.before.before.before.fill-table.ensures)
+returns c = whole-cost _ _ _ _ c.before.before.before.before.before.before.subset-count.ensures c.before.before.before.before.before.row-blocks.ensures _ c.before.before.before.fill-table.ensures
 
 pub fill-costs-spec : {M : Type 1} → statement M
 fill-costs-spec =

@@ -7,7 +7,7 @@ use Rattle.column.specs.Column.{allowedIn}
 use Rattle.set_cover.specs.Cost.{cost}
 use Rattle.cover_rows.specs.Rows.{row-length}
 use Rattle.verdict_answer.specs.First.{allowedAt}
-use Rattle.cover_table.specs.Table.{IsRow, TableHolds, row-fits, table-first, table-next, kept-row, made-row}
+use Rattle.cover_table.specs.Table.{IsRow, TableHolds, row-within, table-first, table-next, kept-row, made-row}
 use borrow.Author.Needs.{needs}
 use Rattle.cover_table.proofs.table.fill_table as fn
 use fn.Statement.{statement}
@@ -24,7 +24,7 @@ variables-row-requires : tie.Need-variables-row-requires Inv μ
 variables-row-requires c κs = let pre = c.before.before.before.pre in (pre.1.0, pre.1.1)
 
 slice-aggregate-copy-bytes : tie.Need-slice-aggregate-copy-bytes Inv μ
-slice-aggregate-copy-bytes c = sym (c.before.before.variables-row.ensures.size)
+slice-aggregate-copy-bytes c = sym c.before.before.variables-row.ensures.size
 
 copy-bytes-requires : tie.Need-copy-bytes-requires Inv μ
 copy-bytes-requires c κs = let pre = c.before.before.before.before.before.before.pre in let size = c.before.before.variables-row.ensures.size in (omega arith, omega arith)
@@ -33,27 +33,27 @@ loop-holds : tie.Need-loop-holds Inv μ
 loop-holds c =
     let args = c.before.before.before.before.before.before.before.before.before.args in
     let pre = c.before.before.before.before.before.before.before.before.before.pre in
-    let column = ap (λ (l : List _). allowedIn l) (c.before.before.before.before.before.before.read-column.ensures) in
-    let first = table-first args.count (allowedAt args.work.now args.node) (omega arith) pre.1.2 args.table.now _ _ (args.blocks * 16) pre.1.1 (omega arith) pre.0.1 (rw column at (c.before.before.before.before.before.variables-row.ensures)) (c.before.before.copy-bytes.ensures) in
+    let column = ap (λ (l : List _). allowedIn l) c.before.before.before.before.before.before.read-column.ensures in
+    let first = table-first args.count (allowedAt args.work.now args.node) (omega arith) pre.1.2 args.table.now _ _ (args.blocks * 16) pre.1.1 (omega arith) pre.0.1 (rw column at c.before.before.before.before.before.variables-row.ensures) c.before.before.copy-bytes.ensures in
     (omega arith, refl, first.0, first.1)
 
 mul-at : tie.Need-mul-at Inv μ
 mul-at c =
+    let loop = c.before.before.loop in
     let below = c.before.loop-test.taken in
-    let most = row-fits (c.before.before.loop.k + 1) (c.before.before.before.before.before.before.before.before.before.before.before.before.args.blocks * 16) (omega arith) in
-    let few = c.before.before.before.before.before.before.before.before.before.before.before.before.pre.1.0 in
+    let within = row-within _ _ _ (loop.k + 1) _ loop.inv.2 (loop.k + 1) (omega arith) in
     omega arith
 
 slice-aggregate-copy-bytes-2 : tie.Need-slice-aggregate-copy-bytes-2 Inv μ
-slice-aggregate-copy-bytes-2 c = sym (c.before.before.before.before.before.before.before.before.loop.inv.3.size)
+slice-aggregate-copy-bytes-2 c = sym c.before.before.before.before.before.before.before.before.loop.inv.3.size
 
 copy-bytes-requires-2 : tie.Need-copy-bytes-requires-2 Inv μ
 copy-bytes-requires-2 c κs =
-    let loop = c.before.before.before.before.before.before.before.before.loop in
-    let below = c.before.before.before.before.before.before.before.loop-test.taken in
-    let most = row-fits (loop.k + 1) (c.before.before.before.before.before.before.before.before.before.before.before.before.before.before.before.before.before.before.args.blocks * 16) (omega arith) in
-    let pre = c.before.before.before.before.before.before.before.before.before.before.before.before.before.before.before.before.before.before.pre in
-    let size = loop.inv.1 in
+    let inside = c.before.before.before.before.before.before.before in
+    let loop = inside.before.loop in
+    let below = inside.loop-test.taken in
+    let few = inside.before.before.before.before.before.before.before.before.before.before.before.pre.1.0 in
+    let within = row-within _ _ _ (loop.k + 1) _ loop.inv.2 (loop.k + 1) (omega arith) in
     let long = loop.inv.3.size in
     (omega arith, omega arith)
 
@@ -63,27 +63,27 @@ loop-again c =
     let pre = c.before.before.before.before.before.before.before.before.before.before.before.before.before.before.before.before.before.before.before.before.before.pre in
     let loop = c.before.before.before.before.before.before.before.before.before.before.before.loop in
     let below = c.before.before.before.before.before.before.before.before.before.before.loop-test.taken in
-    let same = sym (c.before.before.before.before.before.before.same-bytes.ensures) ∙ c.before.before.before.before.before.if1.taken in
+    let same = sym c.before.before.before.before.before.before.same-bytes.ensures ∙ c.before.before.before.before.before.if1.taken in
     let next = table-next args.count (allowedAt args.work.now args.node) (omega arith) pre.1.2 loop.k _ _ loop.row _ loop.table _ (args.blocks * 16) pre.1.1 (omega arith) below
-    (λ s h. ap (λ (l : List _). allowedIn l s) (c.before.before.before.before.before.before.before.before.before.before.before.before.before.before.before.before.before.before.read-column.ensures))
-    (λ s h. ap (λ (l : List _). allowedIn l s) (c.before.before.before.before.before.before.before.before.before.read-column2.ensures)) loop.inv.3 loop.inv.2
-    (kept-row _ _ loop.row (args.blocks * 16) args.count same) (c.before.before.copy-bytes2.ensures) in
+    (λ s h. ap (λ (l : List _). allowedIn l s) c.before.before.before.before.before.before.before.before.before.before.before.before.before.before.before.before.before.before.read-column.ensures)
+    (λ s h. ap (λ (l : List _). allowedIn l s) c.before.before.before.before.before.before.before.before.before.read-column2.ensures) loop.inv.3 loop.inv.2
+    (kept-row _ _ loop.row (args.blocks * 16) args.count same) c.before.before.copy-bytes2.ensures in
     (omega arith, c.before.before.copy-bytes2.kept.0 ∙ loop.inv.1, next.0, next.1)
 
 cost-row-requires : tie.Need-cost-row-requires Inv μ
 cost-row-requires c κs = let pre = c.before.before.before.before.before.before.before.before.before.before.before.before.before.before.before.before.before.before.before.pre in (pre.1.0, omega arith, c.before.before.before.before.before.before.before.before.before.loop.inv.3.costs, refl)
 
 slice-aggregate-copy-bytes-3 : tie.Need-slice-aggregate-copy-bytes-3 Inv μ
-slice-aggregate-copy-bytes-3 c = sym (rw (c.before.before.cost-row.ensures) (row-length _ _ _ _))
+slice-aggregate-copy-bytes-3 c = sym (rw c.before.before.cost-row.ensures (row-length _ _ _ _))
 
 copy-bytes-requires-3 : tie.Need-copy-bytes-requires-3 Inv μ
 copy-bytes-requires-3 c κs =
-    let loop = c.before.before.before.before.before.before.before.before.before.before.before.before.loop in
-    let below = c.before.before.before.before.before.before.before.before.before.before.before.loop-test.taken in
-    let most = row-fits (loop.k + 1) (c.before.before.before.before.before.before.before.before.before.before.before.before.before.before.before.before.before.before.before.before.before.before.args.blocks * 16) (omega arith) in
-    let pre = c.before.before.before.before.before.before.before.before.before.before.before.before.before.before.before.before.before.before.before.before.before.before.pre in
-    let size = loop.inv.1 in
-    let long : length (c.before.before.cost-row.last.0) ≡ 256 = rw (c.before.before.cost-row.ensures) (row-length _ _ _ _) in
+    let inside = c.before.before.before.before.before.before.before.before.before.before.before in
+    let loop = inside.before.loop in
+    let below = inside.loop-test.taken in
+    let few = inside.before.before.before.before.before.before.before.before.before.before.before.pre.1.0 in
+    let within = row-within _ _ _ (loop.k + 1) _ loop.inv.2 (loop.k + 1) (omega arith) in
+    let long : length c.before.before.cost-row.last.0 ≡ 256 = rw c.before.before.cost-row.ensures (row-length _ _ _ _) in
     (omega arith, omega arith)
 
 loop-again-2 : tie.Need-loop-again-2 Inv μ
@@ -92,11 +92,11 @@ loop-again-2 c =
     let pre = c.before.before.before.before.before.before.before.before.before.before.before.before.before.before.before.before.before.before.before.before.before.before.before.before.before.pre in
     let loop = c.before.before.before.before.before.before.before.before.before.before.before.before.before.before.before.loop in
     let below = c.before.before.before.before.before.before.before.before.before.before.before.before.before.before.loop-test.taken in
-    let other = sym (c.before.before.before.before.before.before.before.before.before.before.same-bytes.ensures) ∙ c.before.before.before.before.before.before.before.before.before.if1.left in
+    let other = sym c.before.before.before.before.before.before.before.before.before.before.same-bytes.ensures ∙ c.before.before.before.before.before.before.before.before.before.if1.left in
     let next = table-next args.count (allowedAt args.work.now args.node) (omega arith) pre.1.2 loop.k _ _ loop.row _ loop.table _ (args.blocks * 16) pre.1.1 (omega arith) below
-    (λ s h. ap (λ (l : List _). allowedIn l s) (c.before.before.before.before.before.before.before.before.before.before.before.before.before.before.before.before.before.before.before.before.before.before.read-column.ensures))
-    (λ s h. ap (λ (l : List _). allowedIn l s) (c.before.before.before.before.before.before.before.before.before.before.before.before.before.read-column2.ensures)) loop.inv.3 loop.inv.2
-    (made-row _ _ loop.row (args.blocks * 16) args.count _ (c.before.before.before.before.before.cost-row.ensures) other) (c.before.before.copy-bytes3.ensures) in
+    (λ s h. ap (λ (l : List _). allowedIn l s) c.before.before.before.before.before.before.before.before.before.before.before.before.before.before.before.before.before.before.before.before.before.before.read-column.ensures)
+    (λ s h. ap (λ (l : List _). allowedIn l s) c.before.before.before.before.before.before.before.before.before.before.before.before.before.read-column2.ensures) loop.inv.3 loop.inv.2
+    (made-row _ _ loop.row (args.blocks * 16) args.count _ c.before.before.before.before.before.cost-row.ensures other) c.before.before.copy-bytes3.ensures in
     (omega arith, c.before.before.copy-bytes3.kept.0 ∙ loop.inv.1, next.0, next.1)
 
 same-length : tie.Need-same-length Inv μ

@@ -25,16 +25,16 @@ cost-row-requires : tie.Need-cost-row-requires Inv μ
 cost-row-requires c κs = let pre = c.before.before.before.before.before.pre in (pre.0, omega arith, c.before.before.before.before.loop.inv.1.costs, refl)
 
 slice-aggregate-same-bytes : tie.Need-slice-aggregate-same-bytes Inv μ
-slice-aggregate-same-bytes c = sym (c.before.before.before.before.before.before.loop.inv.1.size)
+slice-aggregate-same-bytes c = sym c.before.before.before.before.before.before.loop.inv.1.size
 
 slice-aggregate-same-bytes-2 : tie.Need-slice-aggregate-same-bytes-2 Inv μ
-slice-aggregate-same-bytes-2 c = sym (rw (c.before.before.cost-row.ensures) (row-length _ _ _ _))
+slice-aggregate-same-bytes-2 c = sym (rw c.before.before.cost-row.ensures (row-length _ _ _ _))
 
 same-bytes-requires : tie.Need-same-bytes-requires Inv μ
 same-bytes-requires c κs =
     let pre = c.before.before.before.before.before.before.before.before.pre in
     let size = c.before.before.before.before.before.before.before.loop.inv.1.size in
-    let made : length (c.before.before.cost-row.last.0) ≡ 256 = rw (c.before.before.cost-row.ensures) (row-length _ _ _ _) in
+    let made : length c.before.before.cost-row.last.0 ≡ 256 = rw c.before.before.cost-row.ensures (row-length _ _ _ _) in
     (omega arith, omega arith, omega arith)
 
 returns : tie.Need-returns Inv μ
@@ -43,7 +43,7 @@ returns c =
     let args = c.before.before.before.before.before.before.before.before.before.before.args in
     let pre = c.before.before.before.before.before.before.before.before.before.before.pre in
     settled-row args.count (allowedIn args.t1) (omega arith) _ args.t1 _ (args.blocks * 16) loop.inv.0 pre.1 (omega arith) (λ s h. refl) loop.inv.1
-    (ap (alike (args.blocks * 16) loop.row) (sym (c.before.before.before.before.cost-row.ensures)) ∙ sym (c.before.same-bytes.ensures) ∙ c.if1.taken)
+    (ap (alike (args.blocks * 16) loop.row) (sym c.before.before.before.before.cost-row.ensures) ∙ sym c.before.same-bytes.ensures ∙ c.if1.taken)
 
 loop-again : tie.Need-loop-again Inv μ
 loop-again c =
@@ -51,7 +51,7 @@ loop-again c =
     let args = c.before.before.before.before.before.before.before.before.before.before.args in
     let pre = c.before.before.before.before.before.before.before.before.before.before.pre in
     let below = c.before.before.before.before.before.before.before.before.loop-test.taken in
-    (omega arith, rw (c.before.before.before.before.cost-row.ensures) (covering-more args.count (allowedIn args.t1) (omega arith) _ args.t1 _ (args.blocks * 16) pre.1 (omega arith) (λ s h. refl) loop.inv.1))
+    (omega arith, rw c.before.before.before.before.cost-row.ensures (covering-more args.count (allowedIn args.t1) (omega arith) _ args.t1 _ (args.blocks * 16) pre.1 (omega arith) (λ s h. refl) loop.inv.1))
 
 returns-2 : tie.Need-returns-2 Inv μ
 returns-2 c =

@@ -1,13 +1,15 @@
-use Prim.Native.Nat.{ℕ, _+_, _-_, _≤_}
-use mathlib.Core.Path.{_≡_, refl}
-use mathlib.Core.Bool.{cond}
+use Prim.Native.Nat.{ℕ, _+_, _-_, _≤_, _<_}
+use mathlib.Core.Path.{_≡_, sym, ap, _∙_}
+use mathlib.Core.Bool.{Bool, cond}
 use mathlib.Core.List.{List}
-use native.Mathlib.Nat.{add-sub-cancel}
+use mathlib.Core.Logic.{_⊎_, inl, inr}
+use native.Mathlib.Nat.{eq-zero-or-pos}
 use native.Mathlib.Omega.{arith}
 use borrow.Author.Tests.{ne-eqb}
 use lib.Dec.{eqb}
-use lib.ListN.{getD, replicate}
-use Rattle.bits.specs.Written.{Written, written-more}
+use lib.ListN.{length, getD, replicate}
+use lib.Seq.{paste, length-paste}
+use Rattle.copying.specs.Copied.{paste-inside, paste-outside}
 use Rattle.instantiation.specs.Instantiation.{subsetsOf}
 use Rattle.instantiation.specs.TableLaws.{subsets-are}
 use borrow.Author.Needs.{needs}
@@ -15,51 +17,23 @@ use Rattle.instantiation_reader.proofs.reading.subsets_of as fn
 use fn.Statement.{statement}
 use fn.Tie as tie
 
--- the subset given to special attribute i
-abbrev given : List ℕ → ℕ → ℕ
-given bytes i = cond (eqb i 0) 0 (getD bytes (i - 1) 0)
+-- fifteen bytes after a zero
+copied : (bytes : List ℕ) → 15 ≤ length bytes → paste (replicate 16 0) 1 bytes 15 ≡ subsetsOf bytes
+copied bytes enough = subsets-are bytes _ (length-paste (replicate 16 0) 1 bytes 15 (omega arith) enough) (λ i h. go i h (eq-zero-or-pos i))
+  where
+    go : (i : ℕ) → i < 16 → (i ≡ 0) ⊎ (0 < i) → getD (paste (replicate 16 0) 1 bytes 15) i 0 ≡ cond (eqb i 0) 0 (getD bytes (i - 1) 0)
+    go i h (inl first) = rw first (paste-outside (replicate 16 0) bytes 1 15 (omega arith) enough 0 (inl (omega arith)))
+    go i h (inr other) =
+        let place : i ≡ 1 + (i - 1) = omega arith in
+        ap (λ (k : ℕ). getD (paste (replicate 16 0) 1 bytes 15) k 0) place
+        ∙ paste-inside (replicate 16 0) bytes 1 15 (omega arith) enough (i - 1) (omega arith)
+        ∙ sym (ap (λ (t : Bool). cond t 0 (getD bytes (i - 1) 0)) (ne-eqb i 0 (λ e. omega arith)))
 
-first : (bytes : List ℕ) → Written (given bytes) 1 (replicate 16 0) (replicate 16 0)
-first bytes =
-    record {
-      size = refl;
-      front = λ i h. let none : i ≡ 0 = omega arith in rw none;
-      back = λ i h. refl;
-    }
-
-given-more : (bytes : List ℕ) (i : ℕ) → getD bytes i 0 ≡ given bytes (i + 1)
-given-more bytes i = rw (ne-eqb (i + 1) 0 (λ e. omega arith), add-sub-cancel i 1)
-
-all : (bytes subsets : List ℕ) (i : ℕ) → i ≤ 15 → 15 ≤ i → Written (given bytes) (i + 1) (replicate 16 0) subsets → subsets ≡ subsetsOf bytes
-all bytes subsets i most last w = subsets-are bytes subsets w.size (λ j h. w.front j (omega arith))
-
-abbrev Inv : tie.InvT-loop
-Inv bytes subsets₀ i₀ subsets i = (i ≤ 15) × Written (given bytes) (i + 1) (replicate 16 0) subsets
-
-abbrev μ : tie.MeasureT-loop
-μ bytes subsets₀ i₀ subsets i = 15 - i
-
-loop-holds : tie.Need-loop-holds Inv μ
-loop-holds c = (omega arith, first c.args.bytes.now)
-
-loop-again : tie.Need-loop-again Inv μ
-loop-again c =
-    let loop = c.before.before.loop in
-    let loop = loop in
-    let test = c.before.loop-test.taken in
-    let size = loop.inv.1.size in
-    let bytes = c.before.before.before.args.bytes.now in (
-      omega arith,
-      written-more (given bytes) (loop.i + 1) (replicate 16 0) loop.subsets (getD bytes loop.i 0) (omega arith) loop.inv.1
-          (given-more bytes loop.i),
-    )
-
-returns : tie.Need-returns Inv μ
+returns : tie.Need-returns
 returns c =
-    let loop = c.before.loop in
-    all c.before.before.args.bytes.now loop.subsets loop.i loop.inv.0 c.loop-test.left loop.inv.1
+    let start = c.before.before.before.before in
+    let long = start.pre in
+    c.before.copy-bytes.ensures ∙ copied start.args.bytes.now (omega arith)
 
 pub subsets-of-spec : {M : Type 1} → statement M
-subsets-of-spec =
-    tie.close (tie.spec Inv μ loop-holds (λ c. search needs) (λ c. search needs) (λ c. search needs)
-    (λ c. search needs) (λ c. search needs) loop-again returns)
+subsets-of-spec = tie.close (tie.spec (λ c. search needs) (λ c κs. search needs) returns)

@@ -1,46 +1,45 @@
-use Prim.Native.Nat.{_+_, _-_, _≤_}
-use mathlib.Core.Path.{_≡_, refl}
+use Prim.Native.Nat.{ℕ, _+_, _-_, _≤_, _<_}
+use mathlib.Core.Path.{_≡_, ap, _∙_}
+use mathlib.Core.List.{List}
+use mathlib.Core.Logic.{inr}
 use native.Mathlib.Omega.{arith}
-use lib.ListN.{getD}
-use Rattle.bits.specs.Written.{Written, written-none, written-more, written-all}
+use lib.ListN.{length, getD, take, drop, length-drop}
+use lib.Seq.{paste, length-paste, getD-drop}
+use Rattle.bits.specs.Part.{part-from}
+use Rattle.bits.specs.Tab.{tab, over}
+use Rattle.bits.specs.Written.{written-all}
+use Rattle.copying.specs.Copied.{paste-front, paste-outside}
 use borrow.Author.Needs.{needs}
 use Rattle.instantiation_writer.proofs.writing.write_special as fn
 use fn.Statement.{statement}
 use fn.Tie as tie
 
-abbrev Inv : tie.InvT-loop
-Inv out₀ subsets i₀ out i = (i ≤ 15) × Written (λ x. getD subsets (x + 1) 0) i out₀ out
+-- fifteen subsets after the first
+copied :
+    (out subsets : List ℕ)
+    → length subsets ≡ 16
+    → 15 ≤ length out
+    → paste out 0 (take (length subsets - 1) (drop 1 subsets)) 15 ≡ over (tab 15 (λ i. getD subsets (i + 1) 0)) out
+copied out subsets size room =
+    rw (part-from subsets 1)
+    (written-all (λ i. getD subsets (i + 1) 0) 15 out (paste out 0 (drop 1 subsets) 15) room
+    (record {
+      size = length-paste out 0 (drop 1 subsets) 15 (omega arith) enough;
+      front = λ i h. paste-front out (drop 1 subsets) 15 room enough i h ∙ getD-drop 1 subsets i 0 ∙ ap (λ (k : ℕ). getD subsets k 0) (next i);
+      back = λ i h. paste-outside out (drop 1 subsets) 0 15 (omega arith) enough i (inr (omega arith));
+    }))
+  where
+    enough : 15 ≤ length (drop 1 subsets)
+    enough = let rest = length-drop 1 subsets in omega arith
 
-abbrev μ : tie.MeasureT-loop
-μ out₀ subsets i₀ out i = 15 - i
+    next : (i : ℕ) → 1 + i ≡ i + 1
+    next i = omega arith
 
-loop-holds : tie.Need-loop-holds Inv μ
-loop-holds c = (omega arith, written-none _ _)
-
-shared-slice-read-out : tie.Need-shared-slice-read-out Inv μ
-shared-slice-read-out c = let size = c.before.before.before.pre.0 in omega arith
-
-slice-write-out : tie.Need-slice-write-out Inv μ
-slice-write-out c =
-    let size = c.before.before.loop.inv.1.size in
-    let room = c.before.before.before.pre.1 in
-    omega arith
-
-loop-again : tie.Need-loop-again Inv μ
-loop-again c =
-    let size = c.before.before.loop.inv.1.size in
-    let room = c.before.before.before.pre.1 in
-    (omega arith, written-more _ _ _ _ _ (omega arith) c.before.before.loop.inv.1 refl)
-
-same-length : tie.Need-same-length Inv μ
-same-length c = c.before.loop.inv.1.size
-
-returns : tie.Need-returns Inv μ
+returns : tie.Need-returns
 returns c =
-    let all : c.before.loop.i ≡ 15 = omega arith in
-    written-all _ 15 _ _ c.before.before.pre.1 (rw all at c.before.loop.inv.1)
+    let start = c.before.before.before.before.before.before.before in
+    c.before.before.copy-bytes.ensures ∙ copied start.args.out.now start.args.subsets.now start.pre.0 start.pre.1
 
 pub write-special-spec : {M : Type 1} → statement M
 write-special-spec =
-    tie.close (tie.spec Inv μ loop-holds (λ c. search needs) shared-slice-read-out
-    slice-write-out (λ c. search needs) (λ c. search needs) loop-again same-length returns)
+    tie.close (tie.spec (λ c. search needs) (λ c. search needs) (λ c. search needs) (λ c κs. search needs) (λ c. search needs) returns)

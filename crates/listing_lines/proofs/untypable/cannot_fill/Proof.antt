@@ -9,7 +9,7 @@ use fn.Statement.{statement}
 use fn.Tie as tie
 
 fill-costs-requires : tie.Need-fill-costs-requires
-fill-costs-requires c κs = let pre = c.before.before.pre in let width = width-most (c.before.before.args.m) pre.0 in ((pre.1, omega arith), (pre.0, pre.2))
+fill-costs-requires c κs = let pre = c.before.before.pre in let width = width-most c.before.before.args.m pre.0 in ((pre.1, omega arith), (pre.0, pre.2))
 
 returns : tie.Need-returns
 returns c = ap (leb infinity) c.before.fill-costs.ensures.0

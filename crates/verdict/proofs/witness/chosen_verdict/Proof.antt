@@ -17,19 +17,19 @@ choose-specials-requires : tie.Need-choose-specials-requires
 choose-specials-requires c κs =
     let pre = c.before.before.before.before.before.before.pre in
     let can = rw (pre.1.1.0) at pre.1.1.1 in
-    rw (c.before.before.subset-count.ensures, c.before.row-width.ensures) ((pre.1.0.0, refl), ((pow-pos (c.before.before.before.before.before.before.args.m), pow-mono {j = 8} pre.0.0, pre.1.0.1), can))
+    rw (c.before.before.subset-count.ensures, c.before.row-width.ensures) ((pre.1.0.0, refl), ((pow-pos c.before.before.before.before.before.before.args.m, pow-mono {j = 8} pre.0.0, pre.1.0.1), can))
 
 choose-variables-requires : tie.Need-choose-variables-requires
 choose-variables-requires c κs =
     let pre = c.before.before.before.before.before.before.before.before.before.pre in
-    let chosen = rw (c.before.before.before.before.before.subset-count.ensures) at (c.before.before.choose-specials.ensures) in
-    rw (c.before.before.before.before.before.subset-count.ensures) ((pre.1.0.0, refl), ((chosen.below, pow-mono {j = 8} pre.0.0, first-lent _ _ _ 16 _ pre.1.0.1 (omega arith)), chosen.less))
+    let chosen = rw c.before.before.before.before.before.subset-count.ensures at c.before.before.choose-specials.ensures in
+    rw c.before.before.before.before.before.subset-count.ensures ((pre.1.0.0, refl), ((chosen.below, pow-mono {j = 8} pre.0.0, first-lent _ _ _ 16 _ pre.1.0.1 (omega arith)), chosen.less))
 
 write-witness-requires : tie.Need-write-witness-requires
 write-witness-requires c κs =
     let pre = c.before.before.before.before.before.before.before.before.before.before.before.before.before.before.pre in
     let args = c.before.before.before.before.before.before.before.before.before.before.before.before.before.before.args in
-    let chosen = rw (c.before.before.before.before.before.before.before.before.before.before.subset-count.ensures) at (c.before.before.before.before.before.before.before.choose-specials.ensures) in
+    let chosen = rw c.before.before.before.before.before.before.before.before.before.before.subset-count.ensures at c.before.before.before.before.before.before.before.choose-specials.ensures in
     let listed = c.before.before.before.before.choose-variables.ensures in (
       (pre.0.0, pre.0.1),
       (
@@ -44,8 +44,8 @@ returns : tie.Need-returns
 returns c =
     let pre = c.before.before.before.before.before.before.before.before.before.before.before.before.before.before.before.before.before.pre in
     let args = c.before.before.before.before.before.before.before.before.before.before.before.before.before.before.before.before.before.args in
-    let chosen = rw (c.before.before.before.before.before.before.before.before.before.before.before.before.before.subset-count.ensures) at (c.before.before.before.before.before.before.before.before.before.before.choose-specials.ensures) in
-    let listed = rw (c.before.before.before.before.before.before.before.before.before.before.before.before.before.subset-count.ensures) at (c.before.before.before.before.before.before.before.choose-variables.ensures.1) in
+    let chosen = rw c.before.before.before.before.before.before.before.before.before.before.before.before.before.subset-count.ensures at c.before.before.before.before.before.before.before.before.before.before.choose-specials.ensures in
+    let listed = rw c.before.before.before.before.before.before.before.before.before.before.before.before.before.subset-count.ensures at c.before.before.before.before.before.before.before.choose-variables.ensures.1 in
     let wrote = c.before.before.write-witness.ensures in
     let can = rw (pre.1.1.0) at pre.1.1.1 in
     stored-typable args.m (allowedAt args.work.now args.node) args.schema.now _ _ _ _ _ pre.0.2 can chosen.specials

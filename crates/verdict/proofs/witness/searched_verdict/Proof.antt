@@ -1,4 +1,3 @@
-use mathlib.Core.Path.{refl}
 use native.Mathlib.Omega.{arith}
 use Rattle.cover_table.specs.Table.{width-few, width-most}
 use borrow.Author.Needs.{needs}
@@ -7,10 +6,16 @@ use fn.Statement.{statement}
 use fn.Tie as tie
 
 table-verdict-requires : tie.Need-table-verdict-requires
-table-verdict-requires c κs = let pre = c.before.before.before.before.before.pre in let width = width-few (c.before.before.before.before.before.args.m) (c.before.before.if1.taken) in (pre.0, (pre.1.0, pre.1.1, omega arith))
+table-verdict-requires c κs =
+    let start = c.before.before.before.before.before in
+    let width = width-few start.args.m c.before.before.if1.taken in
+    (start.pre.0, (start.pre.1.0, start.pre.1.1, omega arith))
 
 table-verdict-requires-2 : tie.Need-table-verdict-requires-2
-table-verdict-requires-2 c κs = let pre = c.before.before.before.before.before.pre in let width = width-most (c.before.before.before.before.before.args.m) pre.0.0 in (pre.0, (pre.1.0, pre.1.1, omega arith))
+table-verdict-requires-2 c κs =
+    let start = c.before.before.before.before.before in
+    let width = width-most start.args.m start.pre.0.0 in
+    (start.pre.0, (start.pre.1.0, start.pre.1.1, omega arith))
 
 pub searched-verdict-spec : {M : Type 1} → statement M
 searched-verdict-spec =
