@@ -24,9 +24,9 @@ extern "C" {
 
 /* The version of this header and of the archive, and as one number: 10,000 major + 100 minor + patch. */
 #define TYPE_FORMULA_VERSION_MAJOR 0
-#define TYPE_FORMULA_VERSION_MINOR 4
+#define TYPE_FORMULA_VERSION_MINOR 5
 #define TYPE_FORMULA_VERSION_PATCH 0
-#define TYPE_FORMULA_VERSION 400
+#define TYPE_FORMULA_VERSION 500
 
 /* The most relations of an expression file. */
 #define TYPE_FORMULA_MOST_RELATIONS 8
@@ -49,7 +49,7 @@ extern "C" {
 
 /* The answer of Typing and Recover where the schema does not type the node. */
 #define TYPE_FORMULA_UNTYPED 255
-/* The answer of Verdict where no schema types the node. */
+/* The answer of Verdict and Preview where no schema types the node. */
 #define TYPE_FORMULA_UNTYPABLE 255
 
 /* The refusals (FORMAT 8.1). An answer is the number of the first that applies (FORMAT 8.5). */
@@ -60,7 +60,7 @@ enum type_formula_refusal {
     TYPE_FORMULA_RELATION_COUNT = 2,
     /* The node count n is not 1 to 64. */
     TYPE_FORMULA_NODE_COUNT = 3,
-    /* The file ends before a node, or within one. */
+    /* The file ends before a node, or within one; a record is empty, or ends within its node. */
     TYPE_FORMULA_NODE_TRUNCATED = 4,
     /* The node's map is none of the five legal ones. */
     TYPE_FORMULA_NODE_MAP = 5,
@@ -72,7 +72,7 @@ enum type_formula_refusal {
     TYPE_FORMULA_OPERAND = 8,
     /* An attribute is not 1 to 15, or bit 0 of a set stands. */
     TYPE_FORMULA_ATTRIBUTE = 9,
-    /* Bytes follow the last node. */
+    /* Bytes follow the last node, or the node of a record. */
     TYPE_FORMULA_NODES_FOLLOWED = 10,
     /* The node asked for is not below n. */
     TYPE_FORMULA_NODE_NUMBER = 11,
@@ -108,7 +108,9 @@ enum type_formula_refusal {
     /* A relation's record in a schema is empty: every relation has an attribute. */
     TYPE_FORMULA_EMPTY_RECORD = 25,
     /* The image of an instantiation leaves a relation without an attribute. */
-    TYPE_FORMULA_EMPTY_IMAGE = 26
+    TYPE_FORMULA_EMPTY_IMAGE = 26,
+    /* Edit's result slice has fewer than 322 bytes. */
+    TYPE_FORMULA_EDIT_SLICE = 27
 };
 
 /*
@@ -191,6 +193,28 @@ uint8_t type_formula_parse_query(uint8_t relations, const uint8_t *text, size_t 
                                  size_t file_len, size_t *size);
 
 /*
+ * Edit: the file with the node's bytes exchanged for a record, which may be any bytes. Answers 0, writes
+ * the edited file to the result slice and its length to the size; or answers a refusal, and slice and
+ * size stay. The refusals in the order of their tests: 1 to 11, 27, then those of the record, judged as
+ * the node of this number: 4 to 9, and 10 where bytes follow the node in it.
+ */
+uint8_t type_formula_edit(const uint8_t *file, size_t file_len, size_t node, const uint8_t *replacement,
+                          size_t replacement_len, uint8_t *result, size_t result_len, size_t *size);
+
+/*
+ * Preview: the verdict of the last node of the edited file, without a witness; no file is written.
+ * The record may be any bytes, as for Edit. Answers 0 and writes the number of memberships that
+ * Verdict's witness would have, and the attribute stays; or answers TYPE_FORMULA_UNTYPABLE and writes
+ * the attribute that Verdict would, and the memberships stay. Or answers a refusal, and everything
+ * stays: 1 to 12, then those of the record, in the order of Edit. Unless it refuses, it fills the work
+ * space with the formulas of the edited file, as Formula does.
+ * Preview takes up to 6,000 bytes of stack, 4,096 of them for the table of costs.
+ */
+uint8_t type_formula_preview(const uint8_t *file, size_t file_len, size_t node, const uint8_t *replacement,
+                             size_t replacement_len, uint8_t *work, size_t work_len, uint8_t *attribute,
+                             uint8_t *memberships);
+
+/*
  * What an answer says, as text in English. For a number that is no refusal, 0 and 255 among them, it
  * is "no refusal".
  */
@@ -204,7 +228,7 @@ static inline const char *type_formula_refusal_text(int answer)
     case TYPE_FORMULA_NODE_COUNT:
         return "the node count is not 1 to 64 (FORMAT 1.1)";
     case TYPE_FORMULA_NODE_TRUNCATED:
-        return "the file ends before a node or within one (FORMAT 1.2)";
+        return "the file or record ends before a node or within one (FORMAT 1.2, 8.9)";
     case TYPE_FORMULA_NODE_MAP:
         return "the node's map is none of the five legal ones (FORMAT 1.4)";
     case TYPE_FORMULA_OPERATOR_CODE:
@@ -216,7 +240,7 @@ static inline const char *type_formula_refusal_text(int answer)
     case TYPE_FORMULA_ATTRIBUTE:
         return "an attribute is not 1 to 15, or bit 0 of a set stands (FORMAT 1.3)";
     case TYPE_FORMULA_NODES_FOLLOWED:
-        return "bytes follow the last node (FORMAT 1.1)";
+        return "bytes follow the last node, or the node of a record (FORMAT 1.1, 8.9)";
     case TYPE_FORMULA_NODE_NUMBER:
         return "the node asked for is not below the node count (FORMAT 1.1)";
     case TYPE_FORMULA_WORK_SPACE:
@@ -251,6 +275,8 @@ static inline const char *type_formula_refusal_text(int answer)
         return "a relation's record is empty: every relation has an attribute (FORMAT 5.5)";
     case TYPE_FORMULA_EMPTY_IMAGE:
         return "the image of the instantiation leaves a relation without an attribute (FORMAT 6.9)";
+    case TYPE_FORMULA_EDIT_SLICE:
+        return "Edit's result slice has fewer than 322 bytes (FORMAT 9.1)";
     default:
         return "no refusal";
     }

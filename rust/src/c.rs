@@ -14,7 +14,7 @@ pub(crate) mod calls;
 /// The answer of Typing and Recover where the schema does not type the node.
 pub const UNTYPED: u8 = 255;
 
-/// The answer of Verdict where no schema types the node.
+/// The answer of Verdict and Preview where no schema types the node.
 pub const UNTYPABLE: u8 = 255;
 
 extern "C" {
@@ -144,5 +144,42 @@ extern "C" {
         file: *mut u8,
         file_len: usize,
         size: *mut usize,
+    ) -> u8;
+
+    /// Edit: the file with the node's bytes exchanged for a record, which may be any bytes. Answers
+    /// 0, writes the edited file to the result slice and its length to the size; or answers a
+    /// refusal, and slice and size stay. The refusals in the order of their tests: 1 to 11, 27,
+    /// then those of the record, judged as the node of this number: 4 to 9, and 10 where bytes
+    /// follow the node in it.
+    pub fn type_formula_edit(
+        file: *const u8,
+        file_len: usize,
+        node: usize,
+        replacement: *const u8,
+        replacement_len: usize,
+        result: *mut u8,
+        result_len: usize,
+        size: *mut usize,
+    ) -> u8;
+
+    /// Preview: the verdict of the last node of the edited file, without a witness; no file is
+    /// written. The record may be any bytes, as for Edit. Answers 0 and writes the number of
+    /// memberships that Verdict's witness would have, and the attribute stays; or answers
+    /// [`UNTYPABLE`] and writes the attribute that Verdict would, and the memberships stay. Or
+    /// answers a refusal, and everything stays: 1 to 12, then those of the record, in the order of
+    /// Edit. Unless it refuses, it fills the work space with the formulas of the edited file, as
+    /// Formula does.
+    ///
+    /// Preview takes up to 6,000 bytes of stack, 4,096 of them for the table of costs.
+    pub fn type_formula_preview(
+        file: *const u8,
+        file_len: usize,
+        node: usize,
+        replacement: *const u8,
+        replacement_len: usize,
+        work: *mut u8,
+        work_len: usize,
+        attribute: *mut u8,
+        memberships: *mut u8,
     ) -> u8;
 }

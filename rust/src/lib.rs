@@ -19,11 +19,14 @@
 //! | [`apply`] | a file, a node, an instantiation | its [`Schema`] and output [`TypeRecord`] |
 //! | [`recover`] | a file, a node, a schema | its [`Instantiation`], or untyped |
 //! | [`parse_query`] | a query typed as text | its file, as an [`Expression`] |
+//! | [`edit`] | a file, a node, a record | the file with the node exchanged, an [`Expression`] |
+//! | [`preview`] | a file, a node, a record | the verdict of the last node of that file |
 //!
 //! Results are views of the part that was written of a lent slice: each gives its bytes, its parts
 //! and its text. Inputs are built by [`ExpressionBuilder`], [`SchemaBuilder`] and
 //! [`InstantiationBuilder`], or are bytes of any origin; a file is also what [`parse_query`] makes
-//! of a query such as `S[2,3]((N[1>2]r0+r1)*r2)`.
+//! of a query such as `S[2,3]((N[1>2]r0+r1)*r2)`, and a record is that of a [`Node`]
+//! ([`Node::record`]).
 //!
 //! # A whole use
 //!
@@ -127,10 +130,10 @@ mod sizes;
 mod views;
 
 pub use builders::{ExpressionBuilder, InstantiationBuilder, SchemaBuilder};
-pub use node::{BinaryOp, Node, SetOp};
+pub use node::{BinaryOp, Node, NodeRecord, SetOp};
 pub use operations::{
-    accept, apply, formula, parse_query, read_node, record, recover, typing, verdict, Application,
-    Recovery, Typing, Verdict,
+    accept, apply, edit, formula, parse_query, preview, read_node, record, recover, typing,
+    verdict, Application, Preview, Recovery, Typing, Verdict,
 };
 pub use refusal::{Refusal, UnknownRefusal};
 pub use sizes::{

@@ -82,6 +82,41 @@ pub enum Node {
 /// The most bytes of a node.
 pub const LONGEST_NODE: usize = 5;
 
+/// The record of a node: its map and its fields in bit order (FORMAT 1.2), 2 to 5 bytes. A file
+/// that has the node has these bytes, [`record`](crate::record) gives them, and
+/// [`edit`](crate::edit) and [`preview`](crate::preview) take them.
+///
+/// ```
+/// use type_formula::{record, Node, Refusal, SetOp};
+///
+/// let node = Node::WithSet { op: SetOp::Projection, operand: 0, set: 0b1100 };
+/// assert_eq!(node.record().bytes(), [0x1a, 0, 6, 0x0c, 0]);
+///
+/// // π{2,3}(r0).
+/// let file = [1, 2, 0x01, 0, 0x1a, 0, 6, 0x0c, 0];
+/// assert_eq!(record(&file, 1)?, node.record().bytes());
+/// # Ok::<(), Refusal>(())
+/// ```
+#[derive(Clone, Copy, Debug, PartialEq, Eq, Hash)]
+pub struct NodeRecord {
+    bytes: [u8; LONGEST_NODE],
+    size: usize,
+}
+
+impl NodeRecord {
+    /// The record of these bytes.
+    fn new<const SIZE: usize>(record: [u8; SIZE]) -> Self {
+        let (mut bytes, size) = ([0; LONGEST_NODE], SIZE);
+        bytes[..size].copy_from_slice(&record);
+        NodeRecord { bytes, size }
+    }
+
+    /// The bytes of the record.
+    pub fn bytes(&self) -> &[u8] {
+        &self.bytes[..self.size]
+    }
+}
+
 /// The operator of a code, at map 14.
 fn binary_op(code: u8) -> BinaryOp {
     match code {
@@ -123,17 +158,18 @@ impl Node {
         }
     }
 
-    /// The map and the fields in bit order, with zeros after them, and their number.
-    pub(crate) fn to_bytes(self) -> ([u8; LONGEST_NODE], usize) {
+    /// The record of the node. Whether a file can have it at a place is for
+    /// [`edit`](crate::edit) and [`preview`](crate::preview) to say.
+    pub fn record(self) -> NodeRecord {
         match self {
-            Node::Relation { relation } => ([1, relation, 0, 0, 0], 2),
-            Node::Binary { op, left, right } => ([14, left, right, op as u8, 0], 4),
+            Node::Relation { relation } => NodeRecord::new([1, relation]),
+            Node::Binary { op, left, right } => NodeRecord::new([14, left, right, op as u8]),
             Node::WithSet { op, operand, set } => {
                 let [low, high] = set.to_le_bytes();
-                ([26, operand, op as u8, low, high], 5)
+                NodeRecord::new([26, operand, op as u8, low, high])
             }
-            Node::Renaming { operand, old, new } => ([98, operand, old, new, 0], 4),
-            Node::ProjectingOut { operand, old } => ([34, operand, old, 0, 0], 3),
+            Node::Renaming { operand, old, new } => NodeRecord::new([98, operand, old, new]),
+            Node::ProjectingOut { operand, old } => NodeRecord::new([34, operand, old]),
         }
     }
 

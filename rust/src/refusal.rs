@@ -15,7 +15,7 @@ pub enum Refusal {
     RelationCount = 2,
     /// The node count n is not 1 to 64.
     NodeCount = 3,
-    /// The file ends before a node, or within one.
+    /// The file ends before a node, or within one; a record is empty, or ends within its node.
     NodeTruncated = 4,
     /// The node's map is none of the five legal ones.
     NodeMap = 5,
@@ -27,7 +27,7 @@ pub enum Refusal {
     Operand = 8,
     /// An attribute is not 1 to 15, or bit 0 of a set stands.
     Attribute = 9,
-    /// Bytes follow the last node.
+    /// Bytes follow the last node, or the node of a record.
     NodesFollowed = 10,
     /// The node asked for is not below n.
     NodeNumber = 11,
@@ -62,10 +62,12 @@ pub enum Refusal {
     EmptyRecord = 25,
     /// The image of an instantiation leaves a relation without an attribute.
     EmptyImage = 26,
+    /// Edit's result slice has fewer than 322 bytes.
+    EditSlice = 27,
 }
 
 /// Each refusal with its text, by number from 1. `include/type_formula.h` has the same texts.
-const TEXTS: [(Refusal, &str); 26] = [
+const TEXTS: [(Refusal, &str); 27] = [
     (
         Refusal::HeaderTruncated,
         "the file has fewer than two bytes (FORMAT 1.1)",
@@ -80,7 +82,7 @@ const TEXTS: [(Refusal, &str); 26] = [
     ),
     (
         Refusal::NodeTruncated,
-        "the file ends before a node or within one (FORMAT 1.2)",
+        "the file or record ends before a node or within one (FORMAT 1.2, 8.9)",
     ),
     (
         Refusal::NodeMap,
@@ -104,7 +106,7 @@ const TEXTS: [(Refusal, &str); 26] = [
     ),
     (
         Refusal::NodesFollowed,
-        "bytes follow the last node (FORMAT 1.1)",
+        "bytes follow the last node, or the node of a record (FORMAT 1.1, 8.9)",
     ),
     (
         Refusal::NodeNumber,
@@ -169,16 +171,20 @@ const TEXTS: [(Refusal, &str); 26] = [
         Refusal::EmptyImage,
         "the image of the instantiation leaves a relation without an attribute (FORMAT 6.9)",
     ),
+    (
+        Refusal::EditSlice,
+        "Edit's result slice has fewer than 322 bytes (FORMAT 9.1)",
+    ),
 ];
 
 impl Refusal {
-    /// The number, 1 to 26.
+    /// The number, 1 to 27.
     ///
     /// ```
     /// use type_formula::Refusal;
     ///
     /// assert_eq!(Refusal::NodesFollowed.number(), 10);
-    /// let text = "bytes follow the last node (FORMAT 1.1)";
+    /// let text = "bytes follow the last node, or the node of a record (FORMAT 1.1, 8.9)";
     /// assert_eq!(Refusal::NodesFollowed.to_string(), text);
     /// ```
     pub const fn number(self) -> u8 {
@@ -221,7 +227,7 @@ impl Error for UnknownRefusal {}
 /// ```
 /// use type_formula::{Refusal, UnknownRefusal};
 ///
-/// assert_eq!(Refusal::try_from(26), Ok(Refusal::EmptyImage));
+/// assert_eq!(Refusal::try_from(27), Ok(Refusal::EditSlice));
 /// assert_eq!(Refusal::try_from(0), Err(UnknownRefusal(0)));
 /// ```
 impl TryFrom<u8> for Refusal {
@@ -252,7 +258,7 @@ mod tests {
 
     #[test]
     fn other_numbers_are_no_refusals() {
-        for number in [0].into_iter().chain(27..=255) {
+        for number in [0].into_iter().chain(28..=255) {
             assert_eq!(Refusal::try_from(number), Err(UnknownRefusal(number)));
         }
     }

@@ -50,8 +50,9 @@ fn record_is_a_part_of_the_file() {
 
 #[test]
 fn read_node_gives_each_kind_of_node() {
-    let reads = |bytes: &[u8], node| {
+    let reads = |bytes: &[u8], node: Node| {
         assert_eq!(read_node(3, 6, bytes), Ok((node, bytes.len())));
+        assert_eq!(node.record().bytes(), bytes);
     };
     let (left, right, operand, old, new) = (5, 4, 3, 15, 1);
     reads(&[1, 2], Node::Relation { relation: 2 });
@@ -259,6 +260,111 @@ fn parse_query_gives_the_first_refusal_and_writes_nothing() {
     refused(3, "D[0]r3", enough, Refusal::Attribute);
     refused(3, "N[15>16]r0", enough, Refusal::Attribute);
     assert_stays(&file);
+}
+
+#[test]
+fn edit_writes_the_edited_file() {
+    let mut result = [BEFORE; LONGEST_FILE + 1];
+    for (record, length) in [
+        (&[26, 5, 6, 12, 0][..], 25),
+        (&[14, 5, 4, 3], 24),
+        (&[34, 5, 2], 23),
+        (&[1, 2], 22),
+    ] {
+        result.fill(BEFORE);
+        let given = edit(E1, 6, record, &mut result).expect("edited");
+        assert_eq!(given.bytes(), [&E1[..20], record].concat());
+        assert_eq!(accept(given.bytes()), Ok(given));
+        assert_stays(&result[length..]);
+    }
+}
+
+#[test]
+fn edit_exchanges_each_node_of_e1() {
+    let mut result = [BEFORE; LONGEST_FILE];
+    for number in 0..7 {
+        let node = Node::Relation { relation: 2 };
+        let given = edit(E1, number, node.record().bytes(), &mut result).expect("edited");
+        let old = accept(E1).expect("accepted");
+        assert_eq!(given.node(number), Some(node));
+        for other in (0..7).filter(|&other| other != number) {
+            assert_eq!(given.node(other), old.node(other));
+            assert_eq!(record(given.bytes(), other), record(E1, other));
+        }
+    }
+}
+
+#[test]
+fn edit_gives_the_first_refusal_and_writes_nothing() {
+    let mut result = [BEFORE; LONGEST_FILE];
+    let mut refused = |file: &[u8], node, record: &[u8], length: usize, refusal| {
+        let given = edit(file, node, record, &mut result[..length]);
+        assert_eq!(given, Err(refusal), "{record:?}");
+    };
+    let enough = LONGEST_FILE;
+    refused(&[], 7, &[], 0, Refusal::HeaderTruncated);
+    refused(&E1[..24], 7, &[], 0, Refusal::NodeTruncated);
+    refused(E1, 7, &[], 0, Refusal::NodeNumber);
+    refused(E1, usize::MAX, &[], enough, Refusal::NodeNumber);
+    refused(E1, 6, &[], enough - 1, Refusal::EditSlice);
+    refused(E1, 6, &[], enough, Refusal::NodeTruncated);
+    refused(E1, 6, &[0], enough, Refusal::NodeMap);
+    refused(E1, 6, &[14, 6, 6, 0], enough, Refusal::Operand);
+    refused(E1, 6, &[14, 5, 5, 0], enough, Refusal::OperatorCode);
+    refused(E1, 6, &[1, 3, 0], enough, Refusal::RelationNumber);
+    refused(E1, 6, &[34, 5, 16, 0], enough, Refusal::Attribute);
+    refused(E1, 6, &[34, 5, 15, 0], enough, Refusal::NodesFollowed);
+    assert_stays(&result);
+}
+
+/// What Verdict gives of the last node of a file, but for the witness, and the work space.
+fn last_verdict(file: &[u8]) -> (Preview, Vec<u8>) {
+    let (mut work, mut schema) = (vec![BEFORE; WORK_SIZE], [BEFORE; SCHEMA_SIZE]);
+    let last = usize::from(file[1]) - 1;
+    let given = match verdict(file, last, &mut work, &mut schema).expect("accepted") {
+        Verdict::Typable { memberships, .. } => Preview::Typable { memberships },
+        Verdict::Untypable { attribute } => Preview::Untypable { attribute },
+    };
+    (given, work)
+}
+
+#[test]
+fn preview_gives_the_verdict_of_the_edited_file() {
+    let mut result = [BEFORE; LONGEST_FILE];
+    for (node, record, wanted) in [
+        (
+            6,
+            &[26, 5, 6, 12, 0][..],
+            Preview::Typable { memberships: 3 },
+        ),
+        (6, &[26, 5, 6, 4, 0], Preview::Typable { memberships: 3 }),
+        (6, &[98, 5, 2, 2], Preview::Untypable { attribute: 2 }),
+        (1, &[98, 0, 3, 3], Preview::Untypable { attribute: 3 }),
+        (5, &[14, 3, 3, 4], Preview::Untypable { attribute: 2 }),
+    ] {
+        let mut work = vec![BEFORE; WORK_SIZE];
+        assert_eq!(preview(E1, node, record, &mut work), Ok(wanted));
+        let edited = edit(E1, node, record, &mut result).expect("edited");
+        assert_eq!(last_verdict(edited.bytes()), (wanted, work));
+    }
+}
+
+#[test]
+fn preview_gives_the_first_refusal_and_writes_nothing() {
+    let mut work = [BEFORE; 7 * FORMULA_SIZE];
+    let mut refused = |file: &[u8], node, record: &[u8], length: usize, refusal| {
+        let given = preview(file, node, record, &mut work[..length]);
+        assert_eq!(given, Err(refusal), "{record:?}");
+    };
+    let enough = 7 * FORMULA_SIZE;
+    refused(&[], 7, &[], 0, Refusal::HeaderTruncated);
+    refused(&E1[..24], 7, &[], 0, Refusal::NodeTruncated);
+    refused(E1, 7, &[], 0, Refusal::NodeNumber);
+    refused(E1, 6, &[], enough - 1, Refusal::WorkSpace);
+    refused(E1, 6, &[], enough, Refusal::NodeTruncated);
+    refused(E1, 6, &[1, 3, 0], enough, Refusal::RelationNumber);
+    refused(E1, 6, &[1, 2, 0], enough, Refusal::NodesFollowed);
+    assert_stays(&work);
 }
 
 #[test]

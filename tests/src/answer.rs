@@ -1,6 +1,6 @@
 //! Operations, their answers as numbers, and counts of them.
 
-use crate::reference::{Apply, File, ParseQuery, Recover, Typing, Verdict};
+use crate::reference::{Apply, Edit, File, ParseQuery, Preview, Recover, Typing, Verdict};
 
 /// An operation of the engine.
 #[derive(Clone, Copy, Debug, PartialEq, Eq)]
@@ -14,10 +14,12 @@ pub enum Operation {
     Apply,
     Recover,
     ParseQuery,
+    Edit,
+    Preview,
 }
 
 /// All operations, each at the place of its number.
-pub const OPERATIONS: [Operation; 9] = [
+pub const OPERATIONS: [Operation; 11] = [
     Operation::Accept,
     Operation::Record,
     Operation::ReadNode,
@@ -27,6 +29,8 @@ pub const OPERATIONS: [Operation; 9] = [
     Operation::Apply,
     Operation::Recover,
     Operation::ParseQuery,
+    Operation::Edit,
+    Operation::Preview,
 ];
 
 impl Operation {
@@ -41,6 +45,8 @@ impl Operation {
             Operation::Apply => "Apply",
             Operation::Recover => "Recover",
             Operation::ParseQuery => "Parse a query",
+            Operation::Edit => "Edit",
+            Operation::Preview => "Preview",
         }
     }
 }
@@ -48,7 +54,7 @@ impl Operation {
 /// The number for a result.
 pub const RESULT: u8 = 0;
 /// The greatest refusal number.
-pub const GREATEST_REFUSAL: u8 = 26;
+pub const GREATEST_REFUSAL: u8 = 27;
 /// The number for untyped and for untypable.
 pub const NO_TYPE: u8 = 255;
 
@@ -114,6 +120,25 @@ impl Answer for ParseQuery {
         match *self {
             ParseQuery::Parsed { .. } => RESULT,
             ParseQuery::Refused { number } => number,
+        }
+    }
+}
+
+impl Answer for Edit {
+    fn number(&self) -> u8 {
+        match *self {
+            Edit::Edited { .. } => RESULT,
+            Edit::Refused { number } => number,
+        }
+    }
+}
+
+impl Answer for Preview {
+    fn number(&self) -> u8 {
+        match *self {
+            Preview::Typable { .. } => RESULT,
+            Preview::Untypable { .. } => NO_TYPE,
+            Preview::Refused { number } => number,
         }
     }
 }

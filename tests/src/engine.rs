@@ -4,9 +4,9 @@
 //! The wrappers are inline, so that the benchmark measures the C functions alone.
 
 use type_formula::c::{
-    type_formula_accept, type_formula_apply, type_formula_formula, type_formula_parse_query,
-    type_formula_read_node, type_formula_record, type_formula_recover, type_formula_typing,
-    type_formula_verdict,
+    type_formula_accept, type_formula_apply, type_formula_edit, type_formula_formula,
+    type_formula_parse_query, type_formula_preview, type_formula_read_node, type_formula_record,
+    type_formula_recover, type_formula_typing, type_formula_verdict,
 };
 pub use type_formula::c::{UNTYPABLE, UNTYPED};
 
@@ -184,6 +184,59 @@ pub fn parse_query(relations: u8, text: &[u8], file: &mut [u8], size: &mut usize
             file.as_mut_ptr(),
             file.len(),
             size,
+        )
+    }
+}
+
+/// Edit: 0 if the record can stand for the node, and then writes the edited file and the length;
+/// else the number of the first refusal, and slice and size stay.
+#[inline]
+pub fn edit(file: &[u8], node: usize, record: &[u8], result: &mut [u8], size: &mut usize) -> u8 {
+    // SAFETY: pointers and lengths are those of slices; result slice and size are writable.
+    unsafe {
+        type_formula_edit(
+            file.as_ptr(),
+            file.len(),
+            node,
+            record.as_ptr(),
+            record.len(),
+            result.as_mut_ptr(),
+            result.len(),
+            size,
+        )
+    }
+}
+
+/// The numbers that Preview writes.
+#[derive(Clone, Copy, Debug, Default, PartialEq, Eq)]
+pub struct Previewed {
+    pub attribute: u8,
+    pub memberships: u8,
+}
+
+/// Preview: 0 if the last node of the edited file is typable, and then writes the number of
+/// memberships; 255 if it is untypable, and then writes the attribute; else the number of the
+/// first refusal. A number that is not written stays.
+#[inline]
+pub fn preview(
+    file: &[u8],
+    node: usize,
+    record: &[u8],
+    work: &mut [u8],
+    previewed: &mut Previewed,
+) -> u8 {
+    // SAFETY: pointers and lengths are those of slices; work space and numbers are writable.
+    unsafe {
+        type_formula_preview(
+            file.as_ptr(),
+            file.len(),
+            node,
+            record.as_ptr(),
+            record.len(),
+            work.as_mut_ptr(),
+            work.len(),
+            &mut previewed.attribute,
+            &mut previewed.memberships,
         )
     }
 }

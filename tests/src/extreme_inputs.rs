@@ -1,8 +1,8 @@
 //! Inputs at the limits of counts.
 
-use crate::examples::join_of_eight;
+use crate::examples::{join_of_eight, longest_accepted, pairs_of_the_node_before};
 use crate::input::Input;
-use crate::reference::{assignment_of, encode_file, Node, Type};
+use crate::reference::{assignment_of, encode_file, read_file, Node, Type};
 use crate::typing_examples::{in_each_of_eight, spread_over_eight};
 
 /// The join of eight relations, all of whose subsets are allowed for every attribute.
@@ -18,6 +18,25 @@ pub fn join_of_64_nodes() -> Vec<u8> {
         right: right - 1,
     }));
     encode_file(8, &nodes)
+}
+
+/// A file of the greatest accepted length but that this node, from 1 on, is a relation: three
+/// bytes shorter.
+pub fn longest_but_for(number: u8) -> Vec<u8> {
+    let mut file = read_file(&longest_accepted()).expect("accepted");
+    file.nodes[usize::from(number)] = Node::Relation { relation: 7 };
+    encode_file(8, &file.nodes)
+}
+
+/// Accepted files of eight relations and 64 nodes: joins, pairs of the node before, and nodes with
+/// a set, all of them and all but one.
+pub fn greatest_files() -> Vec<Vec<u8>> {
+    let longest = [longest_accepted(), longest_but_for(1), longest_but_for(63)];
+    let joins = [join_of_64_nodes()].into_iter();
+    joins
+        .chain(longest)
+        .chain(pairs_of_the_node_before())
+        .collect()
 }
 
 /// Assignments to eight relations at the limits: one ordinary attribute for each subset,

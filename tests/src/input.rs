@@ -1,7 +1,8 @@
 //! An expression file with what the reference makes of it.
 
 use crate::examples::node_numbers;
-use crate::reference::{infer, Formula, Inferred, FORMULA_LENGTH};
+use crate::reference::{infer, Formula, Inferred};
+use crate::slice_lengths::work_length;
 
 /// A file with what the reference makes of it, which is inferred once for many calls.
 pub struct Input {
@@ -23,10 +24,9 @@ impl Input {
         }
     }
 
-    /// The length of the work space: 1,024 for each node stated, at most 64.
+    /// The length of the work space.
     pub fn work_length(&self) -> usize {
-        let stated = self.bytes.get(1).copied().unwrap_or(0);
-        FORMULA_LENGTH * usize::from(stated.min(64))
+        work_length(&self.bytes)
     }
 
     /// Node numbers to ask.

@@ -4,6 +4,8 @@
 pub mod alone;
 /// Operations, their answers as numbers, and counts of them.
 pub mod answer;
+/// Edits of files with what Edit and Preview answer.
+pub mod edit_examples;
 /// The C functions of the engine, wrapped safely.
 pub mod engine;
 /// Examples and edges of document 01 with their answers.

@@ -48,7 +48,7 @@ impl Random {
 
     /// A node as above that seldom makes an expression untypable: few sets, those
     /// small, and operands that are often among the last four.
-    fn mild_node(&mut self, relations: u8, number: u8) -> Node {
+    pub fn mild_node(&mut self, relations: u8, number: u8) -> Node {
         let relation = self.between(0, relations - 1);
         if number == 0 || self.below(4) == 0 {
             return Node::Relation { relation };

@@ -2,12 +2,14 @@
 
 use std::fmt::Debug;
 
+use crate::edit_examples::Judgement;
 use crate::pseudorandom::Random;
 use crate::reference::{
-    apply, infer, parse_query, recover, typing, Apply, Inferred, ParseQuery, Recover, Typing,
-    BYTES_END_EARLY, BYTES_LEFT_OVER, FILE_LENGTH, FORMULA_LENGTH, INSTANTIATION_LENGTH,
+    apply, edit, infer, parse_query, preview, recover, typing, Apply, Edit, Inferred, ParseQuery,
+    Preview, Recover, Typing, BYTES_END_EARLY, BYTES_LEFT_OVER, FILE_LENGTH, INSTANTIATION_LENGTH,
     OUTPUT_LENGTH, SCHEMA_LENGTH, STANDING_BIT_NO_TYPE_VARIABLE,
 };
+use crate::slice_lengths::work_length;
 use crate::typing_examples::Answer;
 
 /// The byte that fills slices before a call.
@@ -91,19 +93,19 @@ pub fn recover_with(
 }
 
 /// The length of the work space for the file, and one byte more.
-fn work_length(file: &[u8]) -> usize {
-    FORMULA_LENGTH * usize::from(file[1]) + 1
+fn long_enough(file: &[u8]) -> usize {
+    work_length(file) + 1
 }
 
 /// Apply with slices that are long enough.
 pub fn apply_to(file: &[u8], node: usize, instantiation: &[u8]) -> Result<(Vec<u8>, Vec<u8>), u8> {
-    let lengths = [work_length(file), SCHEMA_LENGTH, OUTPUT_LENGTH];
+    let lengths = [long_enough(file), SCHEMA_LENGTH, OUTPUT_LENGTH];
     apply_with(file, node, instantiation, lengths)
 }
 
 /// Recover with slices that are long enough.
 pub fn recover_from(file: &[u8], node: usize, schema: &[u8]) -> Answer<Vec<u8>> {
-    let lengths = [work_length(file), INSTANTIATION_LENGTH];
+    let lengths = [long_enough(file), INSTANTIATION_LENGTH];
     recover_with(file, node, schema, lengths)
 }
 
@@ -146,6 +148,56 @@ pub fn parse_with(relations: u8, text: &[u8], file_length: usize) -> Result<Vec<
 /// Parsing a query with a file slice that is long enough.
 pub fn parse(relations: u8, text: &[u8]) -> Result<Vec<u8>, u8> {
     parse_with(relations, text, FILE_LENGTH)
+}
+
+/// Edit with a result slice of this length: the edited file, or the refusal. Asserts that all other
+/// bytes stay.
+pub fn edit_with(
+    file: &[u8],
+    node: usize,
+    record: &[u8],
+    result_length: usize,
+) -> Result<Vec<u8>, u8> {
+    let mut result = vec![FILL; result_length];
+    match edit(file, node, record, &mut result) {
+        Edit::Edited { length } => Ok(written(result, length)),
+        Edit::Refused { number } => {
+            assert!(is_untouched(&result));
+            Err(number)
+        }
+    }
+}
+
+/// Edit with a result slice that is long enough.
+pub fn edit_of(file: &[u8], node: usize, record: &[u8]) -> Result<Vec<u8>, u8> {
+    edit_with(file, node, record, FILE_LENGTH)
+}
+
+/// Preview with a work space of this length: what is said of the last node, or the refusal. Asserts
+/// that the work space has the formulas of the edited file, or stays.
+pub fn preview_with(
+    file: &[u8],
+    node: usize,
+    record: &[u8],
+    work_length: usize,
+) -> Result<Judgement, u8> {
+    let mut work = vec![FILL; work_length];
+    let judgement = match preview(file, node, record, &mut work) {
+        Preview::Typable { memberships } => Ok(memberships),
+        Preview::Untypable { attribute } => Err(attribute),
+        Preview::Refused { number } => {
+            assert!(is_untouched(&work));
+            return Err(number);
+        }
+    };
+    let edited = edit_of(file, node, record).expect("not refused");
+    assert_filled(&infer(&edited).expect("accepted"), &work);
+    Ok(judgement)
+}
+
+/// Preview with a work space that is long enough.
+pub fn preview_of(file: &[u8], node: usize, record: &[u8]) -> Result<Judgement, u8> {
+    preview_with(file, node, record, long_enough(file))
 }
 
 /// Asserts that every proper prefix of the bytes ends early, and that with bytes after them

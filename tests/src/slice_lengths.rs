@@ -2,7 +2,7 @@
 
 use crate::input::Input;
 use crate::pseudorandom::Random;
-use crate::reference::{INSTANTIATION_LENGTH, OUTPUT_LENGTH, SCHEMA_LENGTH};
+use crate::reference::{FORMULA_LENGTH, INSTANTIATION_LENGTH, OUTPUT_LENGTH, SCHEMA_LENGTH};
 
 /// The most bytes above the least length of a slice.
 const MOST_ABOVE: usize = 500;
@@ -10,6 +10,12 @@ const MOST_ABOVE: usize = 500;
 /// Empty, one byte short, exactly long enough, one byte too long.
 pub fn around(least: usize) -> [usize; 4] {
     [0, least.saturating_sub(1), least, least + 1]
+}
+
+/// The length of the work space for a file: 1,024 for each node stated, at most 64.
+pub fn work_length(file: &[u8]) -> usize {
+    let stated = file.get(1).copied().unwrap_or(0);
+    FORMULA_LENGTH * usize::from(stated.min(64))
 }
 
 /// The least lengths of work space, schema and result slice of Apply.

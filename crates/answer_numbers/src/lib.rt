@@ -1,17 +1,20 @@
 // Each operation's answer as callers in C get it (FORMAT 7.18): a number, and values written where the caller asks.
 ghost use mathlib.Core.Path.{_≡_};
 ghost use Rattle.expression_file.specs.Numbers.{acceptanceNumber, relationsOr, nodesOr};
-ghost use Rattle.verdict_answer.specs.Numbers.{outcomeNumber, outcomeValue, outcomeMemberships};
+ghost use Rattle.verdict_answer.specs.Numbers.{outcomeNumber, outcomeValue, outcomeMemberships, typabilityNumber, typabilityAttribute, typabilityMemberships};
+ghost use Rattle.edit_answer.specs.Numbers.{editingNumber, editingSize};
 ghost use Rattle.typing_answer.specs.Numbers.{answerNumber, answerValue};
 ghost use Rattle.apply_answer.specs.Numbers.{applicationNumber, applicationSchema, applicationOutput};
 ghost use Rattle.recover_answer.specs.Numbers.{recoveryNumber, recoveryValue};
 ghost use Rattle.query_answer.specs.Numbers.{parsingNumber, parsingSize};
 use apply_answer::Application;
+use edit_answer::Editing;
 use expression_file::Acceptance;
 use query_answer::Parsing;
 use recover_answer::Recovery;
 use typing_answer::Answer;
 use verdict_answer::Outcome;
+use verdict_answer::Typability;
 
 // 0, or the refusal's number.
 pub fn acceptance_number(acceptance: Acceptance) -> u8
@@ -117,5 +120,38 @@ pub fn write_parsing(parsing: Parsing, size: &mut usize) -> u8
             0
         }
         Parsing::Refused(r) => r.number(),
+    }
+}
+
+// 0 with the edited file's length, or the refusal's number.
+pub fn write_editing(editing: Editing, size: &mut usize) -> u8
+    ensures { λ r. ⌜ r ≡ editingNumber editing ⌝ }
+    ensures { λ _. ⌜ now (size .exit) ≡ editingSize editing (now (size .entry)) ⌝ }
+{
+    match editing {
+        Editing::Written(written) => {
+            *size = written;
+            0
+        }
+        Editing::Refused(r) => r.number(),
+    }
+}
+
+// 0 with the number of memberships, 255 with the attribute that is said of an untypable node, or the refusal's number.
+pub fn write_typability(typability: Typability, attribute: &mut u8, memberships: &mut u8) -> u8
+    ensures { λ r. ⌜ r ≡ typabilityNumber typability ⌝ }
+    ensures { λ _. ⌜ now (attribute .exit) ≡ typabilityAttribute typability (now (attribute .entry)) ⌝ }
+    ensures { λ _. ⌜ now (memberships .exit) ≡ typabilityMemberships typability (now (memberships .entry)) ⌝ }
+{
+    match typability {
+        Typability::Typable(fewest) => {
+            *memberships = fewest;
+            0
+        }
+        Typability::Untypable(a) => {
+            *attribute = a;
+            255
+        }
+        Typability::Refused(r) => r.number(),
     }
 }

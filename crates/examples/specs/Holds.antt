@@ -177,14 +177,14 @@ pub record Holds (x : Case) : Type 0 where
 -- ---- the test
 
 -- two lists are the same
-same : List ℕ → List ℕ → Bool
+unfoldable pub same : List ℕ → List ℕ → Bool
 same [] [] = true
 same [] (y ∷ ys) = false
 same (x ∷ xs) [] = false
 same (x ∷ xs) (y ∷ ys) = eqb x y && same xs ys
 
 -- the file is accepted with these counts
-accepts : Acceptance → ℕ → ℕ → Bool
+unfoldable pub accepts : Acceptance → ℕ → ℕ → Bool
 accepts (Accepted m n) m′ n′ = eqb m m′ && eqb n n′
 accepts (Refused r) m′ n′ = false
 
@@ -286,14 +286,14 @@ every (x ∷ xs) = passes x && every xs
 
 -- ---- from the test to the facts
 
-same-is : (xs ys : List ℕ) → T (same xs ys) → xs ≡ ys
+pub same-is : (xs ys : List ℕ) → T (same xs ys) → xs ≡ ys
 unfolding same
 same-is [] [] t = refl
 same-is [] (y ∷ ys) t = absurd t
 same-is (x ∷ xs) [] t = absurd t
 same-is (x ∷ xs) (y ∷ ys) t = ap₂ _∷_ (eqb→eq x y (left (eqb x y) (same xs ys) t)) (same-is xs ys (right (eqb x y) (same xs ys) t))
 
-accepts-is : (a : Acceptance) (m n : ℕ) → T (accepts a m n) → a ≡ Accepted m n
+pub accepts-is : (a : Acceptance) (m n : ℕ) → T (accepts a m n) → a ≡ Accepted m n
 unfolding accepts
 accepts-is (Accepted m′ n′) m n t = ap₂ Accepted (eqb→eq m′ m (left (eqb m′ m) (eqb n′ n) t)) (eqb→eq n′ n (right (eqb m′ m) (eqb n′ n) t))
 accepts-is (Refused r) m n t = absurd t

@@ -24,9 +24,11 @@ use Rattle.node.specs.Reading.{node-legal, node-refused}
 
 -- ---- the counts
 
--- FORMAT 1.1: m and n are in their ranges
+-- FORMAT 1.1: m and n are the first two bytes, and in their ranges
 pub record Counts (file : List ℕ) (m n : ℕ) : Type 0 where
   pub header : 2 ≤ length file
+  pub first : getD file 0 0 ≡ m
+  pub second : getD file 1 0 ≡ n
   pub relations : (1 ≤ m) × (m ≤ 8)
   pub nodes : (1 ≤ n) × (n ≤ 64)
 
@@ -43,6 +45,8 @@ header-counts file m n e =
     let n-is : getD file 1 0 ≡ n = cc in
     record {
       header = ltb-false _ _ (long .0);
+      first = m-is;
+      second = n-is;
       relations = rw m-is at (in-range 1 8 (getD file 0 0) (not-false (inRange 1 8 (getD file 0 0)) (relations .0)));
       nodes = rw n-is at (in-range 1 64 (getD file 1 0) (not-false (inRange 1 64 (getD file 1 0)) (nodes .0)));
     }
@@ -108,6 +112,7 @@ count-nodes m (suc count) k bytes es e =
 
 -- an accepted file: its counts, and n nodes that were read
 pub record AcceptedFile (file : List ℕ) (m n : ℕ) : Type 0 where
+  pub header-read : header file ≡ Accepted m n
   pub counts : Counts file m n
   pub nodes : readNodes m n 0 (drop 2 file) ≡ nodesRead (placedNodes file)
   pub count : length (placedNodes file) ≡ n
@@ -129,6 +134,7 @@ accepted-file file m n = from (header file) refl
         let m-is : m′ ≡ m = cc in
         let n-is : n′ ≡ n = cc in
         let whole : AcceptedFile file m′ n′ = record {
+          header-read = h;
           counts = header-counts file m′ n′ h;
           nodes = e ∙ ap nodesRead (sym i);
           count = ap length i ∙ count-nodes m′ n′ 0 (drop 2 file) es e;
@@ -138,6 +144,17 @@ accepted-file file m n = from (header file) refl
     from : (h : Acceptance) → header file ≡ h → answer (afterHeader h file) ≡ Accepted m n → AcceptedFile file m n
     from (Refused r) h a = absurd (let z : _≡_ {A = ℕ} 0 1 = cc in omega arith)
     from (Accepted m′ n′) h a = made m′ n′ h _ refl a (ap (λ (x : Acceptance). nodesIn (afterHeader x file)) h)
+
+-- the other way: a file with these counts, whose nodes are read
+pub record ReadFile (file : List ℕ) (m n : ℕ) (es : List PlacedNode) : Type 0 where
+  pub accepted : acceptance file ≡ Accepted m n
+  pub nodes : placedNodes file ≡ es
+
+pub read-file : (file : List ℕ) (m n : ℕ) (es : List PlacedNode) → header file ≡ Accepted m n → readNodes m n 0 (drop 2 file) ≡ nodesRead es → ReadFile file m n es
+unfolding acceptance placedNodes parse
+read-file file m n es counts nodes =
+    let whole : afterHeader (header file) file ≡ collect m n (nodesRead es) = ap (λ (h : Acceptance). afterHeader h file) counts ∙ ap (collect m n) nodes in
+    record { accepted = ap answer whole; nodes = ap nodesIn whole }
 
 -- ---- a refused file's number is one of 1 to 10
 

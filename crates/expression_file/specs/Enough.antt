@@ -56,7 +56,8 @@ nodes-enough m n (suc count) k a b h =
 
 -- ---- the file
 
-header-enough : (a b : List ℕ) → 2 ≤ length a → header (a ++ b) ≡ header a
+-- the counts do not depend on what follows them
+pub header-enough : (a b : List ℕ) → 2 ≤ length a → header (a ++ b) ≡ header a
 unfolding header
 header-enough [] b h = absurd (omega arith)
 header-enough (x ∷ []) b h = absurd (omega arith)

@@ -4,3 +4,4 @@ pub mod Walk
 pub mod Enough
 pub mod Numbers
 pub mod WrittenFile
+pub mod Exchanged

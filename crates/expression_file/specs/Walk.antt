@@ -26,8 +26,8 @@ abbrev pub longestFile : ℕ
 longestFile = 322
 
 -- past the last node
-abbrev none : PlacedNode
-none = record { node = Relation 0; bytes = [] }
+abbrev pub noNode : PlacedNode
+noNode = record { node = Relation 0; bytes = [] }
 
 -- the walk stands before node k, at byte `at`
 pub record Walk (file : List ℕ) (m n k at : ℕ) : Type 0 where
@@ -57,7 +57,7 @@ pub record Step (file : List ℕ) (m n k at : ℕ) (e : PlacedNode) : Type 0 whe
   pub most : length (e .bytes) ≤ 5
   pub next : Walk file m n (k + 1) (at + length (e .bytes))
 
-total-more : (es : List PlacedNode) (k : ℕ) (d : PlacedNode) → k < length es → total (take (suc k) es) ≡ total (take k es) + length (getD es k d .bytes)
+pub total-more : (es : List PlacedNode) (k : ℕ) (d : PlacedNode) → k < length es → total (take (suc k) es) ≡ total (take k es) + length (getD es k d .bytes)
 total-more [] k d h = absurd (omega arith)
 total-more (e ∷ es) zero d h = omega arith
 total-more (e ∷ es) (suc k) d h = let more = total-more es k d (omega arith) in rw more (omega arith)
@@ -65,13 +65,13 @@ total-more (e ∷ es) (suc k) d h = let more = total-more es k d (omega arith) i
 next-walk :
     (file : List ℕ) (m n k at : ℕ) (e : PlacedNode) (others : List PlacedNode)
     → Walk file m n k at
-    → At (placedNodes file) k none e others
+    → At (placedNodes file) k noNode e others
     → length (e .bytes) ≤ length (drop at file)
     → readNodes m (n - (k + 1)) (k + 1) (drop (length (e .bytes)) (drop at file)) ≡ nodesRead others
     → Walk file m n (k + 1) (at + length (e .bytes))
 unfolding startAt
 next-walk file m n k at e others w here fits rest =
-    let more = total-more (placedNodes file) k none (here .below) in
+    let more = total-more (placedNodes file) k noNode (here .below) in
     let size = ap (λ (x : PlacedNode). length (x .bytes)) (here .here) in
     let place = w .place in
     record {
@@ -84,7 +84,7 @@ step-from : (file : List ℕ) (m n k at : ℕ) → Walk file m n k at → FirstN
 unfolding placedAt
 step-from file m n k at w node =
     let e = node .first in
-    let here = at-head (placedNodes file) k none e (node .others) (node .entries) in
+    let here = at-head (placedNodes file) k noNode e (node .others) (node .entries) in
     let legal = node-legal m k (drop at file) (e .node) (length (e .bytes)) (node .reading) in
     subst (Step file m n k at) (sym (here .here))
     (record {

@@ -17,7 +17,8 @@ use Rattle.node.specs.declared.nodes.Reading.{Reading}
 use Rattle.node.specs.Legal.{LegalNode}
 use Rattle.node.specs.NodeBytes.{nodeBytes, bytes-most, bytes-read}
 use Rattle.expression_file.specs.declared.files.Acceptance.the-variants.{Accepted}
-use Rattle.expression_file.specs.ReadFile.{PlacedNode, follow, readNodes, header, collect, parse, answer, acceptance, nodesIn, placedNodes, placedAt, nodeAt}
+use Rattle.expression_file.specs.ReadFile.{PlacedNode, follow, readNodes, header, acceptance, placedAt, nodeAt}
+use Rattle.expression_file.specs.Accepted.{ReadFile, read-file}
 
 -- the bytes of nodes, each directly after the one before
 unfoldable pub nodesBytes : List Node → List ℕ
@@ -105,19 +106,18 @@ module _ (m : ℕ) (ns : List Node) (nodes : FileNodes m ns) where
       ∙ refuse-passes _ _ _ _ (ap not (range-in 1 8 m (nodes .relations .0) (nodes .relations .1)))
       ∙ refuse-passes _ _ _ _ (ap not (range-in 1 64 (length ns) (nodes .count .0) (nodes .count .1)))
 
-  file-read : (file : List ℕ) → file ≡ fileOf m ns → parse file ≡ collect m (length ns) (nodesRead (placedOf ns))
-  unfolding parse fileOf
-  file-read file is = rw is (rw file-header (ap (collect m (length ns)) (nodes-read m 0 ns (nodes .legal))))
+  file-read : ReadFile (fileOf m ns) m (length ns) (placedOf ns)
+  unfolding fileOf
+  file-read = read-file (fileOf m ns) m (length ns) (placedOf ns) file-header (nodes-read m 0 ns (nodes .legal))
 
   -- it is accepted
   pub file-accepted : acceptance (fileOf m ns) ≡ Accepted m (length ns)
-  unfolding acceptance
-  file-accepted = ap answer (file-read (fileOf m ns) refl)
+  file-accepted = file-read .accepted
 
   -- its nodes are these
   pub file-node : (k : ℕ) → nodeAt (fileOf m ns) k ≡ getD ns k (Relation 0)
-  unfolding placedAt placedNodes placedOf
-  file-node k = ap (λ (es : List PlacedNode). getD es k (record { node = Relation 0; bytes = [] }) .node) (ap nodesIn (file-read (fileOf m ns) refl)) ∙ go ns k
+  unfolding placedAt placedOf
+  file-node k = ap (λ (es : List PlacedNode). getD es k (record { node = Relation 0; bytes = [] }) .node) (file-read .nodes) ∙ go ns k
     where
       go : (ns : List Node) (k : ℕ) → getD (placedOf ns) k (record { node = Relation 0; bytes = [] }) .node ≡ getD ns k (Relation 0)
       go [] k = refl

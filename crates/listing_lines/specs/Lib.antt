@@ -2,5 +2,4 @@ pub mod Text
 pub mod Lines
 pub mod LineLaws
 pub mod TextLaws
-pub mod UntypableLaws
 pub mod Example

@@ -1,17 +1,15 @@
 // The lines of the listing.
-mod untypable;
-
+ghost use mathlib.Core.Path.{_≡_};
 ghost use Prim.Native.Nat.{_+_, _≤_, _<_, _*_};
 ghost use lib.ListN.{length};
 ghost use Rattle.text.specs.Put.{Wrote};
 ghost use Rattle.text.specs.Each.{each};
-ghost use Rattle.listing_lines.specs.Text.{verdictText};
+ghost use Rattle.listing_lines.specs.Text.{untypableBy, verdictText};
 ghost use Rattle.verdict_answer.specs.First.{allowedAt};
 ghost use Rattle.verdict_answer.specs.Formed.{Formed};
 ghost use Rattle.listing_entries.specs.Entries.{KindFits};
 ghost use Rattle.listing_lines.specs.Lines.{nodeText, label, lineText, relationText, outText, attributeText, attributesText, linesText};
 ghost use Rattle.admission.specs.Admission.{formulaSize};
-use crate::untypable::is_untypable;
 use attribute_set::AttrSet;
 use listing_entries::Kind;
 use listing_entries::write_list;
@@ -19,6 +17,8 @@ use stored_columns::read_column;
 use text::write_byte;
 use text::write_bytes;
 use text::write_decimal;
+use typability::typability;
+use verdict_answer::Typability;
 
 // A space and the verdict.
 fn write_verdict(text: &mut [u8], at: usize, untypable: bool) -> usize
@@ -131,6 +131,18 @@ fn write_attribute_lines(text: &mut [u8], at: usize, work: &[u8], node: u8, name
         j += 1;
     }
     end
+}
+
+// Whether a node whose formula stands in the work space is untypable (FORMAT 7.15).
+fn is_untypable(work: &[u8], m: u8, node: u8) -> bool
+    requires { ⌜ (m ≤ 8) × (node * formulaSize + formulaSize ≤ length (now work)) × Formed m (allowedAt (now work) node) ⌝ }
+    ensures { λ r. ⌜ r ≡ untypableBy m (allowedAt (now (work .entry)) node) ⌝ }
+{
+    match typability(work, m, node) {
+        Typability::Untypable(_) => true,
+        Typability::Typable(_) => false,
+        Typability::Refused(_) => false,
+    }
 }
 
 // All lines of a node.

@@ -1,9 +1,9 @@
 -- What Record returns: the part of the file at its place, empty only where one of 1 to 11 applies.
-use Prim.Native.Nat.{ℕ, _+_, _≤_, _<_}
+use Prim.Native.Nat.{ℕ, _+_, _-_, _≤_, _<_}
 use mathlib.Core.Path.{_≡_, refl, sym, ap, _∙_}
-use mathlib.Core.List.{List, []}
+use mathlib.Core.List.{List, [], _++_}
 use native.Mathlib.Omega.{arith}
-use lib.ListN.{length, getD, take, drop, length-drop}
+use lib.ListN.{length, getD, take, drop, length-append, length-drop}
 use lib.Seq.{length-take-le}
 use Rattle.refusal.specs.declared.Refusal.{Refusal}
 use Rattle.refusal.specs.Number.{numberOf}
@@ -13,7 +13,9 @@ use Rattle.node.specs.ReadNode.{sizeOf}
 use Rattle.expression_file.specs.ReadFile.{placedAt, sizeAt, startAt}
 use Rattle.admission.specs.Admission.{asked}
 use Rattle.admission.specs.AdmissionLaws.{asked-passed, asked-number}
+use Rattle.record.specs.declared.Place.{Place}
 use Rattle.record.specs.Record.{placeOf, recordOf}
+use Rattle.expression_file.specs.Exchanged.{exchanged, exchanged-parts}
 use Rattle.expression_file.specs.Walk.{Walk, walk-first, walk-next, Decoded, walk-decoded, step-at}
 
 module _ (file : List ℕ) (k : ℕ) where
@@ -120,3 +122,21 @@ record-length file k =
     let fits = place-fits file k in
     let l = length-drop (placeOf file k .start) file in
     ap length (record-part file k) ∙ length-take-le (placeOf file k .len) (drop (placeOf file k .start) file) (omega arith)
+
+-- ---- the edited file (FORMAT 1.8), by the place of the node
+
+pub record ExchangedAt (file : List ℕ) (k : ℕ) (replacement : List ℕ) (place : Place) : Type 0 where
+  pub fits : place .start + place .len ≤ length file
+  pub parts : exchanged file k replacement ≡ take (place .start) file ++ (replacement ++ drop (place .start + place .len) file)
+  pub size : length (exchanged file k replacement) ≡ place .start + (length replacement + (length file - (place .start + place .len)))
+
+pub exchanged-at : (file : List ℕ) (k : ℕ) (replacement : List ℕ) (place : Place) → Seeking file k 0 2 → place ≡ placeOf file k → ExchangedAt file k replacement place
+exchanged-at file k replacement place s is =
+    let found : place ≡ record { start = startAt file k; len = sizeAt file k } = is ∙ record-found file k (s .m) (s .n) (s .found) .1 in
+    let fits = rw (← is) at (place-fits file k) in
+    let parts : exchanged file k replacement ≡ take (place .start) file ++ (replacement ++ drop (place .start + place .len) file) = rw found (exchanged-parts file k replacement) in
+    let before = length-take-le (place .start) file (omega arith) in
+    let after = length-drop (place .start + place .len) file in
+    let front = length-append (take (place .start) file) (replacement ++ drop (place .start + place .len) file) in
+    let back = length-append replacement (drop (place .start + place .len) file) in
+    record { fits = fits; parts = parts; size = ap length parts ∙ omega arith }

@@ -1,6 +1,7 @@
 // Record: the part of a file that holds a node.
 ghost use mathlib.Core.Path.{_≡_};
 ghost use Rattle.record.specs.Record.{placeOf, placedIn, recordOf};
+ghost use Rattle.record.specs.RecordLaws.{Seeking};
 use admission::ask;
 use expression_file::Acceptance;
 use node_reader::size_of;
@@ -11,13 +12,11 @@ pub struct Place {
     pub len: usize,
 }
 
-// Where the part that Record returns lies (FORMAT 7.5); it is empty and starts at 0 where 1 to 11 apply.
-pub fn locate(file: &[u8], node: usize) -> Place
+// Where a node's part lies, for operations to which none of 1 to 11 applies.
+pub fn place_of(file: &[u8], node: usize) -> Place
+    requires { ⌜ Seeking (now file) node 0 2 ⌝ }
     ensures { λ r. ⌜ r ≡ placeOf (now (file .entry)) node ⌝ }
 {
-    let Acceptance::Accepted(_, _) = ask(file, node) else {
-        return Place { start: 0, len: 0 };
-    };
     let mut at = 2;
     let mut k = 0;
     while k < node {
@@ -27,6 +26,16 @@ pub fn locate(file: &[u8], node: usize) -> Place
     Place {
         start: at,
         len: size_of(file[at]),
+    }
+}
+
+// Where the part that Record returns lies (FORMAT 7.5); it is empty and starts at 0 where 1 to 11 apply.
+pub fn locate(file: &[u8], node: usize) -> Place
+    ensures { λ r. ⌜ r ≡ placeOf (now (file .entry)) node ⌝ }
+{
+    match ask(file, node) {
+        Acceptance::Refused(_) => Place { start: 0, len: 0 },
+        Acceptance::Accepted(_, _) => place_of(file, node),
     }
 }
 

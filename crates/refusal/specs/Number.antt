@@ -7,7 +7,7 @@ use lib.ListN.{getD}
 use Rattle.refusal.specs.declared.Refusal.{Refusal}
 use Rattle.refusal.specs.declared.Refusal.the-variants.{HeaderTruncated, RelationCount, NodeCount, NodeTruncated, NodeMap, OperatorCode, RelationNumber, Operand, Attribute, NodesFollowed}
 use Rattle.refusal.specs.declared.Refusal.the-variants.{NodeNumber, WorkSpace, ResultSlice, InputTruncated, CountZero, ListedAttribute, InputFollowed, TooManyAttributes, RepeatedAttribute}
-use Rattle.refusal.specs.declared.Refusal.the-variants.{TypeVariable, SpecialSubset, QuerySyntax, QueryLength, QueryNodes, EmptyRecord, EmptyImage}
+use Rattle.refusal.specs.declared.Refusal.the-variants.{TypeVariable, SpecialSubset, QuerySyntax, QueryLength, QueryNodes, EmptyRecord, EmptyImage, EditSlice}
 
 -- FORMAT 8.1: the number of each name
 abbrev pub numberOf : Refusal → ℕ
@@ -37,6 +37,7 @@ numberOf QueryLength = 23
 numberOf QueryNodes = 24
 numberOf EmptyRecord = 25
 numberOf EmptyImage = 26
+numberOf EditSlice = 27
 
 -- the table's rows, first to last
 table : List Refusal
@@ -44,7 +45,7 @@ table =
     HeaderTruncated ∷ RelationCount ∷ NodeCount ∷ NodeTruncated ∷ NodeMap ∷ OperatorCode ∷ RelationNumber ∷ Operand ∷ Attribute ∷
     NodesFollowed ∷ NodeNumber ∷ WorkSpace ∷ ResultSlice ∷ InputTruncated ∷ CountZero ∷ ListedAttribute ∷ InputFollowed ∷
     TooManyAttributes ∷ RepeatedAttribute ∷ TypeVariable ∷ SpecialSubset ∷ QuerySyntax ∷ QueryLength ∷ QueryNodes ∷
-    EmptyRecord ∷ EmptyImage ∷ []
+    EmptyRecord ∷ EmptyImage ∷ EditSlice ∷ []
 
 -- the refusal with a number
 row : ℕ → Refusal
@@ -78,13 +79,14 @@ number-row QueryLength = refl
 number-row QueryNodes = refl
 number-row EmptyRecord = refl
 number-row EmptyImage = refl
+number-row EditSlice = refl
 
 -- no two refusals have one number
 pub number-once : (a b : Refusal) → numberOf a ≡ numberOf b → a ≡ b
 number-once a b e = sym (number-row a) ∙ ap row e ∙ number-row b
 
--- they are 1 to 26
-number-range : (r : Refusal) → (1 ≤ numberOf r) × (numberOf r ≤ 26)
+-- they are 1 to 27
+number-range : (r : Refusal) → (1 ≤ numberOf r) × (numberOf r ≤ 27)
 number-range HeaderTruncated = (lit≤ tt, lit≤ tt)
 number-range RelationCount = (lit≤ tt, lit≤ tt)
 number-range NodeCount = (lit≤ tt, lit≤ tt)
@@ -111,10 +113,11 @@ number-range QueryLength = (lit≤ tt, lit≤ tt)
 number-range QueryNodes = (lit≤ tt, lit≤ tt)
 number-range EmptyRecord = (lit≤ tt, lit≤ tt)
 number-range EmptyImage = (lit≤ tt, lit≤ tt)
+number-range EditSlice = (lit≤ tt, lit≤ tt)
 
 -- 0 is no refusal's number
 pub number-positive : (r : Refusal) → 1 ≤ numberOf r
 number-positive r = number-range r .0
 
-pub number-most : (r : Refusal) → numberOf r ≤ 26
+pub number-most : (r : Refusal) → numberOf r ≤ 27
 number-most r = number-range r .1

@@ -55,6 +55,8 @@ pub enum Refusal {
     EmptyRecord,
     // the image of an instantiation leaves a relation empty
     EmptyImage,
+    // Edit's result slice has fewer than 322 bytes
+    EditSlice,
 }
 
 impl Refusal {
@@ -89,6 +91,7 @@ impl Refusal {
             Refusal::QueryNodes => 24,
             Refusal::EmptyRecord => 25,
             Refusal::EmptyImage => 26,
+            Refusal::EditSlice => 27,
         }
     }
 }

@@ -1,5 +1,6 @@
 // The operations for callers in C and Rust (FORMAT 7.18, 7.19): numbers and byte slices only. A `&[u8]` is a
 // pointer and then a length.
+mod edits;
 mod formulas;
 mod instantiations;
 mod queries;

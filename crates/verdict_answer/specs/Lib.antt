@@ -7,5 +7,6 @@ pub mod WitnessLaws
 pub mod FirstChoice
 pub mod Verdict
 pub mod VerdictLaws
+pub mod Typability
 pub mod Numbers
 pub mod WorkSpace

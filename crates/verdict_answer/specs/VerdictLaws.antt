@@ -179,6 +179,18 @@ filled-formed file k work filled m n admits is =
     stored-formed filled k m (expressionAt file k) (expression-legal file m n (admits .accepted) k (admits .node))
     (λ c h. rw is (stored-column file work m n (admits .workSpace) k c (admits .node) h))
 
+-- so the outcome off the work space is that of the node's expression
+pub filled-outcome :
+    (file : List ℕ) (k : ℕ) (work filled : List ℕ) (m n : ℕ)
+    → Admits file k (length work) m n
+    → filled ≡ over (formulasOf file m n) work
+    → (outcomeIn m (allowedAt filled k) ≡ outcomeIn m (allowedBit m (expressionAt file k)))
+    × ((schema : List ℕ) → schemaIn m (allowedAt filled k) schema ≡ schemaIn m (allowedBit m (expressionAt file k)) schema)
+filled-outcome file k work filled m n admits is =
+    let same = stored-cells filled k m (expressionAt file k) (λ c h. rw is (stored-column file work m n (admits .workSpace) k c (admits .node) h)) in
+    let few = admits-few admits .0 in
+    (same-outcome m few (allowedAt filled k) (allowedBit m (expressionAt file k)) same, same-schema m few (allowedAt filled k) (allowedBit m (expressionAt file k)) same)
+
 -- ---- the answer, the work space and the schema slice
 
 module _ (file : List ℕ) (k : ℕ) (work schema : List ℕ) where
@@ -211,12 +223,9 @@ module _ (file : List ℕ) (k : ℕ) (work schema : List ℕ) where
       → Results o filled written
   verdict-goes m n filled written o e is answered wrote =
       let admits = admitted-passed file k (length work) (sliced-passed (admitted file k (length work)) (length schema) schemaSize e .0) in
-      let same = stored-cells filled k m (expressionAt file k) (λ c h. rw is (stored-column file work m n (admits .workSpace) k c (admits .node) h)) in
-      let few = admits-few admits .0 in
-      let results = verdict-passes m n e in (
-        answered ∙ same-outcome m few (allowedAt filled k) (allowedBit m (expressionAt file k)) same ∙ results .0,
-        (is ∙ results .1 .0, wrote ∙ same-schema m few (allowedAt filled k) (allowedBit m (expressionAt file k)) same schema ∙ results .1 .1),
-      )
+      let same = filled-outcome file k work filled m n admits is in
+      let results = verdict-passes m n e in
+      (answered ∙ same .0 ∙ results .0, (is ∙ results .1 .0, wrote ∙ same .1 schema ∙ results .1 .1))
 
   -- where it is not refused, none of 1 to 13 applies
   pub verdict-unrefused : ((r : Refusal) → verdictAnswer file k (length work) (length schema) ≡ Refused r → ⊥) → (m : ℕ) × ((n : ℕ) × (sliced (admitted file k (length work)) (length schema) schemaSize ≡ Accepted m n))

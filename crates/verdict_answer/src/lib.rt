@@ -15,3 +15,11 @@ pub enum Outcome {
     Untypable(u8),
     Refused(Refusal),
 }
+
+// The verdict without its witness: the number of memberships that the witness has; or the attribute; or the first
+// refusal.
+pub enum Typability {
+    Typable(u8),
+    Untypable(u8),
+    Refused(Refusal),
+}

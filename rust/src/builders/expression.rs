@@ -56,9 +56,9 @@ impl ExpressionBuilder {
         if usize::from(number) == MOST_NODES {
             return Err(Refusal::NodeCount);
         }
-        let (bytes, size) = node.to_bytes();
-        read_node(relations, number, &bytes[..size])?;
-        self.file.insert(self.file.length(), &bytes[..size]);
+        let record = node.record();
+        read_node(relations, number, record.bytes())?;
+        self.file.insert(self.file.length(), record.bytes());
         self.file.bytes_mut()[1] += 1;
         Ok(number)
     }

@@ -2,9 +2,9 @@
 //! of a slice belong together, no pointer is null, and exclusive references overlap nothing.
 
 use super::{
-    type_formula_accept, type_formula_apply, type_formula_formula, type_formula_parse_query,
-    type_formula_read_node, type_formula_record, type_formula_recover, type_formula_typing,
-    type_formula_verdict,
+    type_formula_accept, type_formula_apply, type_formula_edit, type_formula_formula,
+    type_formula_parse_query, type_formula_preview, type_formula_read_node, type_formula_record,
+    type_formula_recover, type_formula_typing, type_formula_verdict,
 };
 
 /// The lengths that Apply writes.
@@ -138,6 +138,46 @@ pub fn parse_query(relations: u8, text: &[u8], file: &mut [u8], size: &mut usize
             file.as_mut_ptr(),
             file.len(),
             size,
+        )
+    }
+}
+
+pub fn edit(file: &[u8], node: usize, record: &[u8], result: &mut [u8], size: &mut usize) -> u8 {
+    // SAFETY: as in `accept`.
+    unsafe {
+        type_formula_edit(
+            file.as_ptr(),
+            file.len(),
+            node,
+            record.as_ptr(),
+            record.len(),
+            result.as_mut_ptr(),
+            result.len(),
+            size,
+        )
+    }
+}
+
+pub fn preview(
+    file: &[u8],
+    node: usize,
+    record: &[u8],
+    work: &mut [u8],
+    attribute: &mut u8,
+    memberships: &mut u8,
+) -> u8 {
+    // SAFETY: as in `accept`.
+    unsafe {
+        type_formula_preview(
+            file.as_ptr(),
+            file.len(),
+            node,
+            record.as_ptr(),
+            record.len(),
+            work.as_mut_ptr(),
+            work.len(),
+            attribute,
+            memberships,
         )
     }
 }

@@ -4,8 +4,9 @@ use core::fmt::{self, Display, Formatter};
 
 use crate::{read_node, Node};
 
-/// An accepted expression file (FORMAT, section 1), which [`accept`](crate::accept) and
-/// [`parse_query`](crate::parse_query) give. Its text has a line for each node.
+/// An accepted expression file (FORMAT, section 1), which [`accept`](crate::accept),
+/// [`parse_query`](crate::parse_query) and [`edit`](crate::edit) give. Its text has a line for each
+/// node.
 ///
 /// ```
 /// use type_formula::{accept, Refusal};

@@ -2,10 +2,8 @@
 
 use std::rc::Rc;
 
-use crate::examples::{
-    all_nodes_with_set, cases, e1, e10, longest_accepted, node_numbers, pairs_of_the_node_before,
-};
-use crate::extreme_inputs::{join_input, join_of_64_nodes};
+use crate::examples::{all_nodes_with_set, cases, e1, e10, node_numbers};
+use crate::extreme_inputs::{greatest_files, join_input};
 use crate::input::Input;
 use crate::pseudorandom::Random;
 use crate::random_covers::FileKind;
@@ -87,6 +85,19 @@ fn damaged(random: &mut Random, (relations, count): (u8, u8)) -> Vec<u8> {
     bytes
 }
 
+/// A tree of any number of relations.
+fn tree(random: &mut Random) -> Vec<u8> {
+    let relations = random.between(1, 8);
+    random.tree_file(relations)
+}
+
+/// A file by how its relations are filled.
+fn of_some_kind(random: &mut Random) -> Vec<u8> {
+    let kind = FileKind::ALL[random.below(FileKind::ALL.len())];
+    let relations = random.between(1, 8);
+    random.file_of_kind(kind, relations)
+}
+
 /// Any m and n for a node: in their ranges, or any bytes.
 fn counts(random: &mut Random) -> (u8, u8) {
     match random.below(2) {
@@ -95,11 +106,10 @@ fn counts(random: &mut Random) -> (u8, u8) {
     }
 }
 
-/// Relation count, node number and bytes to read a node from.
-pub fn node(random: &mut Random) -> (u8, u8, Vec<u8>) {
-    let (relations, number) = counts(random);
+/// Bytes to read a node from, as node of this number in a file of so many relations.
+pub fn node_bytes(random: &mut Random, relations: u8, number: u8) -> Vec<u8> {
     let length = random.below(12);
-    let bytes = match random.below(8) {
+    match random.below(8) {
         0 => random.bytes(length),
         1 => random.likely_bytes(length),
         2..=3 => {
@@ -117,7 +127,13 @@ pub fn node(random: &mut Random) -> (u8, u8, Vec<u8>) {
             }
             bytes
         }
-    };
+    }
+}
+
+/// Relation count, node number and bytes to read a node from.
+pub fn node(random: &mut Random) -> (u8, u8, Vec<u8>) {
+    let (relations, number) = counts(random);
+    let bytes = node_bytes(random, relations, number);
     (relations, number, bytes)
 }
 
@@ -162,8 +178,7 @@ impl Files {
         let others = [e1().bytes, e10().bytes, all_nodes_with_set()];
         let known = cases().into_iter().map(|case| case.bytes);
         let mut greatest = vec![Rc::new(join_input())];
-        greatest.extend(inputs([join_of_64_nodes(), longest_accepted()]));
-        greatest.extend(inputs(pairs_of_the_node_before()));
+        greatest.extend(inputs(greatest_files()));
         Files {
             extreme: inputs(known.chain(others)),
             greatest,
@@ -184,6 +199,19 @@ impl Files {
         }
     }
 
+    /// The bytes of a file to edit, most often accepted.
+    pub fn to_edit(&self, random: &mut Random) -> Vec<u8> {
+        let size = size(random);
+        match random.below(64) {
+            0 => one_of(random, &self.greatest).bytes.clone(),
+            1..=3 => one_of(random, &self.extreme).bytes.clone(),
+            4..=11 => damaged(random, size),
+            12..=15 => tree(random),
+            16..=23 => of_some_kind(random),
+            _ => random.likely_file(size.0, size.1),
+        }
+    }
+
     /// A file, as often accepted as not.
     pub fn input(&self, random: &mut Random) -> Rc<Input> {
         let size = size(random);
@@ -191,15 +219,8 @@ impl Files {
             0 => one_of(random, &self.greatest),
             1..=3 => one_of(random, &self.extreme),
             4..=31 => Rc::new(Input::new(damaged(random, size))),
-            32..=35 => {
-                let relations = random.between(1, 8);
-                Rc::new(Input::new(random.tree_file(relations)))
-            }
-            36..=43 => {
-                let kind = FileKind::ALL[random.below(FileKind::ALL.len())];
-                let relations = random.between(1, 8);
-                Rc::new(Input::new(random.file_of_kind(kind, relations)))
-            }
+            32..=35 => Rc::new(Input::new(tree(random))),
+            36..=43 => Rc::new(Input::new(of_some_kind(random))),
             _ => Rc::new(Input::new(random.likely_file(size.0, size.1))),
         }
     }

@@ -1,6 +1,7 @@
 //! A mixture of inputs of all operations, each derived from a seed and its number: random,
 //! damaged, truncated, extended and extreme ones among inputs that give a result.
 
+mod edits;
 mod files;
 mod instantiations;
 mod queries;
@@ -15,7 +16,7 @@ use crate::input::Input;
 use crate::paired_calls::{Difference, PairedCalls};
 use crate::pseudorandom::Random;
 use crate::reference::{read_file, FILE_LENGTH, OUTPUT_LENGTH, SCHEMA_LENGTH};
-use crate::slice_lengths::{least_for_apply, least_for_recover};
+use crate::slice_lengths::{least_for_apply, least_for_recover, work_length};
 
 /// The seed of what fills lent slices.
 const NOISE_SEED: u64 = 110;
@@ -85,12 +86,14 @@ impl Mixture {
             Operation::Apply => self.apply(&mut random),
             Operation::Recover => self.recover(&mut random),
             Operation::ParseQuery => self.parse_query(&mut random),
+            Operation::Edit => self.edit(&mut random),
+            Operation::Preview => self.preview(&mut random),
         }
     }
 
     /// Counts a file of m 8 and n 64.
-    fn count_greatest(&mut self, input: &Input) {
-        let is_greatest = input.bytes.starts_with(&[8, 64]) && input.inferred.is_ok();
+    fn count_greatest(&mut self, file: &[u8], is_accepted: bool) {
+        let is_greatest = file.starts_with(&[8, 64]) && is_accepted;
         self.greatest += u64::from(is_greatest);
     }
 
@@ -113,14 +116,14 @@ impl Mixture {
 
     fn formula(&mut self, random: &mut Random) -> Result<u8, Difference> {
         let input = self.files.input(random);
-        self.count_greatest(&input);
+        self.count_greatest(&input.bytes, input.inferred.is_ok());
         let [length] = lengths(random, [input.work_length()]);
         self.calls.formula(&input, length)
     }
 
     fn verdict(&mut self, random: &mut Random) -> Result<u8, Difference> {
         let input = self.files.input(random);
-        self.count_greatest(&input);
+        self.count_greatest(&input.bytes, input.inferred.is_ok());
         let node = files::any_node_of(random, &input);
         let lengths = lengths(random, [input.work_length(), SCHEMA_LENGTH]);
         number(self.calls.verdict(&input, node, lengths))
@@ -129,7 +132,7 @@ impl Mixture {
     /// A file with one of its nodes and a schema that is often near a typed one.
     pub fn with_schema(&mut self, random: &mut Random) -> (Rc<Input>, usize, Vec<u8>) {
         let input = self.files.likely_input(random);
-        self.count_greatest(&input);
+        self.count_greatest(&input.bytes, input.inferred.is_ok());
         let likely = files::likely_node(random, &input);
         let schema = schemas::schema(random, &input, likely);
         let node = asked_node(random, &input, likely);
@@ -146,7 +149,7 @@ impl Mixture {
     /// node's formula.
     pub fn with_instantiation(&mut self, random: &mut Random) -> (Rc<Input>, usize, Vec<u8>) {
         let input = self.files.likely_input(random);
-        self.count_greatest(&input);
+        self.count_greatest(&input.bytes, input.inferred.is_ok());
         let likely = files::likely_node(random, &input);
         let instantiation = instantiations::instantiation(random, &input, likely);
         let node = asked_node(random, &input, likely);
@@ -174,6 +177,28 @@ impl Mixture {
         let (relations, text) = self.query(random);
         let [length] = lengths(random, [FILE_LENGTH]);
         number(self.calls.parse_query(relations, &text, length))
+    }
+
+    /// A file with one of its nodes and a record that can often stand for it.
+    pub fn with_record(&mut self, random: &mut Random) -> (Vec<u8>, usize, Vec<u8>) {
+        let file = self.files.to_edit(random);
+        let read = read_file(&file);
+        let node = files::any_node(random, &file, read.as_ref().ok());
+        let record = edits::record(random, &file, node);
+        (file, node, record)
+    }
+
+    fn edit(&mut self, random: &mut Random) -> Result<u8, Difference> {
+        let (file, node, record) = self.with_record(random);
+        let [length] = lengths(random, [FILE_LENGTH]);
+        number(self.calls.edit(&file, node, &record, length))
+    }
+
+    fn preview(&mut self, random: &mut Random) -> Result<u8, Difference> {
+        let (file, node, record) = self.with_record(random);
+        self.count_greatest(&file, read_file(&file).is_ok());
+        let [length] = lengths(random, [work_length(&file)]);
+        number(self.calls.preview(&file, node, &record, length))
     }
 }
 

@@ -1,6 +1,7 @@
 //! One call of an operation by the engine and by the reference: answers, numbers written
 //! and every byte of every lent slice are compared.
 
+mod edits;
 mod files;
 mod formulas;
 mod instantiations;

@@ -29,6 +29,7 @@ pub const TEXT_TOO_LONG: u8 = 23;
 pub const TOO_MANY_NODES: u8 = 24;
 pub const EMPTY_RECORD: u8 = 25;
 pub const IMAGE_NOT_FILLED: u8 = 26;
+pub const EDIT_SLICE_TOO_SHORT: u8 = 27;
 
 /// The five legal bit maps of a node.
 pub const RELATION_MAP: u8 = 1;

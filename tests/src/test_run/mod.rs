@@ -1,6 +1,7 @@
 //! The run of a test: operations called in pairs, by the engine and by the reference; each asserts
 //! that nothing differs, and its answer is counted.
 
+mod edits;
 mod files;
 mod formulas;
 mod instantiations;
@@ -13,7 +14,7 @@ use crate::answer::{Answer, Counts, Operation, NO_TYPE, RESULT};
 use crate::input::Input;
 use crate::paired_calls::{Difference, PairedCalls};
 use crate::pseudorandom::Random;
-use crate::reference::{Apply, File, ParseQuery, Recover, Typing, Verdict};
+use crate::reference::{Apply, Edit, File, ParseQuery, Preview, Recover, Typing, Verdict};
 
 /// The calls of a test and the counts of their answers.
 pub struct TestRun {
@@ -97,6 +98,16 @@ impl TestRun {
     pub fn parse_query(&mut self, relations: u8, text: &[u8], length: usize) -> ParseQuery {
         let compared = self.calls.parse_query(relations, text, length);
         self.made(Operation::ParseQuery, compared)
+    }
+
+    pub fn edit(&mut self, file: &[u8], node: usize, record: &[u8], length: usize) -> Edit {
+        let compared = self.calls.edit(file, node, record, length);
+        self.made(Operation::Edit, compared)
+    }
+
+    pub fn preview(&mut self, file: &[u8], node: usize, record: &[u8], length: usize) -> Preview {
+        let compared = self.calls.preview(file, node, record, length);
+        self.made(Operation::Preview, compared)
     }
 
     /// Asserts that the operation gave each of these answers at least so often.

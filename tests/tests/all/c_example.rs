@@ -203,7 +203,7 @@ fn the_header_has_the_constants_of_the_crate() {
     let wanted: BTreeSet<String> = wanted
         .map(|(name, value)| format!("{name} {value}"))
         .collect();
-    assert_eq!(wanted.len(), 41);
+    assert_eq!(wanted.len(), 42);
     assert_eq!(given, wanted);
 }
 
@@ -274,6 +274,89 @@ fn queries_are_parsed_from_c() {
     let refused = |refusal: Refusal| format!("refused {}: {refusal}\n", refusal.number());
     let wanted = to_hexadecimal(&e1().bytes) + "\n";
     assert_eq!(printed, wanted + &refusals.map(refused).concat());
+}
+
+/// Prints what Preview says of each record for E1's last node, its two numbers, and the bytes of
+/// the edited file and what a short slice gives; or what the refusal says. The records are in the
+/// arguments, as hexadecimal pairs without spaces.
+const EDITS: &str = "\
+#include <stdio.h>
+#include \"type_formula.h\"
+
+static uint8_t work[TYPE_FORMULA_WORK_SIZE];
+
+static size_t read_record(const char *text, uint8_t *record)
+{
+    size_t length = 0;
+    unsigned byte;
+    while (sscanf(text + 2 * length, \"%2x\", &byte) == 1)
+        record[length++] = (uint8_t)byte;
+    return length;
+}
+
+static void print_edited(const uint8_t *record, size_t length)
+{
+    static const uint8_t e1[25] = {3, 7, 1, 0, 98, 0, 1, 2, 1, 1, 14, 1, 2, 1, 1, 2, 14, 3, 4, 3,
+                                   26, 5, 5, 12, 0};
+    uint8_t result[TYPE_FORMULA_LONGEST_FILE], attribute = 77, memberships = 99;
+    size_t size, i;
+    uint8_t answer = type_formula_preview(e1, sizeof e1, 6, record, length, work, sizeof work,
+                                          &attribute, &memberships);
+    printf(\"preview %d, attribute %d, memberships %d\\n\", answer, attribute, memberships);
+    answer = type_formula_edit(e1, sizeof e1, 6, record, length, result, sizeof result, &size);
+    if (answer != 0) {
+        printf(\"refused %d: %s\\n\", answer, type_formula_refusal_text(answer));
+        return;
+    }
+    for (i = 0; i < size; i++)
+        printf(\"%02x%c\", result[i], i + 1 < size ? ' ' : '\\n');
+    answer = type_formula_edit(e1, sizeof e1, 6, record, length, result, sizeof result - 1, &size);
+    printf(\"%s\\n\", type_formula_refusal_text(answer));
+}
+
+int main(int count, char **arguments)
+{
+    uint8_t record[16];
+    int place;
+    for (place = 1; place < count; place++)
+        print_edited(record, read_record(arguments[place], record));
+    return 0;
+}
+";
+
+#[test]
+fn files_are_edited_from_c() {
+    let program = compile_text(C, EDITS, "edits.c");
+    let edited = |numbers: &str, record: &str| {
+        let front = to_hexadecimal(&e1().bytes[..20]);
+        let short = Refusal::EditSlice;
+        format!("preview {numbers}\n{front} {record}\n{short}\n")
+    };
+    let refused = |refusal: Refusal| {
+        let number = refusal.number();
+        format!("preview {number}, attribute 77, memberships 99\nrefused {number}: {refusal}\n")
+    };
+    for (record, wanted) in [
+        ("1a 05 06 0c 00", "0, attribute 77, memberships 3"),
+        ("1a 05 05 fe ff", "0, attribute 77, memberships 16"),
+        ("62 05 02 02", "255, attribute 2, memberships 99"),
+    ] {
+        let argument = record.replace(' ', "");
+        let printed = text(run(&program, &[Path::new(&argument)]), 0);
+        assert_eq!(printed, edited(wanted, record));
+    }
+    for (argument, refusal) in [
+        ("", Refusal::NodeTruncated),
+        ("00", Refusal::NodeMap),
+        ("0e050500", Refusal::OperatorCode),
+        ("0103", Refusal::RelationNumber),
+        ("220601", Refusal::Operand),
+        ("220510", Refusal::Attribute),
+        ("010200", Refusal::NodesFollowed),
+    ] {
+        let printed = text(run(&program, &[Path::new(argument)]), 0);
+        assert_eq!(printed, refused(refusal));
+    }
 }
 
 /// The header twice, and a call, so that the name is looked up as one of C.

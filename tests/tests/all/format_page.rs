@@ -143,7 +143,7 @@ fn named_clauses(text: &str) -> impl Iterator<Item = &str> {
 
 #[test]
 fn refusals_have_their_names_in_the_format_and_name_its_clauses() {
-    for number in 1..=26 {
+    for number in 1..=27 {
         let refusal = Refusal::try_from(number).expect("a refusal");
         let row = format!("\n| {number} | `{refusal:?}` |");
         assert!(FORMAT.contains(&row), "{row}");

@@ -129,7 +129,7 @@ fn sorted(mut functions: Vec<Function>) -> Vec<Function> {
 #[test]
 fn the_header_declares_what_the_engine_exports() {
     let exported = sorted(exported());
-    assert_eq!(exported.len(), 9);
+    assert_eq!(exported.len(), 11);
     assert_eq!(sorted(declared_in_c(HEADER)), exported);
 }
 

@@ -6,7 +6,7 @@ use type_formula_tests::answer::{
 use type_formula_tests::mixture::{operation_of, Mixture};
 
 /// How many inputs are compared.
-const INPUTS: u64 = 50_000;
+const INPUTS: u64 = 66_000;
 
 /// The refusals that an operation can give.
 fn refusals(operation: Operation) -> Vec<u8> {
@@ -21,14 +21,16 @@ fn refusals(operation: Operation) -> Vec<u8> {
         Operation::Apply => matches!(refusal, 1..=21 | 26),
         Operation::Recover => matches!(refusal, 1..=18 | 25),
         Operation::ParseQuery => matches!(refusal, 2 | 7 | 9 | 13 | 22..=24),
+        Operation::Edit => matches!(refusal, 1..=11 | 27),
+        Operation::Preview => refusal <= 12,
     };
     all.filter(can_give).collect()
 }
 
 /// Whether the operation can give untyped or untypable.
 fn has_no_type(operation: Operation) -> bool {
-    use Operation::{Recover, Typing, Verdict};
-    matches!(operation, Verdict | Typing | Recover)
+    use Operation::{Preview, Recover, Typing, Verdict};
+    matches!(operation, Verdict | Typing | Recover | Preview)
 }
 
 #[test]

@@ -2,11 +2,11 @@
 //! on the same inputs the same answers, and the same bytes in every slice.
 
 use type_formula::{
-    accept, apply, formula, parse_query, read_node, record, recover, typing, verdict, BinaryOp,
-    Node, Recovery, Refusal, SetOp, Typing, Verdict, INSTANTIATION_SIZE, LONGEST_FILE, OUTPUT_SIZE,
-    SCHEMA_SIZE, WORK_SIZE,
+    accept, apply, edit, formula, parse_query, preview, read_node, record, recover, typing,
+    verdict, BinaryOp, Node, Preview, Recovery, Refusal, SetOp, Typing, Verdict,
+    INSTANTIATION_SIZE, LONGEST_FILE, OUTPUT_SIZE, SCHEMA_SIZE, WORK_SIZE,
 };
-use type_formula_tests::engine::{self, Found, Lengths, UNTYPABLE, UNTYPED};
+use type_formula_tests::engine::{self, Found, Lengths, Previewed, UNTYPABLE, UNTYPED};
 use type_formula_tests::examples::to_hexadecimal;
 use type_formula_tests::pseudorandom::Random;
 use type_formula_tests::reference::{encode_instantiation, encode_node, encode_schema, infer};
@@ -108,7 +108,7 @@ fn work_space(random: &mut Random) -> Vec<u8> {
 struct Counts {
     results: usize,
     without: usize,
-    refusals: [usize; 27],
+    refusals: [usize; 28],
 }
 
 impl Counts {
@@ -118,7 +118,7 @@ impl Counts {
         let mut counts = Counts {
             results: 0,
             without: 0,
-            refusals: [0; 27],
+            refusals: [0; 28],
         };
         for _ in 0..INPUTS {
             let input = Input::new(&mut random);
@@ -230,6 +230,7 @@ fn read_node_is_as_in_c() {
             Ok((node, size)) => {
                 assert_eq!((0, usize::from(word[1])), (word[0], size));
                 assert_eq!(bytes_of(node), word[2..2 + size]);
+                assert_eq!(node.record().bytes(), bytes_of(node));
             }
             Err(refused) => assert_eq!(refused.number(), word[0]),
         }
@@ -414,4 +415,63 @@ fn parse_query_is_as_in_c() {
         answer
     });
     counts.assert_met(&[2, 7, 9, 13, 22, 23, 24]);
+}
+
+/// A record for the node of the input: one that can stand for it, one time in two disturbed, and
+/// now and then one of any node.
+fn any_record(random: &mut Random, input: &Input) -> Vec<u8> {
+    let relations = input.file.first().map_or(1, |&count| count.clamp(1, 8));
+    let number = match random.below(8) {
+        0 => random.between(0, 63),
+        _ => input.node.min(63) as u8,
+    };
+    let mut bytes = encode_node(&random.mild_node(relations, number));
+    if random.below(2) == 0 {
+        random.disturb(&mut bytes);
+    }
+    bytes
+}
+
+#[test]
+fn edit_is_as_in_c() {
+    let counts = Counts::of(11, |random, input| {
+        let bytes = any_record(random, input);
+        let mut result = slice(random, LONGEST_FILE);
+        let (mut wanted_result, mut size) = (result.clone(), 0);
+        let (file, node) = (&input.file, input.node);
+        let answer = engine::edit(file, node, &bytes, &mut wanted_result, &mut size);
+        let wanted = match answer {
+            0 => Ok(&wanted_result[..size]),
+            number => Err(refusal(number)),
+        };
+        let given = edit(file, node, &bytes, &mut result);
+        let given = given.map(|edited| edited.bytes());
+        assert_eq!(given, wanted, "{}", input.text());
+        assert!(result == wanted_result, "{}", input.text());
+        answer
+    });
+    counts.assert_met(&[2, 3, 4, 5, 6, 7, 8, 9, 10, 11, 27]);
+}
+
+#[test]
+fn preview_is_as_in_c() {
+    let counts = Counts::of(12, |random, input| {
+        let bytes = any_record(random, input);
+        let mut work = work_space(random);
+        let (mut wanted_work, mut previewed) = (work.clone(), Previewed::default());
+        let (file, node) = (&input.file, input.node);
+        let answer = engine::preview(file, node, &bytes, &mut wanted_work, &mut previewed);
+        let (attribute, memberships) = (previewed.attribute, previewed.memberships);
+        let wanted = match answer {
+            0 => Ok(Preview::Typable { memberships }),
+            UNTYPABLE => Ok(Preview::Untypable { attribute }),
+            number => Err(refusal(number)),
+        };
+        let given = preview(file, node, &bytes, &mut work);
+        assert_eq!(given, wanted, "{}", input.text());
+        assert!(work == wanted_work, "{}", input.text());
+        answer
+    });
+    assert!(counts.without > 0);
+    counts.assert_met(&[2, 3, 4, 5, 6, 7, 8, 9, 10, 11, 12]);
 }

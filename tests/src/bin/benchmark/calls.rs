@@ -2,9 +2,11 @@
 
 use std::hint::black_box;
 
-use type_formula_tests::answer::Answer;
-use type_formula_tests::engine::{self, Found, Lengths};
-use type_formula_tests::reference::{self, Apply, ParseQuery, Recover, Typing, Verdict};
+use type_formula_tests::answer::{Answer, RESULT};
+use type_formula_tests::engine::{self, Found, Lengths, Previewed};
+use type_formula_tests::reference::{
+    self, Apply, Edit, ParseQuery, Preview, Recover, Typing, Verdict,
+};
 
 use crate::settings::Setting;
 use crate::slices::{Paged, Parts, Slices};
@@ -14,6 +16,8 @@ use crate::words;
 pub enum Operation {
     Formula,
     Verdict,
+    Edit,
+    Preview,
     Typing,
     Apply,
     Recover,
@@ -21,9 +25,11 @@ pub enum Operation {
 }
 
 /// All operations; parsing a query is the last.
-pub const OPERATIONS: [Operation; 6] = [
+pub const OPERATIONS: [Operation; 8] = [
     Operation::Formula,
     Operation::Verdict,
+    Operation::Edit,
+    Operation::Preview,
     Operation::Typing,
     Operation::Apply,
     Operation::Recover,
@@ -35,6 +41,8 @@ impl Operation {
         match self {
             Operation::Formula => "Formula",
             Operation::Verdict => "Verdict",
+            Operation::Edit => "Edit",
+            Operation::Preview => "Preview",
             Operation::Typing => "Typing",
             Operation::Apply => "Apply",
             Operation::Recover => "Recover",
@@ -88,6 +96,56 @@ fn verdict(
         Verdict::Refused { .. } => (0, 0),
     };
     [verdict.number().into(), value, memberships.into()]
+}
+
+fn edit_by_engine(of: &Setting, slices: Parts) -> [usize; 3] {
+    let (file, record, mut size) = (black_box(&of.file), black_box(&of.record), 0);
+    let answer = engine::edit(file, of.middle, record, slices.file, &mut size);
+    [answer.into(), size, 0]
+}
+
+fn edit(
+    by: impl Fn(&[u8], usize, &[u8], &mut [u8]) -> Edit,
+    of: &Setting,
+    slices: Parts,
+) -> [usize; 3] {
+    let (file, record) = (black_box(&of.file), black_box(&of.record));
+    let edit = by(file, of.middle, record, slices.file);
+    let length = match edit {
+        Edit::Edited { length } => length,
+        Edit::Refused { .. } => 0,
+    };
+    [edit.number().into(), length, 0]
+}
+
+fn preview_by_engine(of: &Setting, slices: Parts) -> [usize; 3] {
+    let (file, record) = (black_box(&of.file), black_box(&of.record));
+    let mut previewed = Previewed::default();
+    let answer = engine::preview(file, of.middle, record, slices.work, &mut previewed);
+    let Previewed {
+        attribute,
+        memberships,
+    } = previewed;
+    [answer.into(), attribute.into(), memberships.into()]
+}
+
+fn preview(
+    by: impl Fn(&[u8], usize, &[u8], &mut [u8]) -> Preview,
+    of: &Setting,
+    slices: Parts,
+) -> [usize; 3] {
+    let (file, record) = (black_box(&of.file), black_box(&of.record));
+    let preview = by(file, of.middle, record, slices.work);
+    let (attribute, memberships) = match preview {
+        Preview::Typable { memberships } => (0, memberships),
+        Preview::Untypable { attribute } => (attribute, 0),
+        Preview::Refused { .. } => (0, 0),
+    };
+    [
+        preview.number().into(),
+        attribute.into(),
+        memberships.into(),
+    ]
 }
 
 fn typing_by_engine(of: &Setting, slices: Parts) -> [usize; 3] {
@@ -195,6 +253,12 @@ fn one_call(operation: Operation, by: By) -> Option<OneCall> {
         (Operation::Verdict, By::Engine) => verdict_by_engine,
         (Operation::Verdict, By::Reference) => |of, slices| verdict(reference::verdict, of, slices),
         (Operation::Verdict, By::Words) => |of, slices| verdict(words::verdict, of, slices),
+        (Operation::Edit, By::Engine) => edit_by_engine,
+        (Operation::Edit, By::Reference) => |of, slices| edit(reference::edit, of, slices),
+        (Operation::Edit, By::Words) => |of, slices| edit(words::edit, of, slices),
+        (Operation::Preview, By::Engine) => preview_by_engine,
+        (Operation::Preview, By::Reference) => |of, slices| preview(reference::preview, of, slices),
+        (Operation::Preview, By::Words) => |of, slices| preview(words::preview, of, slices),
         (Operation::Typing, By::Engine) => typing_by_engine,
         (Operation::Typing, By::Reference) => |of, slices| typing(reference::typing, of, slices),
         (Operation::Typing, By::Words) => |of, slices| typing(words::typing, of, slices),
@@ -217,11 +281,14 @@ fn one_call(operation: Operation, by: By) -> Option<OneCall> {
 }
 
 /// The length of the copy beside an operation: the bytes that it writes, the formulas among
-/// them; for Typing those of the schema and for a query those of its text, which they read, too.
+/// them; for Typing those of the schema and for a query those of its text, which they read, too;
+/// for Preview also the edited file.
 fn copied_length(operation: Operation, setting: &Setting) -> usize {
     let (work, schema) = (setting.work_length(), setting.schema.len());
     match operation {
         Operation::Formula | Operation::Verdict => work,
+        Operation::Edit => setting.file.len(),
+        Operation::Preview => work + setting.file.len(),
         Operation::Typing => schema + setting.output_length,
         Operation::Apply => work + schema + setting.output_length,
         Operation::Recover => work + setting.instantiation.len(),
@@ -275,14 +342,14 @@ pub fn check(operation: Operation, setting: &Setting) {
         Some((slices.answer, slices.bytes().to_vec()))
     };
     let wanted = after(By::Reference).expect("has every operation");
-    assert_eq!(
-        wanted.0[0],
-        setting.answer().into(),
-        "{operation:?}, {}",
-        setting.name
-    );
+    let answer = match operation {
+        Operation::Edit => RESULT,
+        _ => setting.answer(),
+    };
+    let name = &setting.name;
+    assert_eq!(wanted.0[0], answer.into(), "{operation:?}, {name}");
     for by in [By::Engine, By::Words] {
         let is_same = after(by).is_some_and(|given| given == wanted);
-        assert!(is_same, "{operation:?} by {by:?}, {}", setting.name);
+        assert!(is_same, "{operation:?} by {by:?}, {name}");
     }
 }

@@ -1,5 +1,6 @@
 //! The hand-written code compared with the reference on random inputs: valid, damaged,
-//! truncated and extended files, schemas, instantiations and queries, and slices of any length.
+//! truncated and extended files, schemas, instantiations, queries and records, and slices of any
+//! length.
 
 use std::fmt::Debug;
 
@@ -8,7 +9,7 @@ use type_formula_tests::lent::Lent;
 use type_formula_tests::mixture::{lengths, Mixture};
 use type_formula_tests::pseudorandom::Random;
 use type_formula_tests::reference::{self, FILE_LENGTH, OUTPUT_LENGTH, SCHEMA_LENGTH};
-use type_formula_tests::slice_lengths::{least_for_apply, least_for_recover};
+use type_formula_tests::slice_lengths::{least_for_apply, least_for_recover, work_length};
 
 use crate::words;
 
@@ -122,6 +123,23 @@ impl Checks {
             |[file]| words::parse_query(relations, &text, file),
         );
     }
+
+    fn edit_and_preview(&mut self) {
+        let (file, node, record) = self.mixture.with_record(&mut self.random);
+        let [result, work] = lengths(&mut self.random, [FILE_LENGTH, work_length(&file)]);
+        self.compare(
+            Operation::Edit,
+            [result],
+            |[result]| reference::edit(&file, node, &record, result),
+            |[result]| words::edit(&file, node, &record, result),
+        );
+        self.compare(
+            Operation::Preview,
+            [work],
+            |[work]| reference::preview(&file, node, &record, work),
+            |[work]| words::preview(&file, node, &record, work),
+        );
+    }
 }
 
 /// Asserts that the hand-written code answers as the reference does and leaves the same
@@ -134,6 +152,7 @@ pub fn check_words() {
         checks.apply();
         checks.recover();
         checks.parse_query();
+        checks.edit_and_preview();
     }
     for answer in (RESULT..=GREATEST_REFUSAL).chain([NO_TYPE]) {
         assert!(checks.counts.of_all(answer) > 0, "no answer {answer}");

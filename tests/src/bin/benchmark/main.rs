@@ -1,18 +1,21 @@
-//! Times of Formula, Verdict, Typing, Apply, Recover and parsing a query, as markdown
-//! tables: beside the same operation by the reference, the same written by hand for speed
+//! Times of Formula, Verdict, Edit, Preview, Typing, Apply, Recover and parsing a query, as
+//! markdown tables: beside the same operation by the reference, the same written by hand for speed
 //! (module `words`), and copies of the bytes that are written, by the C library and by a loop;
-//! and those of the engine and of the hand-written code as nodes, attributes and texts double.
+//! those of Preview beside Verdict of the same file and a copy of it; and those of the engine and
+//! of the hand-written code as nodes, attributes and texts double. Edit and Preview exchange the
+//! node in the middle of a file for itself.
 //!
 //!     benchmark
 //!     benchmark once OPERATION SIZE COUNT [BY]
 //!
 //! The second calls one operation so many times and prints nothing, for a count of
-//! instructions. SIZE is a number of nodes, 7, 8, 16, 32 or 64; for Verdict 7untypable or
-//! 64untypable, fewest, where the fewest subsets fill all relations, and coverofthree,
-//! coverofeight and coverofdense, where they do not; or one of two settings of 64 nodes and 255 ordinary attributes: 64x255
-//! with three lists, 64x255each with one attribute in each list. For ParseQuery it is a number
-//! of bytes, 24 (E1), 32, 64, 128, 256 or 512; 191deep for 63 prefixes; or 512lists for lists
-//! of 15 attributes. BY is engine, reference, words (the hand-written code), copy or copyloop.
+//! instructions. SIZE is a number of nodes, 7, 8, 16, 32 or 64; for Verdict, Edit and Preview
+//! 7untypable or 64untypable, fewest, where the fewest subsets fill all relations, and
+//! coverofthree, coverofeight and coverofdense, where they do not; or one of two settings of 64
+//! nodes and 255 ordinary attributes: 64x255 with three lists, 64x255each with one attribute in
+//! each list. For ParseQuery it is a number of bytes, 24 (E1), 32, 64, 128, 256 or 512; 191deep for
+//! 63 prefixes; or 512lists for lists of 15 attributes. BY is engine, reference, words (the
+//! hand-written code), copy or copyloop.
 
 mod calls;
 mod checks;

@@ -9,7 +9,7 @@ use type_formula_tests::pseudorandom::Random;
 use type_formula_tests::query_examples::nested;
 use type_formula_tests::query_trees::{relation, Query};
 use type_formula_tests::reference::{
-    assignment_of, encode_file, encode_schema, infer, recover, typing, untypable_attribute,
+    assignment_of, encode_file, encode_schema, infer, record, recover, typing, untypable_attribute,
     witness, Node, Recover, Typing, FORMULA_LENGTH, INSTANTIATION_LENGTH, OUTPUT_LENGTH,
 };
 
@@ -21,6 +21,9 @@ pub struct Setting {
     /// The text of a query, whose file it then is; else empty.
     pub text: Vec<u8>,
     pub last: usize,
+    /// The node in the middle, and its record, which is exchanged for itself.
+    pub middle: usize,
+    pub record: Vec<u8>,
     pub schema: Vec<u8>,
     pub instantiation: Vec<u8>,
     /// The length of the output record.
@@ -28,15 +31,28 @@ pub struct Setting {
 }
 
 impl Setting {
-    fn new(name: impl Into<String>, file: Vec<u8>, schema: Vec<u8>) -> Self {
-        let mut setting = Setting {
+    /// A file without a schema.
+    fn of_file(name: impl Into<String>, file: Vec<u8>) -> Self {
+        let count = usize::from(file[1]);
+        let middle = count / 2;
+        let part = record(&file, middle).expect("accepted");
+        Setting {
             name: name.into(),
-            last: usize::from(file[1]) - 1,
+            last: count - 1,
+            middle,
+            record: file[part].to_vec(),
             file,
             text: Vec::new(),
-            schema,
+            schema: Vec::new(),
             instantiation: Vec::new(),
             output_length: 0,
+        }
+    }
+
+    fn new(name: impl Into<String>, file: Vec<u8>, schema: Vec<u8>) -> Self {
+        let mut setting = Setting {
+            schema,
+            ..Setting::of_file(name, file)
         };
         let (file, last, schema) = (&setting.file, setting.last, &setting.schema);
         let mut work = vec![0; setting.work_length()];
@@ -59,28 +75,16 @@ impl Setting {
         let formula = infer(&file).expect("accepted").formulas[last];
         let attribute = untypable_attribute(&formula, file[0]);
         assert!(attribute.is_some(), "{name}: typable");
-        Setting {
-            name: name.into(),
-            last,
-            file,
-            text: Vec::new(),
-            schema: Vec::new(),
-            instantiation: Vec::new(),
-            output_length: 0,
-        }
+        Setting::of_file(name, file)
     }
 
     /// A query for 1 to 8 relations.
     fn query(kind: &str, relations: u8, query: &Query) -> Self {
         let (text, count) = (query.text(), query.node_count());
+        let name = format!("{} bytes, n {count}{kind}", text.len());
         Setting {
-            name: format!("{} bytes, n {count}{kind}", text.len()),
-            last: count - 1,
-            file: query.answer(relations).expect("a query"),
             text: text.into_bytes(),
-            schema: Vec::new(),
-            instantiation: Vec::new(),
-            output_length: 0,
+            ..Setting::of_file(name, query.answer(relations).expect("a query"))
         }
     }
 

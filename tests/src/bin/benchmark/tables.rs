@@ -54,8 +54,8 @@ fn print_comparisons() {
         "copy by a 64-bit loop",
     ];
     print_head(title, &names.map(String::from));
-    let (of_file, of_query) = (&OPERATIONS[..5], &OPERATIONS[5..]);
-    let (formula, verdict) = (&of_file[..1], &of_file[1..2]);
+    let (of_file, of_query) = (&OPERATIONS[..7], &OPERATIONS[7..]);
+    let (formula, verdict, others) = (&of_file[..1], &of_file[1..4], &of_file[4..]);
     for (setting, operations) in [
         (e1_with_10_columns(), of_file),
         (untypable_of_7_nodes(), verdict),
@@ -63,12 +63,12 @@ fn print_comparisons() {
         (filled_by_the_fewest(), verdict),
         (cover_of_eight(), verdict),
         (cover_of_dense_columns(), verdict),
-        (random_of_64_nodes(), &of_file[..2]),
+        (random_of_64_nodes(), &of_file[..4]),
         (unions_of_eight(), formula),
         (unions_of_one(), formula),
         (untypable_of_64_nodes(), verdict),
-        (of_attributes(64, 255, Lists::Three), &of_file[2..]),
-        (of_attributes(64, 255, Lists::OneInEach), &of_file[2..]),
+        (of_attributes(64, 255, Lists::Three), others),
+        (of_attributes(64, 255, Lists::OneInEach), others),
         (e1_query(), of_query),
         (query_of_prefixes(), of_query),
         (query_of_lists(), of_query),
@@ -78,6 +78,60 @@ fn print_comparisons() {
             let front = vec![operation.name().to_string(), setting.name.clone()];
             print_row(&[front, compared(operation, &setting)].concat());
         }
+    }
+}
+
+/// The calls of a row of previews. The copy of the file is the one beside Edit.
+const PREVIEWS: [(Operation, By); 5] = [
+    (Operation::Edit, By::Copy),
+    (Operation::Verdict, By::Engine),
+    (Operation::Preview, By::Engine),
+    (Operation::Verdict, By::Words),
+    (Operation::Preview, By::Words),
+];
+
+/// The cells of a row of previews: their times, and those of Preview with the ratio to Verdict and
+/// the copy together.
+fn previews(setting: &Setting) -> Vec<String> {
+    let calls = PREVIEWS.map(|(operation, by)| call(operation, by, setting));
+    let calls: Vec<Call> = calls.into_iter().flatten().collect();
+    let times = medians(&calls);
+    let cell = |place: usize| match PREVIEWS[place].0 {
+        Operation::Preview => {
+            let ratio = times[place] / (times[place - 1] + times[0]);
+            format!("{:.0} ({ratio:.3})", times[place])
+        }
+        _ => format!("{:.0}", times[place]),
+    };
+    (0..PREVIEWS.len()).map(cell).collect()
+}
+
+/// Preview beside Verdict of the same file and a copy of the file.
+fn print_previews() {
+    let title = "Preview beside Verdict of the same file, of which it exchanges the node in the \
+                 middle for itself: nanoseconds, and in brackets Preview's time divided by the sum \
+                 of those of Verdict and of a copy of the file.";
+    let names = [
+        "Input",
+        "copy of the file",
+        "Verdict, engine",
+        "Preview, engine",
+        "Verdict, hand-written",
+        "Preview, hand-written",
+    ];
+    print_head(title, &names.map(String::from));
+    for setting in [
+        e1_with_10_columns(),
+        untypable_of_7_nodes(),
+        cover_of_three(),
+        filled_by_the_fewest(),
+        cover_of_eight(),
+        cover_of_dense_columns(),
+        random_of_64_nodes(),
+        untypable_of_64_nodes(),
+    ] {
+        let cells = previews(&setting);
+        print_row(&[vec![setting.name], cells].concat());
     }
 }
 
@@ -140,7 +194,13 @@ fn print_nodes() {
     print_doubling(title, ("n", &counts), &columns);
     let title = "As nodes double, m 8 and 15 ordinary attributes: nanoseconds, and in brackets \
                  the ratio to the row before.";
-    print_doubling(title, ("n", &counts), &both(&OPERATIONS[2..5], &settings));
+    print_doubling(title, ("n", &counts), &both(&OPERATIONS[4..7], &settings));
+    let mut columns = both(&OPERATIONS[2..4], &settings);
+    let copy = (Operation::Edit, By::Copy);
+    columns.push(("copy of the file".into(), copy, &settings));
+    let title = "As nodes double, m 8, the node in the middle exchanged for itself: nanoseconds, \
+                 and in brackets the ratio to the row before.";
+    print_doubling(title, ("n", &counts), &columns);
 }
 
 /// The engine and the hand-written code as attributes double, for so many nodes.
@@ -155,7 +215,7 @@ fn print_attributes(nodes: usize) {
             "As ordinary attributes double, n {nodes}, m 8, {name}: nanoseconds, and in \
              brackets the ratio to the row before."
         );
-        let columns = both(&OPERATIONS[2..5], &settings);
+        let columns = both(&OPERATIONS[4..7], &settings);
         print_doubling(&title, ("Ordinary attributes", &counts), &columns);
     }
 }
@@ -164,7 +224,7 @@ fn print_attributes(nodes: usize) {
 fn print_texts() {
     let counts = [32, 64, 128, 256, 512];
     let settings = counts.map(query_of_length);
-    let mut columns = both(&OPERATIONS[5..], &settings);
+    let mut columns = both(&OPERATIONS[7..], &settings);
     let copy = (Operation::ParseQuery, By::Copy);
     columns.push(("copy of text and file".into(), copy, &settings));
     let title = "As the text of a query doubles, 8 bytes a node: nanoseconds, and in brackets the \
@@ -179,6 +239,7 @@ pub fn print_all() {
     );
     check_words();
     print_comparisons();
+    print_previews();
     print_nodes();
     print_attributes(7);
     print_attributes(64);

@@ -81,6 +81,9 @@ returns-25 c = rw c.enum-told25.given.1
 returns-26 : tie.Need-returns-26
 returns-26 c = rw c.enum-told26.given.1
 
+returns-27 : tie.Need-returns-27
+returns-27 c = rw c.enum-told27.given.1
+
 pub number-spec : {M : Type 1} → statement M
 number-spec =
     tie.close (tie.spec (λ c. search needs) (λ c. search needs) (λ c. search needs) (λ c. search needs)
@@ -88,7 +91,7 @@ number-spec =
     (λ c. search needs) (λ c. search needs) (λ c. search needs) (λ c. search needs) (λ c. search needs)
     (λ c. search needs) (λ c. search needs) (λ c. search needs) (λ c. search needs) (λ c. search needs)
     (λ c. search needs) (λ c. search needs) (λ c. search needs) (λ c. search needs) (λ c. search needs) (λ c. search needs)
-    (λ c. search needs) returns
+    (λ c. search needs) (λ c. search needs) returns
     returns-2 returns-3 returns-4 returns-5 returns-6 returns-7 returns-8 returns-9 returns-10 returns-11
     returns-12 returns-13 returns-14 returns-15 returns-16 returns-17 returns-18 returns-19 returns-20 returns-21
-    returns-22 returns-23 returns-24 returns-25 returns-26)
+    returns-22 returns-23 returns-24 returns-25 returns-26 returns-27)

@@ -1,10 +1,11 @@
-//! Formula, Verdict, Typing, Apply, Recover and parsing a query written by hand for speed:
-//! without an allocation, on 64-bit words, compiled for every x86-64 machine.
+//! Formula, Verdict, Edit, Preview, Typing, Apply, Recover and parsing a query written by hand for
+//! speed: without an allocation, on 64-bit words, compiled for every x86-64 machine.
 
 mod apply;
 mod buffer;
 mod columns;
 mod cover;
+mod edit;
 mod instantiation;
 mod lists;
 mod query;
@@ -16,12 +17,13 @@ mod sort;
 mod typing;
 
 pub use apply::apply;
+pub use edit::{edit, preview};
 pub use query::parse_query;
 pub use recover::recover;
 pub use typing::typing;
 
 use type_formula_tests::reference::{
-    Formula, Verdict, COLUMNS, FORMULA_LENGTH, NODE_NOT_BELOW_COUNT, RESULT_SLICE_TOO_SHORT,
+    Formula, Node, Verdict, COLUMNS, FORMULA_LENGTH, NODE_NOT_BELOW_COUNT, RESULT_SLICE_TOO_SHORT,
     SCHEMA_LENGTH, STANDING_BIT_NO_TYPE_VARIABLE, SUBSET_NOT_ALLOWED, WORK_SPACE_TOO_SHORT,
 };
 
@@ -61,11 +63,17 @@ fn check_subsets(formula: &Formula, map: &Bits, subsets: &[u8; 16]) -> Result<()
     refuse_if(!are_allowed, SUBSET_NOT_ALLOWED)
 }
 
-fn fill(file: File, work: &mut [u8]) {
+/// Fills the work space with the formulas of the nodes that each one, by its number, is taken for.
+#[inline(always)]
+fn fill_with(file: File, work: &mut [u8], taken: impl Fn(usize, Node) -> Node) {
     file.each_node(|number, node| {
         let (earlier, formula) = work.split_at_mut(FORMULA_LENGTH * number);
-        write_formula(node, file.relations, earlier, formula);
+        write_formula(taken(number, node), file.relations, earlier, formula);
     });
+}
+
+fn fill(file: File, work: &mut [u8]) {
+    fill_with(file, work, |_, node| node);
 }
 
 /// Formula.

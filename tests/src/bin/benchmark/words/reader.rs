@@ -62,7 +62,7 @@ fn with_set(code: u8, operand: u8, set: u16) -> Result<Node, u8> {
 
 /// A node and the bytes after it.
 #[inline(always)]
-fn read_node(relations: u8, number: u8, bytes: &[u8]) -> Result<(Node, &[u8]), u8> {
+pub fn read_node(relations: u8, number: u8, bytes: &[u8]) -> Result<(Node, &[u8]), u8> {
     let (&map, rest) = bytes.split_first().ok_or(BYTES_END_BEFORE_OR_WITHIN_NODE)?;
     let check_operand = |operand| refuse_if(operand >= number, OPERAND_NOT_EARLIER);
     match map {
@@ -105,12 +105,13 @@ fn read_node(relations: u8, number: u8, bytes: &[u8]) -> Result<(Node, &[u8]), u
 /// Accepts a file or gives its first refusal.
 #[inline(always)]
 pub fn accept(file: &[u8]) -> Result<File<'_>, u8> {
-    accept_with(file, |_| ())
+    accept_with(file, |_, _| ())
 }
 
-/// Accepts a file or gives its first refusal; hands on each node as it is read.
+/// Accepts a file or gives its first refusal; hands on each node as it is read, and the bytes after
+/// it.
 #[inline(always)]
-pub fn accept_with(file: &[u8], mut take: impl FnMut(Node)) -> Result<File<'_>, u8> {
+pub fn accept_with(file: &[u8], mut take: impl FnMut(Node, &[u8])) -> Result<File<'_>, u8> {
     let (&[relations, nodes], bytes) = file.split_first_chunk().ok_or(FEWER_THAN_TWO_BYTES)?;
     refuse_if(
         relations == 0 || relations > 8,
@@ -120,7 +121,7 @@ pub fn accept_with(file: &[u8], mut take: impl FnMut(Node)) -> Result<File<'_>, 
     let mut rest = bytes;
     for number in 0..nodes {
         let (node, after) = read_node(relations, number, rest)?;
-        take(node);
+        take(node, after);
         rest = after;
     }
     refuse_if(!rest.is_empty(), BYTES_AFTER_LAST_NODE)?;

@@ -120,7 +120,7 @@ fn typed<const WORDS: usize>(nodes: &[Node], schema: &Schema, out: &mut [u8]) ->
 fn output(bytes: &[u8], node: usize, schema: &[u8], out: &mut [u8]) -> Result<Option<usize>, u8> {
     let mut node_room: Room<Node, 64> = room();
     let mut nodes = Buffer::new(&mut node_room);
-    let file = accept_with(bytes, |node| nodes.push(node))?;
+    let file = accept_with(bytes, |node, _| nodes.push(node))?;
     check_node(&file, node)?;
     check_result(out, OUTPUT_LENGTH)?;
     let (mut first, mut second) = (room(), room());

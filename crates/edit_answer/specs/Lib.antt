@@ -1,0 +1,3 @@
+pub mod Edit
+pub mod EditLaws
+pub mod Numbers
