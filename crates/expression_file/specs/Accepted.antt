@@ -1,13 +1,13 @@
 -- What an accepted file is made of: the counts in their ranges, and as many entries as the second count says.
 use Prim.Native.Nat.{ℕ, zero, suc, _+_, _≤_}
-use mathlib.Core.Path.{_≡_, refl, sym, ap, subst, _∙_}
+use mathlib.Core.Path.{_≡_, refl, sym, ap, ap₂, subst, _∙_}
 use mathlib.Core.Bool.{Bool, false}
-use mathlib.Core.List.{List, [], _∷_}
+use mathlib.Core.List.{List, [], _∷_, _++_}
 use native.Mathlib.Omega.{arith}
 use borrow.Author.Tests.{ltb-false, not-false}
 use lib.Dec.{lit≤}
 use lib.ListN.{length, getD, take, drop}
-use lib.Seq.{length-take-le}
+use lib.Seq.{length-take-le, take-at, drop-at}
 use Rattle.bits.specs.Range.{inRange, in-range}
 use Rattle.refusal.specs.declared.Refusal.{Refusal}
 use Rattle.refusal.specs.Chain.{refuse, refuse-has, refuse-past}
@@ -20,6 +20,7 @@ use Rattle.expression_file.specs.declared.files.Acceptance.{Acceptance}
 use Rattle.expression_file.specs.declared.files.Acceptance.the-variants.{Accepted, Refused}
 use Rattle.node.specs.ReadNode.{readNode}
 use Rattle.expression_file.specs.ReadFile.{PlacedNode, Nodes, follow, readNodes, collect, afterHeader, header, parse, answer, acceptance, nodesIn, placedNodes}
+use Rattle.node.specs.Enough.{node-local}
 use Rattle.node.specs.Reading.{node-legal, node-refused}
 
 -- ---- the counts
@@ -99,6 +100,18 @@ first-node m count k bytes es = read (readNode m k bytes) refl
     read (NodeRefused r) e h = absurd (let z : _≡_ {A = ℕ} 0 1 = cc in omega arith)
     read (Read node size) e h = follows node size _ e refl h
 
+-- the other way: a node at the front, and the nodes that follow it
+pub front-node :
+    (m count k : ℕ) (own rest : List ℕ) (node : Node) (es : List PlacedNode)
+    → readNode m k own ≡ Read node (length own)
+    → readNodes m count (k + 1) rest ≡ nodesRead es
+    → readNodes m (suc count) k (own ++ rest) ≡ nodesRead (record { node = node; bytes = own } ∷ es)
+unfolding readNodes
+front-node m count k own rest node es reads follows =
+    ap (λ (r : Reading). follow r (own ++ rest) (λ bytes. readNodes m count (k + 1) bytes)) (node-local m k own rest node (length own) reads)
+    ∙ ap₂ (λ (a b : List ℕ). precede (record { node = node; bytes = a }) (readNodes m count (k + 1) b)) (take-at own rest (length own) refl) (drop-at own rest (length own) refl)
+    ∙ ap (precede (record { node = node; bytes = own })) follows
+
 count-nodes : (m count k : ℕ) (bytes : List ℕ) (es : List PlacedNode) → readNodes m count k bytes ≡ nodesRead es → length es ≡ count
 unfolding readNodes
 count-nodes m zero k [] es e = let z : [] ≡ es = cc in ap length (sym z)
@@ -146,11 +159,11 @@ accepted-file file m n = from (header file) refl
     from (Accepted m′ n′) h a = made m′ n′ h _ refl a (ap (λ (x : Acceptance). nodesIn (afterHeader x file)) h)
 
 -- the other way: a file with these counts, whose nodes are read
-pub record ReadFile (file : List ℕ) (m n : ℕ) (es : List PlacedNode) : Type 0 where
+pub record FileRead (file : List ℕ) (m n : ℕ) (es : List PlacedNode) : Type 0 where
   pub accepted : acceptance file ≡ Accepted m n
   pub nodes : placedNodes file ≡ es
 
-pub read-file : (file : List ℕ) (m n : ℕ) (es : List PlacedNode) → header file ≡ Accepted m n → readNodes m n 0 (drop 2 file) ≡ nodesRead es → ReadFile file m n es
+pub read-file : (file : List ℕ) (m n : ℕ) (es : List PlacedNode) → header file ≡ Accepted m n → readNodes m n 0 (drop 2 file) ≡ nodesRead es → FileRead file m n es
 unfolding acceptance placedNodes parse
 read-file file m n es counts nodes =
     let whole : afterHeader (header file) file ≡ collect m n (nodesRead es) = ap (λ (h : Acceptance). afterHeader h file) counts ∙ ap (collect m n) nodes in

@@ -2,20 +2,19 @@
 -- other nodes and their records are the old ones.
 use Prim.Native.Nat.{ℕ, zero, suc, _+_, _-_, _<_}
 use mathlib.Core.Path.{_≡_, refl, sym, ap, ap₂, _∙_}
-use mathlib.Core.List.{List, _∷_, _++_, append-assoc}
+use mathlib.Core.List.{List, _++_, append-assoc}
 use native.Mathlib.Nat.{add-zero, zero-add}
 use native.Mathlib.Omega.{arith}
 use lib.ListN.{length, getD, set, take, drop, take-append-drop}
-use lib.Seq.{take-at, drop-at, length-take-le, take-add, drop-drop, getD-set-same, getD-set-other}
-use Rattle.refusal.specs.Several.{severalRead as nodesRead, precede}
+use lib.Seq.{drop-at, length-take-le, take-add, drop-drop, getD-set-same, getD-set-other}
+use Rattle.refusal.specs.Several.{severalRead as nodesRead}
 use Rattle.node.specs.declared.nodes.Node.{Node}
-use Rattle.node.specs.declared.nodes.Reading.{Reading}
 use Rattle.node.specs.declared.nodes.Reading.the-variants.{Read}
 use Rattle.node.specs.ReadNode.{readNode}
-use Rattle.node.specs.Enough.{node-local, node-part}
+use Rattle.node.specs.Enough.{node-part}
 use Rattle.expression_file.specs.declared.files.Acceptance.the-variants.{Accepted}
-use Rattle.expression_file.specs.ReadFile.{PlacedNode, follow, readNodes, header, acceptance, placedNodes, placedAt, sizeAt, total, startAt}
-use Rattle.expression_file.specs.Accepted.{accepted-file, first-node, ReadFile, read-file}
+use Rattle.expression_file.specs.ReadFile.{PlacedNode, readNodes, header, acceptance, placedNodes, placedAt, sizeAt, total, startAt}
+use Rattle.expression_file.specs.Accepted.{accepted-file, first-node, front-node, FileRead, read-file}
 use Rattle.expression_file.specs.Enough.{header-enough}
 use Rattle.expression_file.specs.Walk.{noNode, total-more}
 
@@ -28,18 +27,6 @@ unfolding exchanged
 exchanged-parts file k replacement = refl
 
 -- ---- nodes one after the other
-
--- a node at the front, and the nodes that follow it
-front-node :
-    (m count k : ℕ) (own rest : List ℕ) (node : Node) (es : List PlacedNode)
-    → readNode m k own ≡ Read node (length own)
-    → readNodes m count (k + 1) rest ≡ nodesRead es
-    → readNodes m (suc count) k (own ++ rest) ≡ nodesRead (record { node = node; bytes = own } ∷ es)
-unfolding readNodes
-front-node m count k own rest node es reads follows =
-    ap (λ (r : Reading). follow r (own ++ rest) (λ bytes. readNodes m count (k + 1) bytes)) (node-local m k own rest node (length own) reads)
-    ∙ ap₂ (λ (a b : List ℕ). precede (record { node = node; bytes = a }) (readNodes m count (k + 1) b)) (take-at own rest (length own) refl) (drop-at own rest (length own) refl)
-    ∙ ap (precede (record { node = node; bytes = own })) follows
 
 -- node i of nodes from node k on, exchanged
 exchange-read :
@@ -88,7 +75,7 @@ module _
         ap₂ (λ (a b : List ℕ). a ++ (replacement ++ b)) (take-add 2 before file) (ap (λ (i : ℕ). drop i file) place ∙ sym (drop-drop (total (take (suc k) (placedNodes file))) 2 file))
         ∙ append-assoc (take 2 file) (take before (drop 2 file)) (replacement ++ drop (total (take (suc k) (placedNodes file))) (drop 2 file))
 
-    exchanged-file : ReadFile (exchanged file k replacement) m n (set (placedNodes file) k (record { node = node; bytes = replacement }))
+    exchanged-file : FileRead (exchanged file k replacement) m n (set (placedNodes file) k (record { node = node; bytes = replacement }))
     exchanged-file =
         let whole = accepted-file file m n accepted in
         let two = length-take-le 2 file (whole .counts .header) in

@@ -1,24 +1,23 @@
 -- Files made of nodes: they are accepted, and their nodes are those that they were made of.
 use Prim.Native.Nat.{ℕ, zero, suc, _+_, _*_, _≤_}
-use mathlib.Core.Path.{_≡_, refl, sym, ap, ap₂, subst, _∙_}
+use mathlib.Core.Path.{_≡_, refl, sym, ap, subst, _∙_}
 use mathlib.Core.Bool.{not}
 use mathlib.Core.List.{List, [], _∷_, _++_, append-assoc, append-nil}
 use native.Mathlib.Nat.{add-zero}
 use native.Mathlib.Omega.{arith}
 use borrow.Author.Tests.{le-ltb}
 use lib.ListN.{length, getD, length-append}
-use lib.Seq.{take-at, drop-at}
 use Rattle.bits.specs.Range.{range-in}
 use Rattle.refusal.specs.Chain.{refuse-passes}
-use Rattle.refusal.specs.Several.{severalRead as nodesRead, precede}
+use Rattle.refusal.specs.Several.{severalRead as nodesRead}
 use Rattle.node.specs.declared.nodes.Node.{Node}
 use Rattle.node.specs.declared.nodes.Node.the-variants.{Relation}
-use Rattle.node.specs.declared.nodes.Reading.{Reading}
+use Rattle.node.specs.ReadNode.{readNode}
 use Rattle.node.specs.Legal.{LegalNode}
 use Rattle.node.specs.NodeBytes.{nodeBytes, bytes-most, bytes-read}
 use Rattle.expression_file.specs.declared.files.Acceptance.the-variants.{Accepted}
-use Rattle.expression_file.specs.ReadFile.{PlacedNode, follow, readNodes, header, acceptance, placedAt, nodeAt}
-use Rattle.expression_file.specs.Accepted.{ReadFile, read-file}
+use Rattle.expression_file.specs.ReadFile.{PlacedNode, readNodes, header, acceptance, placedAt, nodeAt}
+use Rattle.expression_file.specs.Accepted.{front-node, FileRead, read-file}
 
 -- the bytes of nodes, each directly after the one before
 unfoldable pub nodesBytes : List Node → List ℕ
@@ -85,10 +84,8 @@ nodes-read : (m k : ℕ) (ns : List Node) → LegalNodes m k ns → readNodes m 
 unfolding readNodes nodesBytes placedOf
 nodes-read m k [] legal = refl
 nodes-read m k (n ∷ ns) legal =
-    let size = length (nodeBytes n) in
-    ap (λ (r : Reading). follow r (nodeBytes n ++ nodesBytes ns) (λ rest. readNodes m (length ns) (k + 1) rest)) (bytes-read m k n (nodesBytes ns) (legal .0))
-    ∙ ap₂ (λ (own rest : List ℕ). precede (record { node = n; bytes = own }) (readNodes m (length ns) (k + 1) rest)) (take-at (nodeBytes n) (nodesBytes ns) size refl) (drop-at (nodeBytes n) (nodesBytes ns) size refl)
-    ∙ ap (precede (record { node = n; bytes = nodeBytes n })) (nodes-read m (k + 1) ns (legal .1))
+    let own = sym (ap (readNode m k) (append-nil (nodeBytes n))) ∙ bytes-read m k n [] (legal .0) in
+    front-node m (length ns) k (nodeBytes n) (nodesBytes ns) n (placedOf ns) own (nodes-read m (k + 1) ns (legal .1))
 
 -- ---- the file
 
@@ -106,7 +103,7 @@ module _ (m : ℕ) (ns : List Node) (nodes : FileNodes m ns) where
       ∙ refuse-passes _ _ _ _ (ap not (range-in 1 8 m (nodes .relations .0) (nodes .relations .1)))
       ∙ refuse-passes _ _ _ _ (ap not (range-in 1 64 (length ns) (nodes .count .0) (nodes .count .1)))
 
-  file-read : ReadFile (fileOf m ns) m (length ns) (placedOf ns)
+  file-read : FileRead (fileOf m ns) m (length ns) (placedOf ns)
   unfolding fileOf
   file-read = read-file (fileOf m ns) m (length ns) (placedOf ns) file-header (nodes-read m 0 ns (nodes .legal))
 

@@ -22,6 +22,11 @@ use Rattle.node.specs.Reading.{read-checked, node-legal}
 abbrev fieldsRead : ℕ → ℕ → ℕ → List ℕ → Reading
 fieldsRead m k map bytes = withNode (nodeWith map (valueOf map bytes)) (checkFields m k map bytes)
 
+-- a node has at most five bytes
+legal-size : (map : ℕ) → legal map ≡ true → sizeOf map ≤ 5
+unfolding sizeOf
+legal-size map = legal-cases map (λ (c : ℕ). sizeOf c ≤ 5) (lit≤ tt) (lit≤ tt) (lit≤ tt) (lit≤ tt) (lit≤ tt)
+
 -- bytes a, and bytes b that follow them
 module _ (m k : ℕ) (b : List ℕ) where
   two-bytes : (a : List ℕ) → 2 ≤ length a → fieldsRead m k 1 (a ++ b) ≡ fieldsRead m k 1 a
@@ -66,10 +71,6 @@ module _ (m k : ℕ) (b : List ℕ) where
       legal-cases map (λ (c : ℕ). sizeOf c ≤ length a → fieldsRead m k c (a ++ b) ≡ fieldsRead m k c a)
       (two-bytes a) (λ h. four-bytes a h .0) (five-bytes a) (λ h. four-bytes a h .1) (three-bytes a)
 
-  legal-size : (map : ℕ) → legal map ≡ true → sizeOf map ≤ 5
-  unfolding sizeOf
-  legal-size map = legal-cases map (λ (c : ℕ). sizeOf c ≤ 5) (lit≤ tt) (lit≤ tt) (lit≤ tt) (lit≤ tt) (lit≤ tt)
-
   -- with a byte for the map, and all bytes of the node if the map is legal
   own-bytes : (a : List ℕ) → 1 ≤ length a → (legal (getD a 0 0) ≡ true → sizeOf (getD a 0 0) ≤ length a) → readNode m k (a ++ b) ≡ readNode m k a
   unfolding readNode checkNode nodeOf
@@ -94,7 +95,7 @@ module _ (m k : ℕ) (b : List ℕ) where
 
 -- a node that has five bytes or more is read the same, whatever follows
 pub node-enough : (m k : ℕ) (a b : List ℕ) → 5 ≤ length a → readNode m k (a ++ b) ≡ readNode m k a
-node-enough m k a b h = own-bytes m k b a (omega arith) (λ e. let most = legal-size m k b (getD a 0 0) e in omega arith)
+node-enough m k a b h = own-bytes m k b a (omega arith) (λ e. let most = legal-size (getD a 0 0) e in omega arith)
 
 -- and so is one in which nothing is refused
 pub node-local : (m k : ℕ) (a b : List ℕ) (node : Node) (size : ℕ) → readNode m k a ≡ Read node size → readNode m k (a ++ b) ≡ Read node size
