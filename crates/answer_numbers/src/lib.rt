@@ -57,7 +57,7 @@ pub fn write_outcome(outcome: Outcome, value: &mut usize, memberships: &mut u8) 
         }
         Outcome::Untypable(a) => {
             *value = a as usize;
-            255
+            255 // Verdict: untypable
         }
         Outcome::Refused(r) => r.number(),
     }
@@ -150,7 +150,7 @@ pub fn write_typability(typability: Typability, attribute: &mut u8, memberships:
         }
         Typability::Untypable(a) => {
             *attribute = a;
-            255
+            255 // Preview: untypable
         }
         Typability::Refused(r) => r.number(),
     }
