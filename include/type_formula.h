@@ -24,9 +24,9 @@ extern "C" {
 
 /* The version of this header and of the archive, and as one number: 10,000 major + 100 minor + patch. */
 #define TYPE_FORMULA_VERSION_MAJOR 0
-#define TYPE_FORMULA_VERSION_MINOR 6
+#define TYPE_FORMULA_VERSION_MINOR 5
 #define TYPE_FORMULA_VERSION_PATCH 0
-#define TYPE_FORMULA_VERSION 600
+#define TYPE_FORMULA_VERSION 500
 
 /* The most relations of an expression file. */
 #define TYPE_FORMULA_MOST_RELATIONS 8
@@ -60,10 +60,7 @@ enum type_formula_refusal {
     TYPE_FORMULA_RELATION_COUNT = 2,
     /* The node count n is not 1 to 64. */
     TYPE_FORMULA_NODE_COUNT = 3,
-    /*
-     * The file ends before a node, or within one whose complete fields are right; a record is empty, or
-     * ends so. The first complete field that is wrong is named instead (FORMAT 8.3).
-     */
+    /* The file ends before a node, or within one; a record is empty, or ends within its node. */
     TYPE_FORMULA_NODE_TRUNCATED = 4,
     /* The node's map is none of the five legal ones. */
     TYPE_FORMULA_NODE_MAP = 5,
@@ -231,8 +228,7 @@ static inline const char *type_formula_refusal_text(int answer)
     case TYPE_FORMULA_NODE_COUNT:
         return "the node count is not 1 to 64 (FORMAT 1.1)";
     case TYPE_FORMULA_NODE_TRUNCATED:
-        return "the file or record ends before a node, or within one whose complete fields are right "
-               "(FORMAT 1.2, 8.3, 8.9)";
+        return "the file or record ends before a node or within one (FORMAT 1.2, 8.9)";
     case TYPE_FORMULA_NODE_MAP:
         return "the node's map is none of the five legal ones (FORMAT 1.4)";
     case TYPE_FORMULA_OPERATOR_CODE:

@@ -2,15 +2,15 @@
 # Prints the instructions of one call of each operation and its alternatives as a markdown table,
 # and those of the engine and of the hand-written code as nodes double and as the text of a query
 # doubles. Edit and Preview exchange the node in the middle of the file for itself; the copy beside
-# Edit, as beside accepting a file, is one of the file, so that Preview can be compared with Verdict
-# and that copy. Sizes are those of the benchmark: a number of nodes, so many with an untypable last
-# node, relations that the fewest subsets fill (fewest) or that others must be sought for
-# (coverofthree, coverofeight, coverofdense), 64 nodes of which most are unions (64unionsofeight,
-# 64unionsofone), or 64 nodes with 255 ordinary attributes in three lists (64x255) or with one in
-# each list (64x255each); of a query a number of bytes, E1 (24), 63 prefixes (191deep), or lists of
-# 15 attributes (512lists). Each is counted by callgrind for two numbers of calls; the difference
-# divided by that of the calls leaves out what comes before them. A copy by one repeated instruction
-# counts as an instruction for each byte.
+# Edit is one of the file, so that Preview can be compared with Verdict and that copy. Sizes are
+# those of the benchmark: a number of nodes, so many with an untypable last node, relations that the
+# fewest subsets fill (fewest) or that others must be sought for (coverofthree, coverofeight,
+# coverofdense), 64 nodes of which most are unions (64unionsofeight, 64unionsofone), or 64 nodes
+# with 255 ordinary attributes in three lists (64x255) or with one in each list (64x255each); of a
+# query a number of bytes, E1 (24), 63 prefixes (191deep), or lists of 15 attributes (512lists).
+# Each is counted by callgrind for two numbers of calls; the difference divided by that of the calls
+# leaves out what comes before them. A copy by one repeated instruction counts as an instruction for
+# each byte.
 set -eu
 cd "$(dirname "$0")"
 few=5 many=25
@@ -33,7 +33,6 @@ per_call() {
 # The sizes at which an operation is counted.
 sizes() {
     case $1 in
-        accept) echo 7 64 ;;
         formula) echo 7 64 64unionsofeight 64unionsofone ;;
         verdict | edit | preview)
             echo 7 7untypable 64 64untypable fewest coverofthree coverofeight coverofdense ;;
@@ -45,7 +44,7 @@ sizes() {
 echo "| Operation | size | engine | other implementation | hand-written | copy |" \
     "copy by a 64-bit loop |"
 echo "|---|---|---|---|---|---|---|"
-for operation in accept formula verdict edit preview typing apply recover parsequery; do
+for operation in formula verdict edit preview typing apply recover parsequery; do
     for size in $(sizes $operation); do
         row="| $operation | $size |"
         for by in engine reference words copy copyloop; do

@@ -15,8 +15,7 @@ pub enum Refusal {
     RelationCount = 2,
     /// The node count n is not 1 to 64.
     NodeCount = 3,
-    /// The file ends before a node, or within one whose complete fields are right; a record is
-    /// empty, or ends so. The first complete field that is wrong is named instead (FORMAT 8.3).
+    /// The file ends before a node, or within one; a record is empty, or ends within its node.
     NodeTruncated = 4,
     /// The node's map is none of the five legal ones.
     NodeMap = 5,
@@ -83,8 +82,7 @@ const TEXTS: [(Refusal, &str); 27] = [
     ),
     (
         Refusal::NodeTruncated,
-        "the file or record ends before a node, or within one whose complete fields are right \
-         (FORMAT 1.2, 8.3, 8.9)",
+        "the file or record ends before a node or within one (FORMAT 1.2, 8.9)",
     ),
     (
         Refusal::NodeMap,

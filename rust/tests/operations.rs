@@ -35,8 +35,6 @@ fn accept_gives_the_counts_or_the_first_refusal() {
     refused(&[], Refusal::HeaderTruncated);
     refused(&[9, 65], Refusal::RelationCount);
     refused(&E1[..24], Refusal::NodeTruncated);
-    refused(&[1, 2, 1, 0, 34, 0], Refusal::NodeTruncated);
-    refused(&[1, 2, 1, 0, 34, 1], Refusal::Operand);
 }
 
 #[test]
@@ -85,18 +83,6 @@ fn read_node_gives_the_first_refusal() {
     refused(&[1, 3], Refusal::RelationNumber);
     refused(&[34, 6, 0], Refusal::Operand);
     refused(&[34, 0, 0], Refusal::Attribute);
-}
-
-#[test]
-fn read_node_judges_the_fields_that_are_there_of_a_cut_node() {
-    let refused = |bytes: &[u8], refusal| assert_eq!(read_node(3, 6, bytes), Err(refusal));
-    refused(&[14, 5], Refusal::NodeTruncated);
-    refused(&[14, 6], Refusal::Operand);
-    refused(&[14, 5, 6], Refusal::Operand);
-    refused(&[26, 5, 4], Refusal::OperatorCode);
-    refused(&[26, 5, 5, 1], Refusal::NodeTruncated);
-    refused(&[98, 5, 0], Refusal::Attribute);
-    refused(&[34, 6], Refusal::Operand);
 }
 
 #[test]
@@ -323,8 +309,6 @@ fn edit_gives_the_first_refusal_and_writes_nothing() {
     refused(E1, 6, &[], enough - 1, Refusal::EditSlice);
     refused(E1, 6, &[], enough, Refusal::NodeTruncated);
     refused(E1, 6, &[0], enough, Refusal::NodeMap);
-    refused(E1, 6, &[14, 5], enough, Refusal::NodeTruncated);
-    refused(E1, 6, &[14, 6], enough, Refusal::Operand);
     refused(E1, 6, &[14, 6, 6, 0], enough, Refusal::Operand);
     refused(E1, 6, &[14, 5, 5, 0], enough, Refusal::OperatorCode);
     refused(E1, 6, &[1, 3, 0], enough, Refusal::RelationNumber);
@@ -378,8 +362,6 @@ fn preview_gives_the_first_refusal_and_writes_nothing() {
     refused(E1, 7, &[], 0, Refusal::NodeNumber);
     refused(E1, 6, &[], enough - 1, Refusal::WorkSpace);
     refused(E1, 6, &[], enough, Refusal::NodeTruncated);
-    refused(E1, 6, &[98, 5, 15], enough, Refusal::NodeTruncated);
-    refused(E1, 6, &[98, 5, 16], enough, Refusal::Attribute);
     refused(E1, 6, &[1, 3, 0], enough, Refusal::RelationNumber);
     refused(E1, 6, &[1, 2, 0], enough, Refusal::NodesFollowed);
     assert_stays(&work);

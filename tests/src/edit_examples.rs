@@ -217,7 +217,7 @@ pub fn edit_cases() -> Vec<EditCase> {
 }
 
 /// Records that are refused: name, node of E1, record, refusal.
-const REFUSED: [(&str, usize, &str, u8); 65] = [
+const REFUSED: [(&str, usize, &str, u8); 62] = [
     ("no byte", 6, "", 4),
     ("a relation cut", 6, "01", 4),
     ("a pair cut after its map", 6, "0e", 4),
@@ -230,7 +230,9 @@ const REFUSED: [(&str, usize, &str, u8); 65] = [
     ("a renaming cut after the operand", 6, "62 05", 4),
     ("a renaming cut after old", 6, "62 05 01", 4),
     ("projecting out cut", 6, "22 05", 4),
-    ("a set cut within, bit 0 there", 6, "1a 05 05 01", 4),
+    ("a pair cut, 4 before 8", 6, "0e 06 06", 4),
+    ("a set cut, 4 before 6 and 9", 6, "1a 05 07 01", 4),
+    ("a renaming cut, 4 before 9", 6, "62 05 00", 4),
     ("map 0 alone", 6, "00", 5),
     ("map 0", 6, "00 00 00 00 00 00", 5),
     ("map 3", 6, "03 00 00", 5),
@@ -241,8 +243,6 @@ const REFUSED: [(&str, usize, &str, u8); 65] = [
     ("code 5 of a pair", 6, "0e 05 05 05", 6),
     ("code 4 of a set", 6, "1a 05 04 0c 00", 6),
     ("code 7 of a set", 6, "1a 05 07 0c 00", 6),
-    ("code wrong, 6 before 4", 6, "1a 05 07", 6),
-    ("code wrong, 6 before 4 within a set", 6, "1a 05 07 01", 6),
     ("code wrong, 6 before 9", 6, "1a 05 00 01 00", 6),
     ("code wrong, 6 before 10", 6, "0e 05 05 06 00", 6),
     ("relation m", 6, "01 03", 7),
@@ -263,8 +263,6 @@ const REFUSED: [(&str, usize, &str, u8); 65] = [
     ("a set as node 0", 0, "1a 00 05 0c 00", 8),
     ("a renaming as node 0", 0, "62 00 01 02", 8),
     ("projecting out as node 0", 0, "22 00 01", 8),
-    ("an operand wrong, 8 before 4", 6, "22 06", 8),
-    ("both operands wrong, 8 before 4", 6, "0e 06 06", 8),
     ("an operand wrong, 8 before 6", 6, "0e 05 06 00", 8),
     ("an operand wrong, 8 before 9", 6, "22 06 00", 8),
     ("an operand wrong, 8 before 10", 6, "22 06 01 00", 8),
@@ -275,7 +273,6 @@ const REFUSED: [(&str, usize, &str, u8); 65] = [
     ("new 16", 6, "62 05 02 10", 9),
     ("0 projected out", 6, "22 05 00", 9),
     ("16 projected out", 6, "22 05 10", 9),
-    ("old 0, 9 before 4", 6, "62 05 00", 9),
     ("bit 0 of a set, 9 before 10", 6, "1a 05 05 01 00 00", 9),
     ("a byte after a relation", 6, "01 02 00", 10),
     ("a byte after a pair", 6, "0e 05 05 01 00", 10),

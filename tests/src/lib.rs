@@ -4,8 +4,6 @@
 pub mod alone;
 /// Operations, their answers as numbers, and counts of them.
 pub mod answer;
-/// Cut nodes, and files with one wrong field.
-pub mod cut_nodes;
 /// Edits of files with what Edit and Preview answer.
 pub mod edit_examples;
 /// The C functions of the engine, wrapped safely.

@@ -14,7 +14,7 @@ use Rattle.admission.specs.Admission.{after, tested, asked}
 use Rattle.edit_answer.specs.declared.Editing.{Editing}
 use Rattle.edit_answer.specs.declared.Editing.TheVariants.{Written, Refused}
 
--- FORMAT 8.9: the record as node k of a file with m relations: 4, 5 and the fields, as every node; and then 10 where
+-- FORMAT 8.9: the record as node k of a file with m relations: 4, 5, 4 and the fields, as every node; and then 10 where
 -- bytes follow the node
 unfoldable pub check_record : ℕ → ℕ → List ℕ → Check
 check_record m k replacement =

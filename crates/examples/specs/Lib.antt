@@ -3,4 +3,3 @@ pub mod Holds
 pub mod RefusedQueries
 pub mod Universal
 pub mod Edits
-pub mod CutNodes

@@ -79,51 +79,44 @@ module _ (m k : ℕ) (bytes : List ℕ) where
   relation-sound : SoundCheck m k 1 bytes (check_fields m k 1 bytes)
   unfolding check_fields size_of
   relation-sound =
-      by-refuse _ _ (lit≤ tt) λ relation-there.
+      by-refuse _ _ (lit≤ tt) λ enough.
       by-refuse _ _ (lit≤ tt) λ relation.
-      by-legal 1 _ refl refl (leb-false _ _ relation) (ltb-false _ _ relation-there) tt tt
+      by-legal 1 _ refl refl (leb-false _ _ relation) (ltb-false _ _ enough) tt tt
 
   binary-sound : SoundCheck m k 14 bytes (check_fields m k 14 bytes)
   unfolding check_fields size_of
   binary-sound =
-      by-refuse _ _ (lit≤ tt) λ left_there.
+      by-refuse _ _ (lit≤ tt) λ enough.
       by-refuse _ _ (lit≤ tt) λ left.
-      by-refuse _ _ (lit≤ tt) λ right_there.
       by-refuse _ _ (lit≤ tt) λ right.
-      by-refuse _ _ (lit≤ tt) λ code-there.
       by-refuse _ _ (lit≤ tt) λ code.
-      by-legal 14 _ refl refl (leb-false _ _ left, leb-false _ _ right) (ltb-false _ _ code-there) tt tt
+      by-legal 14 _ refl refl (leb-false _ _ left, leb-false _ _ right) (ltb-false _ _ enough) tt tt
 
   with-set-sound : SoundCheck m k 26 bytes (check_fields m k 26 bytes)
   unfolding check_fields size_of
   with-set-sound =
-      by-refuse _ _ (lit≤ tt) λ operand-there.
+      by-refuse _ _ (lit≤ tt) λ enough.
       by-refuse _ _ (lit≤ tt) λ operand.
-      by-refuse _ _ (lit≤ tt) λ code-there.
       by-refuse _ _ (lit≤ tt) λ code.
-      by-refuse _ _ (lit≤ tt) λ set_there.
       by-refuse _ _ (lit≤ tt) λ set.
-      by-legal 26 _ refl refl (leb-false _ _ operand, clear-set _ set) (ltb-false _ _ set_there) tt tt
+      by-legal 26 _ refl refl (leb-false _ _ operand, clear-set _ set) (ltb-false _ _ enough) tt tt
 
   renaming-sound : SoundCheck m k 98 bytes (check_fields m k 98 bytes)
   unfolding check_fields size_of
   renaming-sound =
-      by-refuse _ _ (lit≤ tt) λ operand-there.
+      by-refuse _ _ (lit≤ tt) λ enough.
       by-refuse _ _ (lit≤ tt) λ operand.
-      by-refuse _ _ (lit≤ tt) λ old-there.
       by-refuse _ _ (lit≤ tt) λ old.
-      by-refuse _ _ (lit≤ tt) λ new-there.
       by-refuse _ _ (lit≤ tt) λ new.
-      by-legal 98 _ refl refl (leb-false _ _ operand, not-false _ old, not-false _ new) (ltb-false _ _ new-there) tt tt
+      by-legal 98 _ refl refl (leb-false _ _ operand, not-false _ old, not-false _ new) (ltb-false _ _ enough) tt tt
 
   projecting-out-sound : SoundCheck m k 34 bytes (check_fields m k 34 bytes)
   unfolding check_fields size_of
   projecting-out-sound =
-      by-refuse _ _ (lit≤ tt) λ operand-there.
+      by-refuse _ _ (lit≤ tt) λ enough.
       by-refuse _ _ (lit≤ tt) λ operand.
-      by-refuse _ _ (lit≤ tt) λ old-there.
       by-refuse _ _ (lit≤ tt) λ old.
-      by-legal 34 _ refl refl (leb-false _ _ operand, not-false _ old) (ltb-false _ _ old-there) tt tt
+      by-legal 34 _ refl refl (leb-false _ _ operand, not-false _ old) (ltb-false _ _ enough) tt tt
 
   pub check_sound : SoundCheck m k (get_or bytes 0 0) bytes (check_node m k bytes)
   unfolding check_node

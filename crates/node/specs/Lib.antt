@@ -1,6 +1,5 @@
 pub mod Operators
 pub mod ReadNode
-pub mod FieldOrder
 pub mod Legal
 pub mod Reading
 pub mod NodeSequence

@@ -1,8 +1,7 @@
 -- The bytes of a node (FORMAT 1.4): reading them gives the node back, and what is read is made of them.
-use Rattle.std.specs.Prelude.{ℕ, ◌+◌, ◌*◌, ◌/◌, ◌%◌, ◌≤◌, ◌<◌, ◌≡◌, refl, Bool, true, false, cond, not, eqb, length, get_or, take}
+use Rattle.std.specs.Prelude.{ℕ, ◌+◌, ◌*◌, ◌/◌, ◌%◌, ◌≤◌, ◌<◌, ◌≡◌, refl, Bool, true, false, cond, not, List, [], ◌∷◌, ◌++◌, eqb, length, get_or, take}
 use Rattle.std.proofs.Common.{sym, ap, ap₂, subst, ◌∙◌, arith, lit≤}
-use mathlib.Core.List.{List, [], ◌∷◌, ◌++◌}
-use borrow.Author.Tests.{lt-leb, eqb-true, eqb-false, not-false}
+use borrow.Author.Tests.{le-ltb, lt-leb, eqb-true, eqb-false, not-false}
 use Rattle.bits.specs.Bit.{bit}
 use Rattle.bits.specs.Range.{in_range, in-range, range-in}
 use Rattle.bits.specs.Word.{Bytes}
@@ -21,8 +20,7 @@ use Rattle.node.specs.declared.nodes.Reading.TheVariants.{Read}
 use Rattle.node.specs.declared.checking.Check.{Check}
 use Rattle.node.specs.declared.checking.Check.TheVariants.{Legal, Refused}
 use Rattle.node.specs.Operators.{binary_of, set_op_of, binary_code, set_code}
-use Rattle.node.specs.ReadNode.{Field, left, right, code, attributes, width, size_of, number_at, value_of, wrong, judge, check_fields, check_node, node_with, node_of, read_node}
-use Rattle.node.specs.FieldOrder.{check-fields, whole_fields_lem}
+use Rattle.node.specs.ReadNode.{size_of, value_of, check_fields, check_node, node_with, node_of, read_node}
 use Rattle.node.specs.Legal.{legal-cases, LegalNode, node-passed}
 use Rattle.node.specs.Reading.{checked-read, read-checked}
 
@@ -58,16 +56,18 @@ set-code-known Projection = (range-in 5 6 6 (lit≤ tt) (lit≤ tt), refl)
 
 -- the bytes of a legal node, whatever follows them, pass the check
 bytes-checked : (m k : ℕ) (node : Node) (rest : List ℕ) → LegalNode m k node → check_node m k (node_bytes node ++ rest) ≡ Legal (length (node_bytes node))
-unfolding size_of
+unfolding check_node check_fields size_of
 bytes-checked m k (Relation r) rest h =
     let bytes : List ℕ = 1 ∷ r ∷ rest in
-    check-fields m k bytes (omega arith) refl
-    ∙ whole_fields_lem m k 1 bytes (omega arith)
+    refuse-passes _ _ _ _ (le-ltb (length bytes) 1 (omega arith))
+    ∙ refuse-passes _ _ _ _ refl
+    ∙ refuse-passes _ _ _ _ (le-ltb (length bytes) 2 (omega arith))
     ∙ refuse-passes _ _ _ _ (lt-leb m r h)
 bytes-checked m k (Binary op l r) rest h =
     let bytes : List ℕ = 14 ∷ l ∷ r ∷ binary_code op ∷ rest in
-    check-fields m k bytes (omega arith) refl
-    ∙ whole_fields_lem m k 14 bytes (omega arith)
+    refuse-passes _ _ _ _ (le-ltb (length bytes) 1 (omega arith))
+    ∙ refuse-passes _ _ _ _ refl
+    ∙ refuse-passes _ _ _ _ (le-ltb (length bytes) 4 (omega arith))
     ∙ refuse-passes _ _ _ _ (lt-leb k l h.0)
     ∙ refuse-passes _ _ _ _ (lt-leb k r h.1)
     ∙ refuse-passes _ _ _ _ (ap not (code-known op).0)
@@ -75,22 +75,25 @@ bytes-checked m k (WithSet op o s) rest h =
     let bytes : List ℕ = 26 ∷ o ∷ set_code op ∷ (bits_of s % 256) ∷ (bits_of s / 256) ∷ rest in
     let value : bits_of s % 256 + bits_of s / 256 * 256 ≡ bits_of s = omega arith in
     let clear : bit (bits_of s % 256 + bits_of s / 256 * 256) 0 ≡ false = ap (λ (v : ℕ). bit v 0) value ∙ sym (has-bit s 0) ∙ clear-lacks s h.1 in
-    check-fields m k bytes (omega arith) refl
-    ∙ whole_fields_lem m k 26 bytes (omega arith)
+    refuse-passes _ _ _ _ (le-ltb (length bytes) 1 (omega arith))
+    ∙ refuse-passes _ _ _ _ refl
+    ∙ refuse-passes _ _ _ _ (le-ltb (length bytes) 5 (omega arith))
     ∙ refuse-passes _ _ _ _ (lt-leb k o h.0)
     ∙ refuse-passes _ _ _ _ (ap not (set-code-known op).0)
     ∙ refuse-passes _ _ _ _ clear
 bytes-checked m k (Renaming o old new) rest h =
     let bytes : List ℕ = 98 ∷ o ∷ old ∷ new ∷ rest in
-    check-fields m k bytes (omega arith) refl
-    ∙ whole_fields_lem m k 98 bytes (omega arith)
+    refuse-passes _ _ _ _ (le-ltb (length bytes) 1 (omega arith))
+    ∙ refuse-passes _ _ _ _ refl
+    ∙ refuse-passes _ _ _ _ (le-ltb (length bytes) 4 (omega arith))
     ∙ refuse-passes _ _ _ _ (lt-leb k o h.0)
     ∙ refuse-passes _ _ _ _ (ap not h.1)
     ∙ refuse-passes _ _ _ _ (ap not h.2)
 bytes-checked m k (ProjectingOut o old) rest h =
     let bytes : List ℕ = 34 ∷ o ∷ old ∷ rest in
-    check-fields m k bytes (omega arith) refl
-    ∙ whole_fields_lem m k 34 bytes (omega arith)
+    refuse-passes _ _ _ _ (le-ltb (length bytes) 1 (omega arith))
+    ∙ refuse-passes _ _ _ _ refl
+    ∙ refuse-passes _ _ _ _ (le-ltb (length bytes) 3 (omega arith))
     ∙ refuse-passes _ _ _ _ (lt-leb k o h.0)
     ∙ refuse-passes _ _ _ _ (ap not h.1)
 
@@ -156,24 +159,22 @@ module _ (m k : ℕ) (bytes : List ℕ) (size : ℕ) where
   past : (t : Bool) (r : Refusal) (next : Check) → refuse Refused t r next ≡ Legal size → (t ≡ false) × (next ≡ Legal size)
   past t r next e = refuse-past Refused t r next (never r) e
 
-  -- a field that did not refuse, and the fields after it
-  field_past : (map : ℕ) (f : Field) (fs : List Field) (at : ℕ) → judge m k map bytes (f ∷ fs) at ≡ Legal size → (wrong m k map f (number_at f bytes at) ≡ false) × (judge m k map bytes fs (at + width f) ≡ Legal size)
-  field_past map f fs at e = past _ _ _ (past _ _ _ e).1
-
   -- the code of a node of map 14 that passed
   binary-code : check_fields m k 14 bytes ≡ Legal size → in_range 1 4 (get_or bytes 3 0) ≡ true
-  unfolding check_fields
+  unfolding check_fields size_of
   binary-code e =
-      let left-past = field_past 14 left (right ∷ code ∷ []) 1 e in
-      let right-past = field_past 14 right (code ∷ []) 2 left-past.1 in
-      not-false _ (field_past 14 code [] 3 right-past.1).0
+      let enough = past _ _ _ e in
+      let left = past _ _ _ enough.1 in
+      let right = past _ _ _ left.1 in
+      not-false _ (past _ _ _ right.1).0
 
   -- and of map 26
   set-code : check_fields m k 26 bytes ≡ Legal size → in_range 5 6 (get_or bytes 2 0) ≡ true
-  unfolding check_fields
+  unfolding check_fields size_of
   set-code e =
-      let operand-past = field_past 26 left (code ∷ attributes ∷ []) 1 e in
-      not-false _ (field_past 26 code (attributes ∷ []) 2 operand-past.1).0
+      let enough = past _ _ _ e in
+      let operand = past _ _ _ enough.1 in
+      not-false _ (past _ _ _ operand.1).0
 
   -- the fields passed
   fields-passed : check_node m k bytes ≡ Legal size → check_fields m k (get_or bytes 0 0) bytes ≡ Legal size

@@ -102,18 +102,17 @@ refusal_of attributes = Attribute
 refusal_of old = Attribute
 refusal_of new = Attribute
 
--- FORMAT 8.3: the fields from the lowest bit up, the first of which stands at a place: 4 where the bytes end before the
--- field does, the field's own refusal if its value is wrong, then the next field; and the byte after the last
-abbrev pub judge : ℕ → ℕ → ℕ → List ℕ → List Field → ℕ → Check
-judge m k map bytes [] at = Legal at
-judge m k map bytes (f ∷ fs) at =
-    refuse Refused (ltb (length bytes) (at + width f)) NodeTruncated
-    (refuse Refused (wrong m k map f (number_at f bytes at)) (refusal_of f)
-    (judge m k map bytes fs (at + width f)))
+-- FORMAT 8.3: the fields from the lowest bit up, and what comes if none is wrong
+abbrev pub judge : ℕ → ℕ → ℕ → List ℕ → List Field → Check → Check
+judge m k map bytes [] next = next
+judge m k map bytes (f ∷ fs) next =
+    refuse Refused (wrong m k map f (value_of map bytes f)) (refusal_of f) (judge m k map bytes fs next)
 
--- FORMAT 8.3: the size of a node with this map, or the first refusal in its fields
+-- FORMAT 8.3: 4 where bytes of the node are missing, then its fields
 unfoldable pub check_fields : ℕ → ℕ → ℕ → List ℕ → Check
-check_fields m k map bytes = judge m k map bytes (fields_of map) 1
+check_fields m k map bytes =
+    refuse Refused (ltb (length bytes) (size_of map)) NodeTruncated
+    (judge m k map bytes (fields_of map) (Legal (size_of map)))
 
 -- FORMAT 1.4: the five maps
 abbrev pub legal : ℕ → Bool

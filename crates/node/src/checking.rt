@@ -29,20 +29,14 @@ fn check_relation(m: u8, bytes: &[u8]) -> Check
 fn check_binary(k: u8, bytes: &[u8]) -> Check
     ensures { result ≡ check_fields 0 k 14 bytes.now }
 {
-    if bytes.len() < 2 {
+    if bytes.len() < 4 {
         return Check::Refused(Refusal::NodeTruncated);
     }
     if k <= bytes[1] {
         return Check::Refused(Refusal::Operand);
     }
-    if bytes.len() < 3 {
-        return Check::Refused(Refusal::NodeTruncated);
-    }
     if k <= bytes[2] {
         return Check::Refused(Refusal::Operand);
-    }
-    if bytes.len() < 4 {
-        return Check::Refused(Refusal::NodeTruncated);
     }
     if !bits::in_range(1, 4, bytes[3]) {
         return Check::Refused(Refusal::OperatorCode);
@@ -54,20 +48,14 @@ fn check_binary(k: u8, bytes: &[u8]) -> Check
 fn check_with_set(k: u8, bytes: &[u8]) -> Check
     ensures { result ≡ check_fields 0 k 26 bytes.now }
 {
-    if bytes.len() < 2 {
+    if bytes.len() < 5 {
         return Check::Refused(Refusal::NodeTruncated);
     }
     if k <= bytes[1] {
         return Check::Refused(Refusal::Operand);
     }
-    if bytes.len() < 3 {
-        return Check::Refused(Refusal::NodeTruncated);
-    }
     if !bits::in_range(5, 6, bytes[2]) {
         return Check::Refused(Refusal::OperatorCode);
-    }
-    if bytes.len() < 5 {
-        return Check::Refused(Refusal::NodeTruncated);
     }
     if bytes[3] % 2 == 1 {
         return Check::Refused(Refusal::Attribute);
@@ -79,20 +67,14 @@ fn check_with_set(k: u8, bytes: &[u8]) -> Check
 fn check_renaming(k: u8, bytes: &[u8]) -> Check
     ensures { result ≡ check_fields 0 k 98 bytes.now }
 {
-    if bytes.len() < 2 {
+    if bytes.len() < 4 {
         return Check::Refused(Refusal::NodeTruncated);
     }
     if k <= bytes[1] {
         return Check::Refused(Refusal::Operand);
     }
-    if bytes.len() < 3 {
-        return Check::Refused(Refusal::NodeTruncated);
-    }
     if !is_special(bytes[2]) {
         return Check::Refused(Refusal::Attribute);
-    }
-    if bytes.len() < 4 {
-        return Check::Refused(Refusal::NodeTruncated);
     }
     if !is_special(bytes[3]) {
         return Check::Refused(Refusal::Attribute);
@@ -104,14 +86,11 @@ fn check_renaming(k: u8, bytes: &[u8]) -> Check
 fn check_projecting_out(k: u8, bytes: &[u8]) -> Check
     ensures { result ≡ check_fields 0 k 34 bytes.now }
 {
-    if bytes.len() < 2 {
+    if bytes.len() < 3 {
         return Check::Refused(Refusal::NodeTruncated);
     }
     if k <= bytes[1] {
         return Check::Refused(Refusal::Operand);
-    }
-    if bytes.len() < 3 {
-        return Check::Refused(Refusal::NodeTruncated);
     }
     if !is_special(bytes[2]) {
         return Check::Refused(Refusal::Attribute);

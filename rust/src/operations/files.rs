@@ -14,12 +14,6 @@ use crate::{Expression, Node, Refusal};
 /// assert_eq!((expression.relation_count(), expression.node_count()), (1, 2));
 ///
 /// assert_eq!(accept(&file[..8]), Err(Refusal::NodeTruncated));
-///
-/// // A complete field is judged though its node is cut: node 1 is its own operand, in a file that
-/// // ends after the operand, and in one that ends before it.
-/// let cut = [1, 2, 0x01, 0, 0x1a, 1];
-/// assert_eq!(accept(&cut), Err(Refusal::Operand));
-/// assert_eq!(accept(&cut[..5]), Err(Refusal::NodeTruncated));
 /// # Ok::<(), Refusal>(())
 /// ```
 pub fn accept(file: &[u8]) -> Result<Expression<'_>, Refusal> {

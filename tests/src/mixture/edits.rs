@@ -14,8 +14,7 @@ fn taken(random: &mut Random, file: &[u8]) -> Vec<u8> {
 }
 
 /// A record for the node: one that can stand for it, most often of a typable node; one of a later
-/// node or of another one of the file; none; a cut one with a complete field that is wrong; or bytes
-/// that are damaged, truncated, extended or any.
+/// node or of another one of the file; none; or bytes that are damaged, truncated, extended or any.
 pub fn record(random: &mut Random, file: &[u8], node: usize) -> Vec<u8> {
     let relations = file.first().map_or(1, |&count| count.clamp(1, 8));
     let number = node.min(63) as u8;
@@ -24,8 +23,7 @@ pub fn record(random: &mut Random, file: &[u8], node: usize) -> Vec<u8> {
         1..=2 => taken(random, file),
         3 => encode_node(&random.node(relations, 63)),
         4..=13 => node_bytes(random, relations, number),
-        14 => random.cut_node_with_fault(relations, number),
-        15..=18 => encode_node(&random.node(relations, number)),
+        14..=17 => encode_node(&random.node(relations, number)),
         _ => encode_node(&random.mild_node(relations, number)),
     }
 }

@@ -7,7 +7,7 @@ use crate::extreme_inputs::{greatest_files, join_input};
 use crate::input::Input;
 use crate::pseudorandom::Random;
 use crate::random_covers::FileKind;
-use crate::reference::{encode_node, read_file, File, LEGAL_MAPS};
+use crate::reference::{encode_node, File, LEGAL_MAPS};
 
 /// Files that are made once.
 pub struct Files {
@@ -61,20 +61,11 @@ pub fn damage(random: &mut Random, kind: usize, bytes: &mut Vec<u8>) {
     }
 }
 
-/// Exchanges the last node of an accepted file for a cut one with a complete field that is wrong.
-fn cut_last_node(random: &mut Random, bytes: &mut Vec<u8>) {
-    let file = read_file(bytes).expect("accepted");
-    let last = file.parts.len() - 1;
-    bytes.truncate(file.parts[last].start);
-    bytes.extend(random.cut_node_with_fault(file.relations, last as u8));
-}
-
-/// A file of this size that is damaged, truncated, extended, cut within a wrong node, or of random
-/// bytes.
+/// A file of this size that is damaged, truncated, extended or of random bytes.
 fn damaged(random: &mut Random, (relations, count): (u8, u8)) -> Vec<u8> {
     let mut bytes = random.likely_file(relations, count);
     let length = length(random);
-    match random.below(14) {
+    match random.below(12) {
         0 => return random.bytes(length),
         1 => return random.likely_bytes(length),
         2 => bytes = [vec![relations, count], random.likely_bytes(length)].concat(),
@@ -89,7 +80,6 @@ fn damaged(random: &mut Random, (relations, count): (u8, u8)) -> Vec<u8> {
             let place = random.below(bytes.len());
             bytes[place] ^= 1 << random.below(8);
         }
-        8..=9 => cut_last_node(random, &mut bytes),
         _ => random.disturb_often(&mut bytes),
     }
     bytes
@@ -119,21 +109,20 @@ fn counts(random: &mut Random) -> (u8, u8) {
 /// Bytes to read a node from, as node of this number in a file of so many relations.
 pub fn node_bytes(random: &mut Random, relations: u8, number: u8) -> Vec<u8> {
     let length = random.below(12);
-    let (relations, number) = (relations.clamp(1, 8), number.min(63));
-    match random.below(9) {
+    match random.below(8) {
         0 => random.bytes(length),
         1 => random.likely_bytes(length),
         2..=3 => {
             let map = LEGAL_MAPS[random.below(LEGAL_MAPS.len())];
             [vec![map], random.likely_bytes(length)].concat()
         }
-        4 => random.cut_node_with_fault(relations, number),
         kind => {
+            let (relations, number) = (relations.clamp(1, 8), number.min(63));
             let mut bytes = encode_node(&random.node(relations, number));
             match kind {
-                5 => truncate(random, &mut bytes),
-                6 => extend(random, &mut bytes),
-                7 => random.disturb(&mut bytes),
+                4 => truncate(random, &mut bytes),
+                5 => extend(random, &mut bytes),
+                6 => random.disturb(&mut bytes),
                 _ => {}
             }
             bytes

@@ -117,24 +117,25 @@ fn fields_of(map: u8) -> impl Iterator<Item = Field> {
 }
 
 /// The number of bytes of a node with this map, the map included.
-pub fn node_length(map: u8) -> usize {
+fn node_length(map: u8) -> usize {
     1 + fields_of(map).map(Field::width).sum::<usize>()
 }
 
-/// A place in bytes.
+/// A place in bytes that are known to suffice.
 struct Cursor<'a> {
     bytes: &'a [u8],
     position: usize,
 }
 
 impl Cursor<'_> {
-    /// The value of the next `width` bytes, low first; none where they are not all there.
-    fn take(&mut self, width: usize) -> Option<u16> {
-        let end = self.position + width;
-        let taken = self.bytes.get(self.position..end)?;
-        self.position = end;
-        let high_first = taken.iter().rev();
-        Some(high_first.fold(0, |value, &byte| value << 8 | u16::from(byte)))
+    /// The value of the next `width` bytes, low first.
+    fn take(&mut self, width: usize) -> u16 {
+        let taken = &self.bytes[self.position..self.position + width];
+        self.position += width;
+        taken
+            .iter()
+            .rev()
+            .fold(0, |value, &byte| value << 8 | u16::from(byte))
     }
 }
 
@@ -199,12 +200,14 @@ fn node_of(map: u8, values: &Values) -> Node {
 
 /// Reads the node with the given number off the front of the bytes, in a file of
 /// the given relation count. Gives the node and its length, or the first refusal:
-/// 4 without a map byte, 5, then the complete fields in bit order, and 4 if bytes of
-/// the node are missing. A field is complete if all of its bytes are there.
+/// 4 without a map byte, 5, 4, then the fields in bit order.
 pub fn read_node(relations: u8, number: u8, bytes: &[u8]) -> Result<(Node, usize), u8> {
     let &map = bytes.first().ok_or(BYTES_END_BEFORE_OR_WITHIN_NODE)?;
     if !LEGAL_MAPS.contains(&map) {
         return Err(MAP_NOT_LEGAL);
+    }
+    if bytes.len() < node_length(map) {
+        return Err(BYTES_END_BEFORE_OR_WITHIN_NODE);
     }
     let context = Context {
         relations,
@@ -214,21 +217,15 @@ pub fn read_node(relations: u8, number: u8, bytes: &[u8]) -> Result<(Node, usize
     let mut cursor = Cursor { bytes, position: 1 };
     let mut values: Values = [0; 7];
     for field in fields_of(map) {
-        let Some(value) = cursor.take(field.width()) else {
-            break;
-        };
+        let value = cursor.take(field.width());
         check_field(field, value, &context)?;
         values[field as usize] = value;
     }
-    let length = node_length(map);
-    if bytes.len() < length {
-        return Err(BYTES_END_BEFORE_OR_WITHIN_NODE);
-    }
-    Ok((node_of(map, &values), length))
+    Ok((node_of(map, &values), cursor.position))
 }
 
 /// Reads relation count m and node count n, or gives the refusal 1, 2 or 3.
-pub fn read_header(bytes: &[u8]) -> Result<(u8, u8), u8> {
+fn read_header(bytes: &[u8]) -> Result<(u8, u8), u8> {
     let &[relations, count, ..] = bytes else {
         return Err(FEWER_THAN_TWO_BYTES);
     };

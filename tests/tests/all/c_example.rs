@@ -117,8 +117,6 @@ fn the_example_prints_untypable_and_refusals() {
     for (file, refusal) in [
         (&bytes[..], Refusal::NodesFollowed),
         (&[8; 1_000], Refusal::NodeMap),
-        (&[1, 2, 1, 0, 34, 0], Refusal::NodeTruncated),
-        (&[1, 2, 1, 0, 34, 1], Refusal::Operand),
         (&[], Refusal::HeaderTruncated),
     ] {
         let wanted = format!("file refused {}: {refusal}\n", refusal.number());
@@ -353,8 +351,6 @@ fn files_are_edited_from_c() {
         ("0e050500", Refusal::OperatorCode),
         ("0103", Refusal::RelationNumber),
         ("220601", Refusal::Operand),
-        ("2205", Refusal::NodeTruncated),
-        ("2206", Refusal::Operand),
         ("220510", Refusal::Attribute),
         ("010200", Refusal::NodesFollowed),
     ] {

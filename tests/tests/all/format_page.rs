@@ -1,12 +1,11 @@
 //! The page `docs/FORMAT.md` against the engine and the crate: the examples of section 10, with
-//! their files, queries, texts, columns, verdicts and cut nodes, and the clauses that the refusals'
-//! texts name.
+//! their files, queries, texts, columns and verdicts, and the clauses that the refusals' texts
+//! name.
 
 use type_formula::{
-    accept, formula, parse_query, read_node, verdict, Expression, Formula, Refusal, Verdict,
-    LONGEST_FILE, SCHEMA_SIZE, WORK_SIZE,
+    accept, formula, parse_query, verdict, Expression, Formula, Refusal, Verdict, LONGEST_FILE,
+    SCHEMA_SIZE, WORK_SIZE,
 };
-use type_formula_tests::cut_nodes::length_first;
 use type_formula_tests::examples::{e1, from_hexadecimal};
 
 const FORMAT: &str = include_str!("../../../docs/FORMAT.md");
@@ -134,23 +133,6 @@ fn the_examples_of_the_format_are_what_the_engine_gives() {
 fn the_first_example_of_the_format_is_the_file_e1() {
     let first = clauses()[0];
     assert_eq!(bytes_after(first, "File:"), Some(e1().bytes));
-}
-
-/// As bytes of node 1 with one relation: those before a bracket with the refusals before and now.
-#[test]
-fn the_cut_nodes_of_the_format_have_their_refusals() {
-    let clause = clauses()[16];
-    assert!(clause.starts_with("17** *Cut nodes*"));
-    let mut count = 0;
-    for (bytes, refusals) in between(clause, " `", &[')']).filter_map(|part| part.split_once("` ("))
-    {
-        let bytes = from_hexadecimal(bytes);
-        let before = length_first(1, 1, &bytes).expect_err("refused");
-        let now = read_node(1, 1, &bytes).expect_err("refused").number();
-        assert_eq!(format!("{before}, {now}"), refusals, "{bytes:x?}");
-        count += 1;
-    }
-    assert_eq!(count, 19);
 }
 
 /// The clauses that a text names, as `FORMAT 5.1, 6.1`.

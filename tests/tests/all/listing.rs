@@ -7,7 +7,7 @@ use type_formula_tests::pseudorandom::Random;
 use type_formula_tests::reference::{encode_file, listing, Node};
 
 /// Compares what the program prints with the reference's text, which it gives.
-pub fn compare(bytes: &[u8]) -> String {
+fn compare(bytes: &[u8]) -> String {
     let wanted = listing(bytes);
     let given = programs::run("list_formula", bytes);
     assert!(

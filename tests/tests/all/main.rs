@@ -4,7 +4,6 @@ mod agreement_program;
 mod c_example;
 mod command_folder;
 mod covers;
-mod cut_nodes;
 mod damaged_instantiations;
 mod edits;
 mod expression_files;

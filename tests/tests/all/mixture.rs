@@ -3,15 +3,10 @@
 use type_formula_tests::answer::{
     Counts, Operation, GREATEST_REFUSAL, NO_TYPE, OPERATIONS, RESULT,
 };
-use type_formula_tests::cut_nodes::{accept_length_first, length_first};
 use type_formula_tests::mixture::{operation_of, Mixture};
-use type_formula_tests::pseudorandom::Random;
-use type_formula_tests::reference::{read_file, read_node};
 
 /// How many inputs are compared.
 const INPUTS: u64 = 66_000;
-/// How many inputs with a schema, and with a record, are searched for cut nodes.
-const SEARCHED: u64 = 10_000;
 
 /// The refusals that an operation can give.
 fn refusals(operation: Operation) -> Vec<u8> {
@@ -58,36 +53,6 @@ fn every_operation_gives_every_answer_that_it_can_give() {
             assert!(counts.of(operation, answer) > 0, "{operation:?} {answer}");
         }
     }
-}
-
-/// Whether a cut node of the file has a complete field that is wrong.
-fn is_wrong_where_cut(file: &[u8]) -> bool {
-    read_file(file).err() != accept_length_first(file).err()
-}
-
-/// Whether the record is a cut node of this number in an accepted file, with such a field.
-fn is_wrong_record(file: &[u8], node: usize, record: &[u8]) -> bool {
-    let Ok(read) = read_file(file) else {
-        return false;
-    };
-    let (relations, number) = (read.relations, node as u8);
-    let now = read_node(relations, number, record);
-    node < read.nodes.len() && now != length_first(relations, number, record)
-}
-
-#[test]
-fn cut_nodes_with_a_wrong_field_come_up() {
-    let (mut mixture, mut random) = (Mixture::new(), Random::new(4));
-    let (mut typed, mut edited, mut records) = (0, 0, 0);
-    for _ in 0..SEARCHED {
-        let (input, _, _) = mixture.with_schema(&mut random);
-        typed += u64::from(is_wrong_where_cut(&input.bytes));
-        let (file, node, record) = mixture.with_record(&mut random);
-        edited += u64::from(is_wrong_where_cut(&file));
-        records += u64::from(is_wrong_record(&file, node, &record));
-    }
-    println!("{typed} files with a schema, {edited} with a record, {records} records");
-    assert!(typed >= SEARCHED / 250 && edited >= SEARCHED / 100 && records >= SEARCHED / 25);
 }
 
 /// An input does not depend on those before it.

@@ -38,7 +38,7 @@ fn output(node: u8, file: &[u8], instantiation: &[u8]) -> (Vec<u8>, u8) {
 }
 
 /// Compares what the program prints with the reference, and gives the answer's number.
-pub fn compare(node: u8, file: &[u8], instantiation: &[u8]) -> u8 {
+fn compare(node: u8, file: &[u8], instantiation: &[u8]) -> u8 {
     let bytes = input(node, file, instantiation);
     let (wanted, answer) = output(node, file, instantiation);
     let given = programs::run("print_round_trip", &bytes);

@@ -14,7 +14,6 @@ use crate::words;
 
 #[derive(Clone, Copy, Debug, PartialEq, Eq)]
 pub enum Operation {
-    Accept,
     Formula,
     Verdict,
     Edit,
@@ -26,8 +25,7 @@ pub enum Operation {
 }
 
 /// All operations; parsing a query is the last.
-pub const OPERATIONS: [Operation; 9] = [
-    Operation::Accept,
+pub const OPERATIONS: [Operation; 8] = [
     Operation::Formula,
     Operation::Verdict,
     Operation::Edit,
@@ -41,7 +39,6 @@ pub const OPERATIONS: [Operation; 9] = [
 impl Operation {
     pub fn name(self) -> &'static str {
         match self {
-            Operation::Accept => "Accept a file",
             Operation::Formula => "Formula",
             Operation::Verdict => "Verdict",
             Operation::Edit => "Edit",
@@ -72,19 +69,6 @@ pub type Call<'a> = Box<dyn Fn(&mut Slices) + 'a>;
 
 /// A call for the setting: the answer as a number, and the numbers written.
 type OneCall = fn(&Setting, Parts) -> [usize; 3];
-
-fn accept_by_engine(of: &Setting, _: Parts) -> [usize; 3] {
-    let (mut relations, mut nodes) = (0, 0);
-    let answer = engine::accept(black_box(&of.file), &mut relations, &mut nodes);
-    [answer.into(), relations.into(), nodes.into()]
-}
-
-fn accept(by: impl Fn(&[u8]) -> Result<(u8, u8), u8>, of: &Setting, _: Parts) -> [usize; 3] {
-    match by(black_box(&of.file)) {
-        Ok((relations, nodes)) => [RESULT.into(), relations.into(), nodes.into()],
-        Err(refusal) => [refusal.into(), 0, 0],
-    }
-}
 
 fn formula(by: impl Fn(&[u8], &mut [u8]) -> u8, of: &Setting, slices: Parts) -> [usize; 3] {
     let answer = by(black_box(&of.file), slices.work);
@@ -260,18 +244,9 @@ fn parse_query(
     [parsed.number().into(), length, 0]
 }
 
-/// The counts of a file, or its first refusal.
-pub fn accept_by_reference(file: &[u8]) -> Result<(u8, u8), u8> {
-    let file = reference::read_file(file)?;
-    Ok((file.relations, file.nodes.len() as u8))
-}
-
 /// The call by an implementation; none for a copy.
 fn one_call(operation: Operation, by: By) -> Option<OneCall> {
     let call: OneCall = match (operation, by) {
-        (Operation::Accept, By::Engine) => accept_by_engine,
-        (Operation::Accept, By::Reference) => |of, slices| accept(accept_by_reference, of, slices),
-        (Operation::Accept, By::Words) => |of, slices| accept(words::accept, of, slices),
         (Operation::Formula, By::Engine) => |of, slices| formula(engine::formula, of, slices),
         (Operation::Formula, By::Reference) => |of, slices| formula(reference::formula, of, slices),
         (Operation::Formula, By::Words) => |of, slices| formula(words::formula, of, slices),
@@ -306,13 +281,13 @@ fn one_call(operation: Operation, by: By) -> Option<OneCall> {
 }
 
 /// The length of the copy beside an operation: the bytes that it writes, the formulas among
-/// them; for accepting a file those that it reads; for Typing those of the schema and for a query
-/// those of its text, which they read, too; for Preview also the edited file.
+/// them; for Typing those of the schema and for a query those of its text, which they read, too;
+/// for Preview also the edited file.
 fn copied_length(operation: Operation, setting: &Setting) -> usize {
     let (work, schema) = (setting.work_length(), setting.schema.len());
     match operation {
         Operation::Formula | Operation::Verdict => work,
-        Operation::Accept | Operation::Edit => setting.file.len(),
+        Operation::Edit => setting.file.len(),
         Operation::Preview => work + setting.file.len(),
         Operation::Typing => schema + setting.output_length,
         Operation::Apply => work + schema + setting.output_length,
@@ -368,7 +343,7 @@ pub fn check(operation: Operation, setting: &Setting) {
     };
     let wanted = after(By::Reference).expect("has every operation");
     let answer = match operation {
-        Operation::Accept | Operation::Edit => RESULT,
+        Operation::Edit => RESULT,
         _ => setting.answer(),
     };
     let name = &setting.name;

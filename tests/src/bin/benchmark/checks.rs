@@ -11,7 +11,6 @@ use type_formula_tests::pseudorandom::Random;
 use type_formula_tests::reference::{self, FILE_LENGTH, OUTPUT_LENGTH, SCHEMA_LENGTH};
 use type_formula_tests::slice_lengths::{least_for_apply, least_for_recover, work_length};
 
-use crate::calls::accept_by_reference;
 use crate::words;
 
 /// The number of random inputs of each operation.
@@ -58,14 +57,6 @@ impl Checks {
         let are_same = slices.iter().all(|slice| slice.difference().is_none());
         assert!(are_same, "{operation:?}: a slice differs");
         self.counts.count(operation, wanted.number());
-    }
-
-    fn accept(&mut self) {
-        let (input, _, _) = self.mixture.with_schema(&mut self.random);
-        let wanted = accept_by_reference(&input.bytes);
-        assert_eq!(words::accept(&input.bytes), wanted, "accept");
-        let answer = wanted.err().unwrap_or(RESULT);
-        self.counts.count(Operation::Accept, answer);
     }
 
     fn formula_and_verdict(&mut self) {
@@ -156,7 +147,6 @@ impl Checks {
 pub fn check_words() {
     let mut checks = Checks::new(51);
     for _ in 0..INPUTS {
-        checks.accept();
         checks.formula_and_verdict();
         checks.typing();
         checks.apply();

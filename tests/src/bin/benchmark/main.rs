@@ -1,5 +1,5 @@
-//! Times of accepting a file, Formula, Verdict, Edit, Preview, Typing, Apply, Recover and parsing a
-//! query, as markdown tables: beside the same operation by the reference, the same written by hand for speed
+//! Times of Formula, Verdict, Edit, Preview, Typing, Apply, Recover and parsing a query, as
+//! markdown tables: beside the same operation by the reference, the same written by hand for speed
 //! (module `words`), and copies of the bytes that are written, by the C library and by a loop;
 //! those of Preview beside Verdict of the same file and a copy of it; and those of the engine and
 //! of the hand-written code as nodes, attributes and texts double. Edit and Preview exchange the

@@ -54,8 +54,8 @@ fn print_comparisons() {
         "copy by a 64-bit loop",
     ];
     print_head(title, &names.map(String::from));
-    let (of_file, of_query) = (&OPERATIONS[..8], &OPERATIONS[8..]);
-    let (formula, verdict, others) = (&of_file[1..2], &of_file[2..5], &of_file[5..]);
+    let (of_file, of_query) = (&OPERATIONS[..7], &OPERATIONS[7..]);
+    let (formula, verdict, others) = (&of_file[..1], &of_file[1..4], &of_file[4..]);
     for (setting, operations) in [
         (e1_with_10_columns(), of_file),
         (untypable_of_7_nodes(), verdict),
@@ -63,7 +63,7 @@ fn print_comparisons() {
         (filled_by_the_fewest(), verdict),
         (cover_of_eight(), verdict),
         (cover_of_dense_columns(), verdict),
-        (random_of_64_nodes(), &of_file[..5]),
+        (random_of_64_nodes(), &of_file[..4]),
         (unions_of_eight(), formula),
         (unions_of_one(), formula),
         (untypable_of_64_nodes(), verdict),
@@ -187,15 +187,15 @@ fn both<'a>(operations: &[Operation], settings: &'a [Setting]) -> Vec<Column<'a>
 fn print_nodes() {
     let counts = [8, 16, 32, 64];
     let settings = counts.map(|count| of_nodes(count as u8));
-    let mut columns = both(&OPERATIONS[1..3], &settings);
+    let mut columns = both(&OPERATIONS[..2], &settings);
     let copy = (Operation::Formula, By::Copy);
     columns.push(("copy of the formulas".into(), copy, &settings));
     let title = "As nodes double, m 8: nanoseconds, and in brackets the ratio to the row before.";
     print_doubling(title, ("n", &counts), &columns);
     let title = "As nodes double, m 8 and 15 ordinary attributes: nanoseconds, and in brackets \
                  the ratio to the row before.";
-    print_doubling(title, ("n", &counts), &both(&OPERATIONS[5..8], &settings));
-    let mut columns = both(&OPERATIONS[3..5], &settings);
+    print_doubling(title, ("n", &counts), &both(&OPERATIONS[4..7], &settings));
+    let mut columns = both(&OPERATIONS[2..4], &settings);
     let copy = (Operation::Edit, By::Copy);
     columns.push(("copy of the file".into(), copy, &settings));
     let title = "As nodes double, m 8, the node in the middle exchanged for itself: nanoseconds, \
@@ -215,7 +215,7 @@ fn print_attributes(nodes: usize) {
             "As ordinary attributes double, n {nodes}, m 8, {name}: nanoseconds, and in \
              brackets the ratio to the row before."
         );
-        let columns = both(&OPERATIONS[5..8], &settings);
+        let columns = both(&OPERATIONS[4..7], &settings);
         print_doubling(&title, ("Ordinary attributes", &counts), &columns);
     }
 }
@@ -224,7 +224,7 @@ fn print_attributes(nodes: usize) {
 fn print_texts() {
     let counts = [32, 64, 128, 256, 512];
     let settings = counts.map(query_of_length);
-    let mut columns = both(&OPERATIONS[8..], &settings);
+    let mut columns = both(&OPERATIONS[7..], &settings);
     let copy = (Operation::ParseQuery, By::Copy);
     columns.push(("copy of text and file".into(), copy, &settings));
     let title = "As the text of a query doubles, 8 bytes a node: nanoseconds, and in brackets the \

@@ -1,79 +1,36 @@
-use borrow.Author.Tests.{lt-ltb, le-ltb, lt-leb, eq-eqb, ne_eqb}
+use borrow.Author.Tests.{le-ltb, lt-leb, eq-eqb, ne_eqb}
 use Rattle.refusal.specs.Chain.{refuse, chain}
 use Rattle.node.specs.Legal.{first_bit}
-use Rattle.node.specs.ReadNode.{check_fields}
+use Rattle.node.specs.ReadNode.{check_fields, size_of}
 use borrow.Author.Rules.{rules}
 use Rattle.node.proofs.checking.check_with_set as fn
 use fn.Statement.{statement}
 use fn.Tie as tie
 
 returns : tie.Need-returns
-unfolding check_fields refuse
+unfolding check_fields size_of refuse
 returns c = search chain
 
 returns-2 : tie.Need-returns-2
-unfolding check_fields refuse
+unfolding check_fields size_of refuse
 returns-2 c = search chain
 
 returns-3 : tie.Need-returns-3
-unfolding check_fields refuse
-returns-3 c = search chain
+unfolding check_fields size_of refuse
+returns-3 c =
+    simp (le-ltb _ _ c.before.before.before.before.before.if1.false, lt-leb _ _ c.before.before.before.if2.false, ← c.before.in-range.ensures, c.if3.true)
 
 returns-4 : tie.Need-returns-4
-unfolding check_fields refuse
+unfolding check_fields size_of refuse
 returns-4 c =
-    let at-in-range = c.before in
-    simp (
-      le-ltb _ _ at-in-range.before.before.before.before.before.if1.left,
-      lt-leb _ _ at-in-range.before.before.before.if2.left,
-      le-ltb _ _ at-in-range.before.before.if3.left,
-      ← at-in-range.in-range.ensures,
-      c.if4.true,
-    )
+    simp (le-ltb _ _ c.before.before.before.before.before.before.before.if1.false, lt-leb _ _ c.before.before.before.before.before.if2.false, ← c.before.before.before.in-range.ensures, c.before.before.if3.false, first_bit, eq-eqb _ _ c.if4.true)
 
 returns-5 : tie.Need-returns-5
-unfolding check_fields refuse
+unfolding check_fields size_of refuse
 returns-5 c =
-    let at-in-range = c.before.before in
-    simp (
-      le-ltb _ _ at-in-range.before.before.before.before.before.if1.left,
-      lt-leb _ _ at-in-range.before.before.before.if2.left,
-      le-ltb _ _ at-in-range.before.before.if3.left,
-      ← at-in-range.in-range.ensures,
-      c.before.if4.false,
-      lt-ltb _ _ c.if5.true,
-    )
-
-returns-6 : tie.Need-returns-6
-unfolding check_fields refuse
-returns-6 c =
-    let at-in-range = c.before.before.before.before in
-    simp (
-      le-ltb _ _ at-in-range.before.before.before.before.before.if1.left,
-      lt-leb _ _ at-in-range.before.before.before.if2.left,
-      le-ltb _ _ at-in-range.before.before.if3.left,
-      ← at-in-range.in-range.ensures,
-      c.before.before.before.if4.false,
-      le-ltb _ _ c.before.before.if5.false,
-      first_bit,
-      eq-eqb _ _ c.if6.true,
-    )
-
-returns-7 : tie.Need-returns-7
-unfolding check_fields refuse
-returns-7 c =
-    let at-in-range = c.before.before.before.before in
-    simp (
-      le-ltb _ _ at-in-range.before.before.before.before.before.if1.left,
-      lt-leb _ _ at-in-range.before.before.before.if2.left,
-      le-ltb _ _ at-in-range.before.before.if3.left,
-      ← at-in-range.in-range.ensures,
-      c.before.before.before.if4.false,
-      le-ltb _ _ c.before.before.if5.false,
-      first_bit,
-      ne_eqb _ _ c.if6.false,
-    )
+    simp (le-ltb _ _ c.before.before.before.before.before.before.before.if1.false, lt-leb _ _ c.before.before.before.before.before.if2.false, ← c.before.before.before.in-range.ensures, c.before.before.if3.false, first_bit, ne_eqb _ _ c.if4.false)
 
 pub check-with-set-spec : {M : Type 1} → statement M
 check-with-set-spec =
-    tie.close (tie.spec returns (λ c. search rules) returns-2 returns-3 (λ c. search rules) (λ c κs. search rules) returns-4 returns-5 (λ c. search rules) returns-6 returns-7)
+    tie.close (tie.spec returns (λ c. search rules) returns-2 (λ c. search rules) (λ c κs. search rules)
+    returns-3 (λ c. search rules) returns-4 returns-5)

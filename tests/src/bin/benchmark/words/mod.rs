@@ -1,5 +1,5 @@
-//! Accepting a file, Formula, Verdict, Edit, Preview, Typing, Apply, Recover and parsing a query
-//! written by hand for speed: without an allocation, on 64-bit words, compiled for every x86-64 machine.
+//! Formula, Verdict, Edit, Preview, Typing, Apply, Recover and parsing a query written by hand for
+//! speed: without an allocation, on 64-bit words, compiled for every x86-64 machine.
 
 mod apply;
 mod buffer;
@@ -30,7 +30,7 @@ use type_formula_tests::reference::{
 use self::columns::{is_allowed, read_column, write_formula, Bits};
 use self::cover::{best_cover, read_allowed, Cover};
 use self::instantiation::maps_of;
-use self::reader::{refuse_if, File};
+use self::reader::{accept, refuse_if, File};
 
 #[inline(always)]
 fn check_node(file: &File, node: usize) -> Result<(), u8> {
@@ -76,14 +76,9 @@ fn fill(file: File, work: &mut [u8]) {
     fill_with(file, work, |_, node| node);
 }
 
-/// The counts m and n of a file, or its first refusal.
-pub fn accept(bytes: &[u8]) -> Result<(u8, u8), u8> {
-    reader::accept(bytes).map(|file| (file.relations, file.nodes))
-}
-
 /// Formula.
 pub fn formula(bytes: &[u8], work: &mut [u8]) -> u8 {
-    let file = match reader::accept(bytes) {
+    let file = match accept(bytes) {
         Ok(file) => file,
         Err(refusal) => return refusal,
     };
@@ -122,7 +117,7 @@ fn write_witness(cover: &Cover, relations: u8, schema: &mut [u8]) -> usize {
 /// The verdict, or the first refusal.
 #[inline(always)]
 fn decide(bytes: &[u8], node: usize, work: &mut [u8], schema: &mut [u8]) -> Result<Verdict, u8> {
-    let file = reader::accept(bytes)?;
+    let file = accept(bytes)?;
     check_node(&file, node)?;
     check_work_space(&file, work)?;
     check_result(schema, SCHEMA_LENGTH)?;

@@ -16,6 +16,14 @@ pub struct File<'a> {
     bytes: &'a [u8],
 }
 
+/// So many bytes after a map, and what follows them.
+#[inline(always)]
+fn fields<const N: usize>(bytes: &[u8]) -> Result<(&[u8; N], &[u8]), u8> {
+    bytes
+        .split_first_chunk()
+        .ok_or(BYTES_END_BEFORE_OR_WITHIN_NODE)
+}
+
 #[inline(always)]
 pub fn refuse_if(test: bool, refusal: u8) -> Result<(), u8> {
     if test {
@@ -52,29 +60,6 @@ fn with_set(code: u8, operand: u8, set: u16) -> Result<Node, u8> {
     }
 }
 
-/// The refusal of a cut node, given the bytes after its map: that of the first complete field that
-/// is wrong, else 4. A cut relation has no complete field, and of no node the last one is complete.
-#[cold]
-#[inline(never)]
-fn cut_node(map: u8, number: u8, fields: &[u8]) -> u8 {
-    match (map, fields) {
-        (_, &[operand, ..]) if operand >= number => OPERAND_NOT_EARLIER,
-        (PAIR_MAP, &[_, right, ..]) if right >= number => OPERAND_NOT_EARLIER,
-        (SET_MAP, &[_, code, ..]) if code != 5 && code != 6 => CODE_NOT_OF_MAP,
-        (RENAMING_MAP, &[_, old, ..]) if check_attribute(old).is_err() => ATTRIBUTE_OUTSIDE_RANGE,
-        _ => BYTES_END_BEFORE_OR_WITHIN_NODE,
-    }
-}
-
-/// The fields of a node, given the bytes after its map, and what follows them. The length is tested
-/// once for all fields; those of a cut node are judged apart.
-#[inline(always)]
-fn fields<const N: usize>(map: u8, number: u8, bytes: &[u8]) -> Result<(&[u8; N], &[u8]), u8> {
-    bytes
-        .split_first_chunk()
-        .ok_or_else(|| cut_node(map, number, bytes))
-}
-
 /// A node and the bytes after it.
 #[inline(always)]
 pub fn read_node(relations: u8, number: u8, bytes: &[u8]) -> Result<(Node, &[u8]), u8> {
@@ -82,18 +67,18 @@ pub fn read_node(relations: u8, number: u8, bytes: &[u8]) -> Result<(Node, &[u8]
     let check_operand = |operand| refuse_if(operand >= number, OPERAND_NOT_EARLIER);
     match map {
         RELATION_MAP => {
-            let (&[relation], rest) = fields(map, number, rest)?;
+            let (&[relation], rest) = fields(rest)?;
             refuse_if(relation >= relations, RELATION_NOT_BELOW_COUNT)?;
             Ok((Node::Relation { relation }, rest))
         }
         PAIR_MAP => {
-            let (&[left, right, code], rest) = fields(map, number, rest)?;
+            let (&[left, right, code], rest) = fields(rest)?;
             check_operand(left)?;
             check_operand(right)?;
             Ok((pair(code, left, right)?, rest))
         }
         SET_MAP => {
-            let (&[operand, code, low, high], rest) = fields(map, number, rest)?;
+            let (&[operand, code, low, high], rest) = fields(rest)?;
             check_operand(operand)?;
             Ok((
                 with_set(code, operand, u16::from_le_bytes([low, high]))?,
@@ -101,14 +86,14 @@ pub fn read_node(relations: u8, number: u8, bytes: &[u8]) -> Result<(Node, &[u8]
             ))
         }
         RENAMING_MAP => {
-            let (&[operand, old, new], rest) = fields(map, number, rest)?;
+            let (&[operand, old, new], rest) = fields(rest)?;
             check_operand(operand)?;
             check_attribute(old)?;
             check_attribute(new)?;
             Ok((Node::Renaming { operand, old, new }, rest))
         }
         PROJECTING_OUT_MAP => {
-            let (&[operand, old], rest) = fields(map, number, rest)?;
+            let (&[operand, old], rest) = fields(rest)?;
             check_operand(operand)?;
             check_attribute(old)?;
             Ok((Node::ProjectingOut { operand, old }, rest))

@@ -1,4 +1,0 @@
-pub mod LengthFirst
-pub mod CutNodes
-pub mod Cases
-pub mod Theorems
