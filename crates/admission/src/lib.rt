@@ -1,5 +1,7 @@
 // The tests that operations share: the file, the node asked for, the work space, the result slices (refusals 1 to 13;
 // FORMAT 8.5).
+#![tactic(auto)]
+
 ghost use Rattle.std.specs.Prelude.{◌≡◌};
 ghost use Rattle.admission.specs.Admission.{asked, spaced, sliced, admitted};
 

@@ -1,1 +1,3 @@
 // Expressions, the typing rules and cells: definitions and theorems only.
+
+#![tactic(auto)]

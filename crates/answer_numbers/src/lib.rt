@@ -1,4 +1,6 @@
 // Each operation's answer as callers in C get it (FORMAT 7.18): a number, and values written where the caller asks.
+#![tactic(auto)]
+
 ghost use Rattle.std.specs.Prelude.{◌≡◌};
 ghost use Rattle.expression_file.specs.Numbers.{acceptance_number, relations_or, nodes_or};
 ghost use Rattle.verdict_answer.specs.Numbers.{outcome_number, outcome_value, outcome_memberships, typability_number, typability_attribute, typability_memberships};

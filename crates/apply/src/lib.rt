@@ -1,4 +1,6 @@
 // Apply (FORMAT 7.10).
+#![tactic(auto)]
+
 ghost use Rattle.std.specs.Prelude.{◌≡◌, ◌≤◌, ◌<◌, ◌*◌, length};
 ghost use Rattle.expression_file.specs.declared.files.Acceptance.TheVariants.{Accepted};
 ghost use Rattle.expression_file.specs.ReadFile.{acceptance};

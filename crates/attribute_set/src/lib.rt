@@ -1,4 +1,6 @@
 // Sets of special attributes (FORMAT 1.5): sixteen bits with bit 0 clear, bit i for attribute i.
+#![tactic(auto)]
+
 ghost use Rattle.std.specs.Prelude.{◌≡◌};
 ghost use Rattle.attribute_set.specs.AttrSet.{special, empty_set, from_bits, bits_of, with_attribute, has_attribute};
 

@@ -1,4 +1,6 @@
 // Vocabulary of bytes: the bits of a number, ranges, numbers of two bytes, and the part of a list from a place on.
+#![tactic(auto)]
+
 ghost use Rattle.std.specs.Prelude.{◌≡◌, ◌+◌, ◌≤◌, length};
 ghost use Rattle.bits.specs.Range.{in_range};
 ghost use Rattle.bits.specs.Word.{word};

@@ -1,5 +1,7 @@
 // A column of a formula, and what an operator makes of its operands' columns, eight subsets at a
 // time (FORMAT 3.5, 3.11).
+#![tactic(auto)]
+
 mod columns;
 mod steps;
 mod subsets;

@@ -1,5 +1,7 @@
 // The choice that Verdict takes, off the table of costs (FORMAT 7.26): the subsets of the special attributes, and then
 // the variables with their ordinary attributes.
+#![tactic(auto)]
+
 ghost use Rattle.std.specs.Prelude.{◌≡◌, ◌+◌, ◌-◌, ◌*◌, ◌≤◌, ◌<◌, length, take, replicate};
 ghost use Rattle.membership.specs.Holders.{ItemsFit};
 ghost use Rattle.set_cover.specs.Least.{infinity};

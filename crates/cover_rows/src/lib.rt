@@ -1,4 +1,6 @@
 // Rows of costs, and the lowest subset that costs no more than it must (FORMAT 7.26).
+#![tactic(auto)]
+
 mod low;
 mod picking;
 mod rows;

@@ -1,4 +1,6 @@
 // The table of costs: what it costs to fill each set of relations, off the work space (FORMAT 7.26).
+#![tactic(auto)]
+
 mod alike;
 mod table;
 

@@ -1,4 +1,6 @@
 // Edit (FORMAT 7.27): a file with the record of one node exchanged.
+#![tactic(auto)]
+
 ghost use Rattle.std.specs.Prelude.{◌≡◌, ℕ, ◌≤◌, ◌<◌, length};
 ghost use Rattle.text.specs.Put.{Wrote};
 ghost use Rattle.expression_file.specs.Exchanged.{exchanged};

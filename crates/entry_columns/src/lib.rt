@@ -1,4 +1,6 @@
 // The entries of a membership table as columns of bits, sixty-four at a time.
+#![tactic(auto)]
+
 ghost use Rattle.std.specs.Prelude.{◌≡◌, ◌+◌, ◌≤◌, ◌/◌, ◌*◌, ◌<◌, ◌-◌, min, length};
 ghost use Rattle.entry_columns.specs.EntryColumns.{transposed, Stacking, Groups};
 

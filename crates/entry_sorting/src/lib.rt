@@ -1,5 +1,7 @@
 // Entries of the membership table by a byte: chains of those with the same byte, and sorting by
 // attribute and by subset.
+#![tactic(auto)]
+
 mod chains;
 mod order;
 mod sorting;

@@ -1,4 +1,6 @@
 // Whether a table leaves a relation without attributes, and schemas that leave none so (FORMAT 8.4).
+#![tactic(auto)]
+
 ghost use Rattle.std.specs.Prelude.{◌≡◌, not, ◌||◌, ◌≤◌, ◌<◌, eqb, length, take};
 ghost use Rattle.bits.specs.Bit.{bit};
 ghost use Rattle.membership.specs.Entries.{RoomFor, SpareFor};

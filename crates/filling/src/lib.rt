@@ -1,4 +1,6 @@
 // Filling the work space with the formulas of all nodes, node by node.
+#![tactic(auto)]
+
 ghost use Rattle.std.specs.Prelude.{◌≡◌, ◌+◌, ◌*◌, ◌≤◌, ◌<◌, ◌^◌, length};
 ghost use Rattle.bits.specs.Tab.{over};
 ghost use Rattle.attribute_set.specs.AttrSet.{has_attribute};

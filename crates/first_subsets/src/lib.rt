@@ -1,5 +1,7 @@
 // The first allowed subset of each special attribute, off the work space; their memberships, and the relations that
 // they leave without an attribute (FORMAT 7.7, 7.8).
+#![tactic(auto)]
+
 mod all_subsets;
 mod list;
 mod members;

@@ -1,4 +1,6 @@
 // Whether a membership table fits a stored formula, and the output that it then has.
+#![tactic(auto)]
+
 ghost use Rattle.std.specs.Prelude.{◌≡◌, ◌+◌, ◌*◌, ◌≤◌, ◌<◌, length, get_or, take, cond};
 ghost use Rattle.bits.specs.AllBelow.{all_below};
 ghost use Rattle.states.specs.Formula.{type_variable};

@@ -1,4 +1,6 @@
 // Formula: the formulas of all nodes of a file, in the work space.
+#![tactic(auto)]
+
 ghost use Rattle.std.specs.Prelude.{◌≡◌, length};
 ghost use Rattle.stored_formula.specs.Formula.{formula_answer, formula_space};
 

@@ -1,4 +1,6 @@
 // Instantiations: what their bytes mean, and what reading them gives.
+#![tactic(auto)]
+
 use refusal::Refusal;
 use schema::Judgement;
 

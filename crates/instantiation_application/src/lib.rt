@@ -1,4 +1,6 @@
 // An instantiation, as it stands in its bytes, applied at a node of an accepted file.
+#![tactic(auto)]
+
 ghost use Rattle.std.specs.Prelude.{◌≡◌, ◌≤◌, ◌<◌, ◌*◌, length};
 ghost use Rattle.expression_file.specs.declared.files.Acceptance.TheVariants.{Accepted};
 ghost use Rattle.expression_file.specs.ReadFile.{acceptance};

@@ -1,4 +1,6 @@
 // Reading an instantiation into the membership table.
+#![tactic(auto)]
+
 mod appending;
 mod reading;
 

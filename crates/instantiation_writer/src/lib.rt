@@ -1,4 +1,6 @@
 // Writing an instantiation from the membership table.
+#![tactic(auto)]
+
 mod lists;
 mod maps;
 mod writing;

@@ -1,4 +1,6 @@
 // Reads an expression file from standard input and prints its last node (FORMAT 7.14).
+#![tactic(auto)]
+
 use libc::{STDIN_FILENO, STDOUT_FILENO};
 use listing::Listed;
 

@@ -1,5 +1,7 @@
 // Prints the formula of a query typed as text (FORMAT 7.24). Its arguments are the number of relations, in decimal, and
 // the text.
+#![tactic(auto)]
+
 ghost use Rattle.std.specs.Prelude.{◌≤◌, length};
 
 use libc::STDOUT_FILENO;

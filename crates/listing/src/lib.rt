@@ -1,4 +1,6 @@
 // The text of the last node of a file (FORMAT 7.15): verdict, relations, output and named attributes.
+#![tactic(auto)]
+
 ghost use Rattle.std.specs.Prelude.{◌≡◌, [], ◌∷◌, ◌++◌, ◌≤◌, length};
 ghost use Rattle.refusal.specs.Number.{number_of};
 ghost use Rattle.text.specs.Characters.{decimal, newline};

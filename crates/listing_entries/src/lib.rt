@@ -1,4 +1,6 @@
 // The attributes and subsets that a line of the listing names, as text.
+#![tactic(auto)]
+
 mod entries;
 mod naming;
 

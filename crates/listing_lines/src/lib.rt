@@ -1,4 +1,6 @@
 // The lines of the listing.
+#![tactic(auto)]
+
 ghost use Rattle.std.specs.Prelude.{◌≡◌, ◌+◌, ◌≤◌, ◌<◌, ◌*◌, length};
 ghost use Rattle.text.specs.Put.{Wrote};
 ghost use Rattle.text.specs.Each.{each};

@@ -1,5 +1,7 @@
 // The membership table: the ordinary attributes of a schema or an instantiation, in rising order, each with the
 // subset of the relations that hold it.
+#![tactic(auto)]
+
 ghost use Rattle.std.specs.Prelude.{◌≡◌, ◌≤◌, ◌<◌, length, take};
 ghost use Rattle.membership.specs.Holders.{held_by, ItemsFit};
 

@@ -1,4 +1,6 @@
 // Nodes of an expression (FORMAT 1.2 to 1.5), and the check of their bytes (FORMAT 8.3).
+#![tactic(auto)]
+
 mod checking;
 mod nodes;
 

@@ -1,5 +1,7 @@
 // The formula of a node by its operator, column by column (FORMAT 3.11): one loop for each, so that what depends on
 // the node alone is outside.
+#![tactic(auto)]
+
 ghost use Rattle.std.specs.Prelude.{◌+◌, ◌*◌, ◌≤◌, ◌<◌, eqb, length};
 ghost use Rattle.attribute_set.specs.AttrSet.{has_attribute};
 ghost use Rattle.node.specs.declared.nodes.SetOp.TheVariants.{Selection, Projection};

@@ -1,4 +1,6 @@
 // One node, off the front of a part of the file: its decoding, and its check and decoding.
+#![tactic(auto)]
+
 mod decoding;
 mod reading;
 

@@ -1,4 +1,6 @@
 // The sets of a node from those of its operands, a word at a time.
+#![tactic(auto)]
+
 ghost use Rattle.std.specs.Prelude.{◌≡◌, ◌+◌, ◌≤◌, ◌<◌, ◌^◌, length, set, get_or};
 ghost use Rattle.std.specs.Int.Bits.{bit_or};
 ghost use Rattle.entry_columns.specs.EntryColumns.{Groups};

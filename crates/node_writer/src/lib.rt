@@ -1,4 +1,6 @@
 // Writing a node (FORMAT 1.4).
+#![tactic(auto)]
+
 ghost use Rattle.std.specs.Prelude.{◌+◌, ◌≤◌, length};
 ghost use Rattle.text.specs.Put.{Wrote};
 ghost use Rattle.node.specs.NodeBytes.{node_bytes};

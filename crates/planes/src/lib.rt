@@ -1,1 +1,3 @@
 // Columns of any number of planes, and where they are stored: definitions and theorems only.
+
+#![tactic(auto)]

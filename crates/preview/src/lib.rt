@@ -1,4 +1,6 @@
 // Preview (FORMAT 7.28): what the last node's verdict becomes if the record of one node is exchanged.
+#![tactic(auto)]
+
 ghost use Rattle.std.specs.Prelude.{◌≡◌, ◌*◌, ◌≤◌, length};
 ghost use Rattle.bits.specs.Tab.{over};
 ghost use Rattle.expression_file.specs.Exchanged.{exchanged};

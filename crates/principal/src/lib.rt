@@ -1,1 +1,3 @@
 // Principal type inference for expressions: theorems only.
+
+#![tactic(auto)]

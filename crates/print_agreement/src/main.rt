@@ -3,6 +3,8 @@
 // Input: groups of four bytes, the allowed and the output byte of the left operand, then those of the right one.
 // Output: for each group the allowed and the output byte of the result. Bytes after the last whole group are not
 // looked at.
+#![tactic(auto)]
+
 ghost use Rattle.std.specs.Prelude.{◌+◌, ◌≤◌, length};
 
 use column::{Bytes, agreeing_bytes};

@@ -4,6 +4,8 @@
 // Input: the number of the node in one byte, the length of the file in two, low first, the file, the instantiation.
 // Output: the length of the node's part of the file in one byte, that part, the answer of the second operation in one
 // byte (0 recovered, 255 untyped, else the number of the refusal), and with 0 the instantiation recovered.
+#![tactic(auto)]
+
 use libc::{STDIN_FILENO, STDOUT_FILENO};
 use record::record;
 use recover_answer::Recovery;

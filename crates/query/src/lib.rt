@@ -1,4 +1,6 @@
 // Parsing a query typed as text (FORMAT 7.23).
+#![tactic(auto)]
+
 ghost use Rattle.std.specs.Prelude.{◌≡◌, ◌∷◌, ◌+◌, ◌≤◌, length};
 ghost use Rattle.text.specs.Put.{Wrote};
 ghost use Rattle.query_answer.specs.ParseQuery.{parse_answer, parse_file};

@@ -1,4 +1,6 @@
 // What parsing a query answers and leaves in its slice, and the laws of it: no code.
+#![tactic(auto)]
+
 use refusal::Refusal;
 
 // The length of the expression file, or the first refusal.

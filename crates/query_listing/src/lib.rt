@@ -1,4 +1,6 @@
 // The listing of a query typed as text (FORMAT 7.24).
+#![tactic(auto)]
+
 ghost use Rattle.std.specs.Prelude.{◌≡◌, length};
 ghost use Rattle.query_listing.specs.QueryListing.{query_listed_answer, query_listed_text, query_listed_space};
 

@@ -1,4 +1,6 @@
 // Readers of what stands between the operands of a query's text (FORMAT 11.2 to 11.4): signs, numbers, lists, prefixes.
+#![tactic(auto)]
+
 mod lists;
 mod numbers;
 mod places;

@@ -1,4 +1,6 @@
 // Record: the part of a file that holds a node.
+#![tactic(auto)]
+
 ghost use Rattle.std.specs.Prelude.{◌≡◌};
 ghost use Rattle.record.specs.Record.{place_of, placed_in, record_of};
 ghost use Rattle.record.specs.RecordLaws.{Seeking};

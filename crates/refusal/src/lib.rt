@@ -1,4 +1,6 @@
 // The refusals by name, and their numbers (FORMAT 8.1).
+#![tactic(auto)]
+
 ghost use Rattle.std.specs.Prelude.{◌≡◌};
 ghost use Rattle.refusal.specs.Number.{number_of};
 

@@ -1,4 +1,6 @@
 // Whether the lists of an instantiation name an attribute twice: refusal 19.
+#![tactic(auto)]
+
 ghost use Rattle.std.specs.Prelude.{◌≡◌, List, ◌+◌, ◌*◌, ◌≤◌, ◌<◌, ℕ, ◌||◌, length, drop};
 ghost use Rattle.bits.specs.Tab.{tab};
 ghost use Rattle.bits.specs.Word.{word};

@@ -1,5 +1,7 @@
 // Apply, and then Recover on the bytes just written (FORMAT 7.12). In specs/: the second half of demand 2,
 // and the link to demand 3.
+#![tactic(auto)]
+
 ghost use Rattle.std.specs.Prelude.{◌≡◌, length};
 ghost use Rattle.apply_answer.specs.Apply.{apply_answer, apply_schema, apply_out};
 ghost use Rattle.round_trip.specs.Composed.{unless_short, round_trip, round_trip_space, round_trip_out};

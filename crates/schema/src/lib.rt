@@ -1,4 +1,6 @@
 // Schemas: reading them into the membership table, and writing them from it.
+#![tactic(auto)]
+
 mod reading;
 mod writing;
 

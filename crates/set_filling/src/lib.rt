@@ -1,4 +1,6 @@
 // The types of a file's nodes over a membership table, as sets in words of 64 bits, node by node.
+#![tactic(auto)]
+
 ghost use Rattle.std.specs.Prelude.{◌≡◌, ◌+◌, ◌*◌, ◌≤◌, ◌<◌, length, take};
 ghost use Rattle.expression_file.specs.declared.files.Acceptance.TheVariants.{Accepted};
 ghost use Rattle.expression_file.specs.ReadFile.{size_at, acceptance};

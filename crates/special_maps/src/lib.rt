@@ -1,5 +1,7 @@
 // The special attributes of a membership table: as a subset for each attribute, and as a map for
 // each relation (FORMAT 6.4).
+#![tactic(auto)]
+
 ghost use Rattle.std.specs.Prelude.{◌≡◌, ◌<◌, length};
 ghost use Rattle.special_maps.specs.Special.{map_of, maps_from, subset_from, subsets_from};
 

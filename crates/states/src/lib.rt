@@ -1,1 +1,3 @@
 // Formulas and instantiations over any kinds whose values are coded by digits: definitions and theorems only.
+
+#![tactic(auto)]

@@ -1,4 +1,6 @@
 // Columns in the work space, read and written; and those of a relation, which are all the same.
+#![tactic(auto)]
+
 mod relation;
 mod storage;
 

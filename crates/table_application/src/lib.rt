@@ -1,4 +1,6 @@
 // The schema and the output record of a membership table that fits and leaves no relation empty.
+#![tactic(auto)]
+
 ghost use Rattle.std.specs.Prelude.{◌≡◌, ◌≤◌, ◌<◌, length, take};
 ghost use Rattle.expression_file.specs.declared.files.Acceptance.TheVariants.{Accepted};
 ghost use Rattle.expression_file.specs.ReadFile.{acceptance};

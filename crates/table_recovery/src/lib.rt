@@ -1,4 +1,6 @@
 // The instantiation of a membership table that fits.
+#![tactic(auto)]
+
 ghost use Rattle.std.specs.Prelude.{◌≡◌, ◌≤◌, length, take};
 ghost use Rattle.node_expression.specs.NodeExpression.{expression_at};
 ghost use Rattle.schema.specs.Schema.{WritesFrom};

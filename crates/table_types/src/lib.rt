@@ -1,1 +1,3 @@
 // The types of a node over a membership table: theory only.
+
+#![tactic(auto)]

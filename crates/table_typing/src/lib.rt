@@ -1,4 +1,6 @@
 // The type of a node over a membership table, and its record.
+#![tactic(auto)]
+
 mod output;
 mod tables;
 

@@ -1,4 +1,6 @@
 // Characters, written to a text from a place on. Each writer gives the place after its bytes.
+#![tactic(auto)]
+
 ghost use Rattle.std.specs.Prelude.{◌≡◌, [], ◌∷◌, ◌+◌, ◌≤◌, ◌<◌, length};
 ghost use Rattle.text.specs.Put.{Wrote};
 ghost use Rattle.text.specs.Characters.{decimal, hex_digit, subset_text};

@@ -1,4 +1,6 @@
 // Whether a node is typable, and with how many memberships: the verdict without its witness (FORMAT 7.28).
+#![tactic(auto)]
+
 ghost use Rattle.std.specs.Prelude.{◌≡◌, ◌+◌, ◌*◌, ◌≤◌, length};
 ghost use Rattle.cover_table.specs.Table.{row_width};
 ghost use Rattle.verdict_answer.specs.First.{allowed_at, blocked_in};

@@ -1,5 +1,7 @@
 // The operations for callers in C and Rust (FORMAT 7.18, 7.19): numbers and byte slices only. A `&[u8]` is a
 // pointer and then a length.
+#![tactic(auto)]
+
 mod edits;
 mod formulas;
 mod instantiations;

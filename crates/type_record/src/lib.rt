@@ -1,4 +1,6 @@
 // Type records: reading and writing (FORMAT 4.1 to 4.5).
+#![tactic(auto)]
+
 mod lists;
 mod records;
 mod writing;

@@ -1,4 +1,6 @@
 // What an operator makes of its operands' types, as sets in words of 64 bits.
+#![tactic(auto)]
+
 ghost use Rattle.std.specs.Prelude.{◌≡◌};
 ghost use Rattle.type_sets.specs.Sets.{breaking, coming_out, lacking, without};
 

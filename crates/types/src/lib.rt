@@ -1,1 +1,3 @@
 // Attributes and types: definitions only.
+
+#![tactic(auto)]

@@ -1,4 +1,6 @@
 // Typing (FORMAT 7.9): whether a schema types a node, and the output record.
+#![tactic(auto)]
+
 ghost use Rattle.std.specs.Prelude.{◌≡◌, ◌≤◌, ◌<◌, length};
 ghost use Rattle.expression_file.specs.declared.files.Acceptance.TheVariants.{Accepted};
 ghost use Rattle.expression_file.specs.ReadFile.{acceptance};

@@ -1,4 +1,6 @@
 // Verdict (FORMAT 7.7): a witness schema, or the attribute that leaves none.
+#![tactic(auto)]
+
 mod witness;
 
 ghost use Rattle.std.specs.Prelude.{◌≡◌, ◌+◌, ◌*◌, ◌≤◌, length};

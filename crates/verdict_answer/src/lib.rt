@@ -1,4 +1,6 @@
 // What Verdict answers and leaves in its slices, and the laws of it: no code.
+#![tactic(auto)]
+
 use refusal::Refusal;
 
 // The lowest special attribute whose column allows nothing, or 16, and the first allowed subset of each

@@ -1,1 +1,3 @@
 // Demand 3 for Verdict's answers: theory only.
+
+#![tactic(auto)]
