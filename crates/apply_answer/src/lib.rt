@@ -4,7 +4,7 @@
 use refusal::Refusal;
 
 // The lengths of the schema and of the output record, or the first refusal.
-#[derive(Drop)]
+#[derive(Clone, Copy)]
 pub enum Application {
     Applied(usize, usize),
     Refused(Refusal),

@@ -13,13 +13,13 @@ pub fn is_special(a: u8) -> bool
 
 // An attribute set (FORMAT 1.5). The field is private, so that every set outside this crate was made by the functions
 // below, and has bit 0 clear.
-#[derive(Drop)]
+#[derive(Clone, Copy)]
 pub struct AttrSet {
     bits: u16,
 }
 
 // What sixteen bits are: a set, or none, since bit 0 stands.
-#[derive(Drop)]
+#[derive(Clone, Copy)]
 pub enum Built {
     Set(AttrSet),
     NoSet,

@@ -8,7 +8,7 @@ ghost use Rattle.column.specs.StepLaws.{MadeBy};
 use node::SetOp;
 
 // What an operator of one operand does to one attribute (FORMAT 3.11).
-#[derive(Drop)]
+#[derive(Clone, Copy)]
 pub enum Unary {
     // nothing
     Kept,
@@ -58,7 +58,7 @@ pub fn introducing_step(is_old: bool) -> Unary
 }
 
 // What an operator of two operands does to one attribute (FORMAT 3.11): the result has it where an operand does.
-#[derive(Drop)]
+#[derive(Clone, Copy)]
 pub enum Combination {
     // both operands or neither must have it
     Agreeing,
@@ -69,7 +69,7 @@ pub enum Combination {
 }
 
 // A byte of allowed bits and the byte of output bits that goes with it.
-#[derive(Drop)]
+#[derive(Clone, Copy)]
 pub struct Bytes {
     pub allowed: u8,
     pub output: u8,

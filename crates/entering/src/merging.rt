@@ -9,7 +9,7 @@ ghost use Rattle.entering.specs.Merging.{Enters, Merge, Merged};
 use entry_runs::{copy_run, enter_one};
 
 // How far a merge has come: listed attributes and earlier entries that are used up, and entries that are written.
-#[derive(Drop)]
+#[derive(Clone, Copy)]
 pub struct Merging {
     pub listed: usize,
     pub copied: usize,

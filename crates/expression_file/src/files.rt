@@ -6,7 +6,7 @@ use node::{Check, check_nodes};
 use refusal::Refusal;
 
 // The counts m and n of a file in which nothing is refused, or the first refusal.
-#[derive(Drop)]
+#[derive(Clone, Copy)]
 pub enum Acceptance {
     Accepted(u8, u8),
     Refused(Refusal),

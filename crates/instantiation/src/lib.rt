@@ -6,7 +6,7 @@ use schema::Judgement;
 
 // An instantiation's membership table but for its entries: the subset given to each special attribute, by its number,
 // and the number of the entries. After a refusal of 14 to 19 it is empty.
-#[derive(Drop)]
+#[derive(Clone, Copy)]
 pub struct InstantiationReading {
     pub judgement: Judgement,
     pub subsets: [u8; 16],
@@ -14,7 +14,7 @@ pub struct InstantiationReading {
 }
 
 // The lists before they are judged together: the first refusal, or the number of their entries, at most 256.
-#[derive(Drop)]
+#[derive(Clone, Copy)]
 pub enum ListsReading {
     Refused(Refusal),
     Listed(usize),

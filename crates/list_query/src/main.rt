@@ -4,22 +4,22 @@
 
 ghost use Rattle.std.specs.Prelude.{◌≤◌, length};
 
-use libc::STDOUT_FILENO;
+use std::env::{Env, FillError};
+use std::io;
+
 use listing::Listed;
 
-fn print_usage() {
-    io::write_all(STDOUT_FILENO, b"usage: list_query RELATIONS TEXT\n");
+fn print_usage(rt: &impl Print) -> io::Result<()> {
+    rt.write_all(b"usage: list_query RELATIONS TEXT\n")
 }
 
 // Both slices are long enough for every query, so that no answer is a refusal.
-fn print_listing(m: u8, query: &[u8]) {
+fn print_listing(rt: &impl Print, m: u8, query: &[u8]) -> io::Result<()> {
     let mut work = [0u8; 65536];
     let mut text = [0u8; 32768];
     match query_listing::write_query_listing(m, query, &mut work, &mut text) {
-        Listed::Text(n) => {
-            io::write_all(STDOUT_FILENO, &text[..n]);
-        }
-        Listed::Refused(_) => {}
+        Listed::Text(n) => rt.write_all(&text[..n]),
+        Listed::Refused(_) => Ok(()),
     }
 }
 
@@ -57,31 +57,47 @@ fn relations_of(digits: &[u8]) -> usize
     value
 }
 
-// The argument as far as it fits into the slice: one byte more than a query has makes it too long (FORMAT 11.5).
-fn read_text(text: &mut [u8]) -> usize
-    ensures { result ≤ length text.new }
-{
-    let n = os::arg(2, text);
-    if os::errno() == 0 {
-        return n;
+// Whether there is an argument i. One that the byte does not hold is there too.
+fn has_argument(rt: &impl Env, i: usize) -> bool {
+    let mut byte = [0u8; 1];
+    match rt.arg(i, &mut byte) {
+        Err(FillError::NotPresent) => false,
+        Err(FillError::TooLong) => true,
+        Ok(_) => true,
     }
-    text.len()
 }
 
-// An argument of over three bytes is no number of one byte, and then `arg` gives 0.
-fn main() {
-    if os::arg_count() != 3 {
-        print_usage();
-        return;
+// The first argument's digits; one of over three bytes is no number of one byte, and counts as empty.
+fn read_digits(rt: &impl Env, digits: &mut [u8]) -> usize
+    ensures { result ≤ length digits.new }
+{
+    match rt.arg(1, digits) {
+        Ok(n) => n,
+        Err(_) => 0,
+    }
+}
+
+// The argument as far as it fits into the slice: one byte more than a query has makes it too long (FORMAT 11.5).
+fn read_text(rt: &impl Env, text: &mut [u8]) -> usize
+    ensures { result ≤ length text.new }
+{
+    match rt.arg(2, text) {
+        Ok(n) => n,
+        Err(_) => text.len(),
+    }
+}
+
+fn main(rt: HostRuntime) -> io::Result<()> {
+    if !has_argument(&rt, 2) || has_argument(&rt, 3) {
+        return print_usage(&rt);
     }
     let mut digits = [0u8; 3];
-    let n = os::arg(1, &mut digits);
+    let n = read_digits(&rt, &mut digits);
     let m = relations_of(&digits[..n]);
     if 255 < m {
-        print_usage();
-        return;
+        return print_usage(&rt);
     }
     let mut text = [0u8; 513];
-    let size = read_text(&mut text);
-    print_listing(m as u8, &text[..size]);
+    let size = read_text(&rt, &mut text);
+    print_listing(&rt, m as u8, &text[..size])
 }

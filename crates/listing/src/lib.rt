@@ -15,7 +15,7 @@ use refusal::Refusal;
 use text::{write_byte, write_bytes, write_decimal};
 
 // The length of the text, or the refusal of a slice that is too short.
-#[derive(Drop)]
+#[derive(Clone, Copy)]
 pub enum Listed {
     Text(usize),
     Refused(Refusal),

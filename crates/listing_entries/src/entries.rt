@@ -8,7 +8,7 @@ use column::{allowed_in, output_in};
 use text::{write_byte, write_subset};
 
 // Which subsets a list has.
-#[derive(Drop)]
+#[derive(Clone, Copy)]
 pub enum Kind {
     // the type variables that a relation declares
     Variables(u8),

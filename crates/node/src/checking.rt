@@ -6,7 +6,7 @@ use attribute_set::is_special;
 use refusal::Refusal;
 
 // The bytes of a node judged: how many they are, or the first refusal.
-#[derive(Drop)]
+#[derive(Clone, Copy)]
 pub enum Check {
     Legal(usize),
     Refused(Refusal),

@@ -6,7 +6,7 @@ use attribute_set::AttrSet;
 use refusal::Refusal;
 
 // The operators of map 14 (FORMAT 1.4).
-#[derive(Drop)]
+#[derive(Clone, Copy)]
 pub enum BinaryOp {
     Union,
     Difference,
@@ -15,14 +15,14 @@ pub enum BinaryOp {
 }
 
 // The operators of map 26 (FORMAT 1.4).
-#[derive(Drop)]
+#[derive(Clone, Copy)]
 pub enum SetOp {
     Selection,
     Projection,
 }
 
 // A node (FORMAT 1.4). An operand is the number of an earlier node.
-#[derive(Drop)]
+#[derive(Clone, Copy)]
 pub enum Node {
     // a relation, by its number
     Relation(u8),
@@ -81,14 +81,14 @@ pub fn set_code(op: SetOp) -> u8
 }
 
 // A node with the number of bytes that it takes.
-#[derive(Drop)]
+#[derive(Clone, Copy)]
 pub struct Decoding {
     pub node: Node,
     pub size: usize,
 }
 
 // The same, or the first refusal.
-#[derive(Drop)]
+#[derive(Clone, Copy)]
 pub enum Reading {
     Read(Node, usize),
     Refused(Refusal),

@@ -40,7 +40,7 @@ abbrev pub chosen_type : {F : Formula} → Choice F → Attrs
 chosen_type {F} choice a = special a && F.output a (choice.subset a)
 
 pub choice-fits : (F : Formula) → Grounded F → (choice : Choice F) (a : ℕ) → Fits F (chosen choice) (chosen_type choice) a
-choice-fits F ground choice a = go a (decided (special a))
+choice-fits F is_grounded choice a = go a (decided (special a))
   where
     assignment : Assignment
     assignment r a = special a && bit (choice.subset a) r
@@ -60,7 +60,7 @@ choice-fits F ground choice a = go a (decided (special a))
         (fits-at F assignment type a 0 0 (column-other a k)
         (holders-none F.relations assignment a λ r below. ap (λ (b : Bool). b && bit (choice.subset a) r) e)
         ).1
-        (ground.allowed, ground.output ∙ sym (ap (λ (b : Bool). b && F.output a (choice.subset a)) e))
+        (is_grounded.allowed, is_grounded.output ∙ sym (ap (λ (b : Bool). b && F.output a (choice.subset a)) e))
 
 pub choice-types : (F : Formula) (choice : Choice F) → IsAssignment F.relations (chosen choice)
 choice-types F choice r below = special-type (λ a. bit (choice.subset a) r)
@@ -69,13 +69,13 @@ pub choice-type : (F : Formula) (choice : Choice F) → IsType (chosen_type choi
 choice-type F choice = special-type (λ a. F.output a (choice.subset a))
 
 choice-fitting : (F : Formula) → Grounded F → Choice F → Fitting F
-choice-fitting F ground choice =
+choice-fitting F is_grounded choice =
     record {
       assignment = chosen choice;
       types = choice-types F choice;
       type = chosen_type choice;
       is_type = choice-type F choice;
-      fits = choice-fits F ground choice;
+      fits = choice-fits F is_grounded choice;
     }
 
 -- some special column allows nothing exactly where no assignment fits
@@ -87,7 +87,7 @@ blocked-none F blocked fitting =
     by-false (blocked.nothing s (holders-below F.relations fitting.assignment a)) (by-true fit.0)
 
 pub none-blocked : (F : Formula) → Grounded F → (Fitting F → ⊥) → Blocked F
-none-blocked F ground none = go (search-below 16 blocked)
+none-blocked F is_grounded none = go (search-below 16 blocked)
   where
     allowed : (i : ℕ) → Below (2 ^ F.relations) (F.allowed i)
     allowed i = search-below (2 ^ F.relations) (F.allowed i)
@@ -106,7 +106,7 @@ none-blocked F ground none = go (search-below 16 blocked)
           is_special = left (special i) (not (is_found (allowed i))) h;
           nothing = λ s less. is_false (F.allowed i s) (found_none (allowed i) (T_not (is_found (allowed i)) (right (special i) (not (is_found (allowed i))) h)) s less);
         }
-    go (missing f) = absurd (none (choice-fitting F ground (record {
+    go (missing f) = absurd (none (choice-fitting F is_grounded (record {
       subset = λ i. taken (allowed i);
       below = λ i h. (found-taken (allowed i) (open-column f i h)).0;
       allowed = λ i h. is_true (F.allowed i (taken (allowed i))) (found-taken (allowed i) (open-column f i h)).1;

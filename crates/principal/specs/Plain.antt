@@ -1,7 +1,7 @@
 -- Plain formulas and instantiations as those of base 2: a subset is the state in which its relations have an attribute.
 use Rattle.std.specs.Prelude.{ℕ, ◌<◌, ◌^◌, ◌≡◌, Bool, true, false, ◌↔◌, T}
 use Rattle.std.proofs.Common.{sym, ◌∙◌}
-use Rattle.std.proofs.Math.Logic.{Iff·trans, Iff·symm}
+use mathlib.Core.Logic.Iff
 use Rattle.bits.specs.Bit.{bit}
 use Rattle.bits.specs.Truth.{is_true, by-true}
 use Rattle.attribute_set.specs.AttrSet.{special}
@@ -42,7 +42,7 @@ fits-is F A t a = (
 
 -- what fitting says of an attribute, with its column and its holders
 pub fits-at : (F : Formula) (A : Assignment) (t : Attrs) (a c s : ℕ) → column a ≡ c → holders F.relations A a ≡ s → Fits F A t a ↔ (F.allowed c s ≡ true) × (F.output c s ≡ t a)
-fits-at F A t a c s ec es = Iff·trans (Iff·symm (fits-is F A t a)) (state-fits-at plain_code (states_formula F) A t a c s ec (holders-are F.relations A a ∙ es))
+fits-at F A t a c s ec es = Iff.trans (Iff.symm (fits-is F A t a)) (state-fits-at plain_code (states_formula F) A t a c s ec (holders-are F.relations A a ∙ es))
 
 -- a type variable: not empty, a subset of the relations, allowed in column 0
 pub variable : (F : Formula) (s : ℕ) → T (is_variable F s) ↔ Variable plain_code (states_formula F) s
@@ -87,22 +87,22 @@ module _ {F : Formula} (I : Instantiation F) where
       out (InStateOutput.listed s h l b) = InOutput.listed s h (by-true b) l
 
   pub has-image : (A : Assignment) → HasImage I A ↔ HasStateImage (to_states I) A
-  has-image A = (λ h r below a v. go h r below a v, λ h r below a. Iff·trans (test-true (A r a)) (Iff·trans (h r below a true tt) (Iff·symm (image-is r a))))
+  has-image A = (λ h r below a v. go h r below a v, λ h r below a. Iff.trans (test-true (A r a)) (Iff.trans (h r below a true tt) (Iff.symm (image-is r a))))
     where
       go : HasImage I A → (r : ℕ) → r < F.relations → (a : ℕ) (v : Bool) → T v → (A r a ≡ v) ↔ InStateImage (to_states I) r a v
-      go h r below a true k = Iff·trans (Iff·symm (test-true (A r a))) (Iff·trans (h r below a) (image-is r a))
+      go h r below a true k = Iff.trans (Iff.symm (test-true (A r a))) (Iff.trans (h r below a) (image-is r a))
       go h r below a false k = absurd k
 
   pub has-output : (t : Attrs) → HasOutput I t ↔ HasStateOutput (to_states I) t
-  has-output t = (λ h a v. go h a v, λ h a. Iff·trans (test-true (t a)) (Iff·trans (h a true tt) (Iff·symm (output-is a))))
+  has-output t = (λ h a v. go h a v, λ h a. Iff.trans (test-true (t a)) (Iff.trans (h a true tt) (Iff.symm (output-is a))))
     where
       go : HasOutput I t → (a : ℕ) (v : Bool) → T v → (t a ≡ v) ↔ InStateOutput (to_states I) a v
-      go h a true k = Iff·trans (Iff·symm (test-true (t a))) (Iff·trans (h a) (output-is a))
+      go h a true k = Iff.trans (Iff.symm (test-true (t a))) (Iff.trans (h a) (output-is a))
       go h a false k = absurd k
 
   -- relation r has attribute a where it is in a's state
   in-state : (s r a : ℕ) → InStateImage (to_states I) r a true ↔ (value_at plain_code s r ≡ true) → InImage I r a ↔ T (bit s r)
-  in-state s r a is = Iff·trans (image-is r a) (Iff·trans is ((λ h. by-true (sym (plain_value s r) ∙ h)), λ h. plain_value s r ∙ is_true _ h))
+  in-state s r a is = Iff.trans (image-is r a) (Iff.trans is ((λ h. by-true (sym (plain_value s r) ∙ h)), λ h. plain_value s r ∙ is_true _ h))
 
   pub image-special : (a : ℕ) (h : T (special a)) (r : ℕ) → InImage I r a ↔ T (bit (I.subset a h) r)
   image-special a h r = in-state (I.subset a h) r a (state-image-special (to_states I) a h r true)

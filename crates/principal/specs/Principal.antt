@@ -2,7 +2,7 @@
 -- with the type that the rules give.
 use Rattle.std.specs.Prelude.{ℕ, ◌<◌, ◌^◌, ◌≡◌, refl, ◌↔◌, Bool, true, false, cond, ◌&&◌, T}
 use Rattle.std.proofs.Common.{ap, ◌∙◌}
-use Rattle.std.proofs.Math.Logic.{Iff·trans, Iff·symm}
+use mathlib.Core.Logic.Iff
 use Rattle.bits.specs.Bit.{bit}
 use Rattle.types.specs.Types.{Attrs, IsType, Assignment, IsAssignment, Filled}
 use Rattle.algebra.specs.Expression.{Expression, Legal}
@@ -50,7 +50,7 @@ module _ (e : Expression) (F : Formula) (legal : Legal F.relations e) (is : Form
       either false v = refl
 
   pub grounded : Grounded F
-  grounded = let ground = state-grounded plain_code e (states_formula F) legal states-formula in record { allowed = ground.allowed; output = ground.output }
+  grounded = let is_grounded = state-grounded plain_code e (states_formula F) legal states-formula in record { allowed = is_grounded.allowed; output = is_grounded.output }
 
   -- the rules give e the type t under A exactly when no attribute breaks a rule
   cells : (A : Assignment) (t : Attrs) → Typed A e t ↔ ((a : ℕ) → StateCellOf plain A e t a)
@@ -73,12 +73,12 @@ module _ (e : Expression) (F : Formula) (legal : Legal F.relations e) (is : Form
   unique I J same = ap (λ (I : StateInstantiation plain_code (states_formula F)). from_states I) (state-unique plain_code e (states_formula F) legal states-formula (to_states I) (to_states J) (λ r below a v. go r below a v))
     where
       go : (r : ℕ) → r < F.relations → (a : ℕ) (v : Bool) → T v → InStateImage (to_states I) r a v ↔ InStateImage (to_states J) r a v
-      go r below a true k = Iff·trans (Iff·symm (image-is I r a)) (Iff·trans (same r below a) (image-is J r a))
+      go r below a true k = Iff.trans (Iff.symm (image-is I r a)) (Iff.trans (same r below a) (image-is J r a))
       go r below a false k = absurd k
 
   -- principal: the rules give e the type t under A exactly when an instantiation has that image and that output
   pub principal : (A : Assignment) → IsAssignment F.relations A → (t : Attrs) → IsType t → Typed A e t ↔ ((I : Instantiation F) × (HasImage I A × HasOutput I t))
-  principal A types t type = Iff·trans (cells A t) (Iff·trans (state-principal plain_code e (states_formula F) legal states-formula A (types_are F.relations A types) t) (out_of, into))
+  principal A types t type = Iff.trans (cells A t) (Iff.trans (state-principal plain_code e (states_formula F) legal states-formula A (types_are F.relations A types) t) (out_of, into))
     where
       out_of : JustOne plain_code (states_formula F) A t → (I : Instantiation F) × (HasImage I A × HasOutput I t)
       out_of one = let I = from_states one.instantiation in (I, ((has-image I A).1 one.image, (has-output I t).1 one.output))
@@ -90,7 +90,7 @@ module _ (e : Expression) (F : Formula) (legal : Legal F.relations e) (is : Form
             instantiation = to_states found.0;
             image = image;
             output = (has-output found.0 t).0 found.1.1;
-            only = λ J has gives. state-unique plain_code e (states_formula F) legal states-formula J (to_states found.0) (λ r below a v h. Iff·trans (Iff·symm (has r below a v h)) (image r below a v h));
+            only = λ J has gives. state-unique plain_code e (states_formula F) legal states-formula J (to_states found.0) (λ r below a v h. Iff.trans (Iff.symm (has r below a v h)) (image r below a v h));
           }
 
   -- the same with filled relations: the rules give e the type t under A, and A is filled, exactly when an instantiation

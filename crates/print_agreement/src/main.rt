@@ -7,8 +7,10 @@
 
 ghost use Rattle.std.specs.Prelude.{◌+◌, ◌≤◌, length};
 
+use std::io;
+
 use column::{Bytes, agreeing_bytes};
-use libc::{STDIN_FILENO, STDOUT_FILENO};
+use standard_input::read_full;
 
 // The allowed byte at a place and the output byte after it.
 fn bytes_at(input: &[u8], at: usize) -> Bytes
@@ -21,7 +23,7 @@ fn bytes_at(input: &[u8], at: usize) -> Bytes
 }
 
 // Two bytes for each whole group of the input.
-fn print_agreements(input: &[u8])
+fn print_agreements(rt: &impl Print, input: &[u8]) -> io::Result<()>
     requires { length input.now ≤ 65536 }
 {
     let count = input.len() / 4;
@@ -33,12 +35,12 @@ fn print_agreements(input: &[u8])
         made[2 * k + 1] = bytes.output;
         k += 1;
     }
-    io::write_all(STDOUT_FILENO, &made[..2 * count]);
+    rt.write_all(&made[..2 * count])
 }
 
 // Reads at most 16,384 groups.
-fn main() {
+fn main(rt: HostRuntime) -> io::Result<()> {
     let mut input = [0u8; 65536];
-    let n = io::read_full(STDIN_FILENO, &mut input);
-    print_agreements(&input[..n]);
+    let n = read_full(&mut rt.reader(), &mut input)?;
+    print_agreements(&rt, &input[..n])
 }

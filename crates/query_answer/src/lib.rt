@@ -4,14 +4,14 @@
 use refusal::Refusal;
 
 // The length of the expression file, or the first refusal.
-#[derive(Drop)]
+#[derive(Clone, Copy)]
 pub enum Parsing {
     Written(usize),
     Refused(Refusal),
 }
 
 // The first number of a query that is out of its range (FORMAT 11.8): the refusal that it gives, or none.
-#[derive(Drop)]
+#[derive(Clone, Copy)]
 pub enum Fault {
     NoFault,
     First(Refusal),

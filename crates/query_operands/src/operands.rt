@@ -11,7 +11,7 @@ use query_prefixes::{PrefixReading, Sign, byte_at, is_digit, prefix_at, sign_at}
 
 // The place after an operand, the place after its nodes, the number of nodes up to its own, and its first fault; or
 // that there is no operand.
-#[derive(Drop)]
+#[derive(Clone, Copy)]
 pub enum Operand {
     Read(usize, usize, usize, Fault),
     NotRead,

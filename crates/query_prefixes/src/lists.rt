@@ -10,7 +10,7 @@ use attribute_set::{AttrSet, is_special};
 
 // The set of a list, whether all its attributes are special, and the place after the bracket that closes it; or that
 // there is no list.
-#[derive(Drop)]
+#[derive(Clone, Copy)]
 pub enum Listing {
     Listed(AttrSet, bool, usize),
     NoList,

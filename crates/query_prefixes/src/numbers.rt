@@ -6,7 +6,7 @@ ghost use Rattle.query_prefixes.specs.Answers.{Placed, number_answer};
 use crate::places::byte_at;
 
 // A number and the place after it, or that there is none.
-#[derive(Drop)]
+#[derive(Clone, Copy)]
 pub enum Number {
     Value(u8, usize),
     NoNumber,

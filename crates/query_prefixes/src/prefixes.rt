@@ -10,7 +10,7 @@ use attribute_set::{AttrSet, is_special};
 use node::{Node, SetOp};
 
 // A node of one operand, without the operand.
-#[derive(Drop)]
+#[derive(Clone, Copy)]
 pub enum UnaryNode {
     WithSet(SetOp, AttrSet),
     Renaming(u8, u8),
@@ -32,7 +32,7 @@ impl UnaryNode {
 
 // What a prefix makes of its operand, whether all its attributes are special, and the place after it; or that there is
 // no prefix.
-#[derive(Drop)]
+#[derive(Clone, Copy)]
 pub enum PrefixReading {
     Prefix(UnaryNode, bool, usize),
     NoPrefix,

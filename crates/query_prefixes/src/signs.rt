@@ -7,7 +7,7 @@ use crate::places::byte_at;
 use node::BinaryOp;
 
 // The operator of a sign, or that there is none.
-#[derive(Drop)]
+#[derive(Clone, Copy)]
 pub enum Sign {
     Operator(BinaryOp),
     NoSign,

@@ -10,7 +10,7 @@ use expression_file::Acceptance;
 use node_reader::size_of;
 
 // A part of a file: its first byte and the number of its bytes.
-#[derive(Drop)]
+#[derive(Clone, Copy)]
 pub struct Place {
     pub start: usize,
     pub len: usize,

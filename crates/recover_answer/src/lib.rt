@@ -4,7 +4,7 @@
 use refusal::Refusal;
 
 // The length of the instantiation, or that the schema does not type the node, or the first refusal.
-#[derive(Drop)]
+#[derive(Clone, Copy)]
 pub enum Recovery {
     Recovered(usize),
     Untyped,

@@ -2,7 +2,7 @@
 -- formula, in the sense of demand 3, with the image and the output of its table. Theorems says it of what Apply leaves.
 use Rattle.std.specs.Prelude.{ℕ, zero, suc, ◌*◌, ◌^◌, ◌≤◌, ◌<◌, ◌≡◌, refl, ◌↔◌, true, false, List, [], ◌∷◌, T, eqb, length, get_or}
 use Rattle.std.proofs.Common.{sym, ap, subst, ◌∙◌, lt_of_lt_of_le, arith, eqb-true, eq-eqb, ltb→lt, pow_pos}
-use Rattle.std.proofs.Math.Logic.{Iff·trans}
+use mathlib.Core.Logic.Iff
 use Rattle.std.proofs.Math.Decide.{dec_lt}
 use Rattle.bits.specs.Bit.{bit, bit-none}
 use Rattle.bits.specs.Rising.{member, rising-above}
@@ -154,7 +154,7 @@ module _ (file : List ℕ) (k : ℕ) (bytes work schema out : List ℕ) (m n : �
         sym
         (holders-is m A i (I.subset i h) (rw (← relations) (ltb→lt (I.subset i h) (2 ^ F.relations) (I.below i h)))
         (λ r less. same_test (A r i) (bit (I.subset i h) r)
-        (Iff·trans (has-image r (rw relations less) i) (image-special I i h r))))
+        (Iff.trans (has-image r (rw relations less) i) (image-special I i h r))))
         ∙ holders-is m A i (get_or (subsets_of bytes) i 0)
         (subsets-below m few (expression_at file k) (subsets_of bytes) (entries_in ls) (subsets-none bytes) a.entries a.special i
         (omega arith))
@@ -164,7 +164,7 @@ module _ (file : List ℕ) (k : ℕ) (bytes work schema out : List ℕ) (m n : �
     listed-holders : (s : ℕ) (v : T (is_variable F s)) (x : ℕ) → T (I.list s v x) → holders_in (entries_in ls) x ≡ s
     listed-holders s v x l =
         let plain = is_false (special x) (λ h. special-ordinary x h (I.ordinaries s v x l)) in
-        sym (holders-are x plain) ∙ holders-is m A x s (rw (← relations) ((variable F s).0 v).below) (λ r less. same_test (A r x) (bit s r) (Iff·trans (has-image r (rw relations less) x) (image-listed I x s v l r)))
+        sym (holders-are x plain) ∙ holders-is m A x s (rw (← relations) ((variable F s).0 v).below) (λ r less. same_test (A r x) (bit s r) (Iff.trans (has-image r (rw relations less) x) (image-listed I x s v l r)))
 
     list-bytes : (s : ℕ) (v : T (is_variable F s)) (x : ℕ) → T (I.list s v x) → T (member x (get_or ls s []))
     list-bytes s v x l = by-true (sym (owner s x ((variable F s).0 v).some) ∙ eq-eqb (holders_in (entries_in ls) x) s (listed-holders s v x l))

@@ -8,7 +8,7 @@ use refusal::Refusal;
 use type_record::{RecordReading, read_record, record_size};
 
 // Whether a schema or an instantiation was read, or the first refusal.
-#[derive(Drop)]
+#[derive(Clone, Copy)]
 pub enum Judgement {
     Read,
     Refused(Refusal),
@@ -16,7 +16,7 @@ pub enum Judgement {
 
 // A schema's membership table but for its entries: for each relation the map of its special attributes, and the number
 // of the entries. After a refusal it is empty.
-#[derive(Drop)]
+#[derive(Clone, Copy)]
 pub struct SchemaReading {
     pub judgement: Judgement,
     pub special: [u16; 8],

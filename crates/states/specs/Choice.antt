@@ -55,7 +55,7 @@ either : (a b : Bool) → a || b ≡ true → (a ≡ true) ⊎ (b ≡ true)
 either true b h = inl refl
 either false b h = inr h
 
-module _ {K : Kinds} (C : Coded K) (F : Formula K) (ground : Grounded F) where
+module _ {K : Kinds} (C : Coded K) (F : Formula K) (is_grounded : Grounded F) where
   module _ (state : ℕ → ℕ) (choice : Choice C F state) where
     -- where an attribute's state comes from
     data Origin (a : ℕ) : Type 0 where
@@ -97,7 +97,7 @@ module _ {K : Kinds} (C : Coded K) (F : Formula K) (ground : Grounded F) where
         go : Origin a → F.allowed (column a) (chosen_state C F state a) ≡ true
         go (specials h e) = rw (e, column-special a h) (choice.allowed a h)
         go (variables k v e l) = rw (e, column-other a k) ((variable C F (a - 16)).0 v).allowed
-        go (others k e) = rw (e, column-other a k) ground.allowed
+        go (others k e) = rw (e, column-other a k) is_grounded.allowed
 
     pub choice-fits : (a : ℕ) → Fits C F (chosen C F state) (chosen_type C F state) a
     choice-fits a = (fits-at C F (chosen C F state) (chosen_type C F state) a (column a) (chosen_state C F state a) refl (holders-chosen a)).1 (state-allowed a, refl)

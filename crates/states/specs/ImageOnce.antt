@@ -1,7 +1,7 @@
 -- Two instantiations with one image are one.
 use Rattle.std.specs.Prelude.{ℕ, ◌^◌, ◌≡◌, refl, T, ltb}
 use Rattle.std.proofs.Common.{sym, subst, ltb→lt}
-use Rattle.std.proofs.Math.Logic.{Iff·trans, Iff·symm}
+use mathlib.Core.Logic.Iff
 use mathlib.Core.HLevel.{Π_prop, is_prop→PathP}
 use Rattle.std.proofs.Math.Nat.{ℕ_set}
 use Rattle.std.proofs.Math.Dec.{T_prop}
@@ -22,14 +22,14 @@ module _ {K : Kinds} (C : Coded K) (F : Formula K) where
   pub same-state : (I J : Instantiation C F) → SameImage I J → (i : ℕ) (h : T (special i)) → I.state i h ≡ J.state i h
   same-state I J same i h =
       states-once C F.relations (I.state i h) (J.state i h) (ltb→lt _ _ (I.below i h)) (ltb→lt _ _ (J.below i h))
-      λ r below. same-value C _ _ λ v has. Iff·trans (Iff·symm (image-special I i h r v)) (Iff·trans (same r below i v has) (image-special J i h r v))
+      λ r below. same-value C _ _ λ v has. Iff.trans (Iff.symm (image-special I i h r v)) (Iff.trans (same r below i v has) (image-special J i h r v))
 
   -- an attribute in a list of each is in the lists of one variable
   same-variable : (I J : Instantiation C F) → SameImage I J → (a s s' : ℕ) (w : T (is_variable C F s)) (w' : T (is_variable C F s')) → T (I.list s w a) → T (J.list s' w' a) → s' ≡ s
   same-variable I J same a s s' w w' l l' =
       sym
       (states-once C F.relations s s' ((variable C F s).0 w).below ((variable C F s').0 w').below
-      λ r below. same-value C _ _ λ v has. Iff·trans (Iff·symm (image-listed I a s w l r v)) (Iff·trans (same r below a v has) (image-listed J a s' w' l' r v)))
+      λ r below. same-value C _ _ λ v has. Iff.trans (Iff.symm (image-listed I a s w l r v)) (Iff.trans (same r below a v has) (image-listed J a s' w' l' r v)))
 
   -- what is in a list of one is in that list of the other
   carry : (I J : Instantiation C F) → SameImage I J → (s : ℕ) (w : T (is_variable C F s)) (a : ℕ) → T (I.list s w a) → T (J.list s w a)
@@ -46,7 +46,7 @@ module _ {K : Kinds} (C : Coded K) (F : Formula K) where
           w
 
   pub same-list : (I J : Instantiation C F) → SameImage I J → (s : ℕ) (w : T (is_variable C F s)) (a : ℕ) → I.list s w a ≡ J.list s w a
-  same-list I J same s w a = same_test _ _ (carry I J same s w a, carry J I (λ r below b v has. Iff·symm (same r below b v has)) s w a)
+  same-list I J same s w a = same_test _ _ (carry I J same s w a, carry J I (λ r below b v has. Iff.symm (same r below b v has)) s w a)
 
   -- the states and the lists say the rest
   pub same-data : (I J : Instantiation C F) → I.state ≡ J.state → I.list ≡ J.list → I ≡ J

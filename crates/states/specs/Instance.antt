@@ -32,7 +32,7 @@ module _ {K : Kinds} (C : Coded K) (m : ℕ) (A : AssignmentOver K) where
   held-here : (a : ℕ) → T (ordinary a) → T (held_by (holders C m A a) a)
   held-here a h = both (ordinary a) _ h (eqb_refl (holders C m A a))
 
-module _ {K : Kinds} (C : Coded K) (F : Formula K) (ground : Grounded F) (A : AssignmentOver K) (types : IsAssignment K F.relations A) (t : TypeOver K) (fits : (a : ℕ) → Fits C F A t a) where
+module _ {K : Kinds} (C : Coded K) (F : Formula K) (is_grounded : Grounded F) (A : AssignmentOver K) (types : IsAssignment K F.relations A) (t : TypeOver K) (fits : (a : ℕ) → Fits C F A t a) where
   -- what fitting says in the attribute's column
   in-column : (a c : ℕ) → column a ≡ c → (F.allowed c (holders C F.relations A a) ≡ true) × (F.output c (holders C F.relations A a) ≡ t a)
   in-column a c e = (fits-at C F A t a c (holders C F.relations A a) e refl).0 (fits a)
@@ -91,7 +91,7 @@ module _ {K : Kinds} (C : Coded K) (F : Formula K) (ground : Grounded F) (A : As
 
   some-output : (a : ℕ) → column a ≡ 0 → T (K.has (t a)) → 0 < holders C F.relations A a
   some-output a c x =
-      not-zero (holders C F.relations A a) λ e. held_none C (t a) x (sym ((fits-at C F A t a 0 0 c e).0 (fits a)).1 ∙ ground.output)
+      not-zero (holders C F.relations A a) λ e. held_none C (t a) x (sym ((fits-at C F A t a 0 0 c e).0 (fits a)).1 ∙ is_grounded.output)
 
   zero-silent : T (K.has (t 0)) → ⊥
   zero-silent x = omega (arith, some-output 0 (column-other 0 zero-other) x, holders-none C F.relations A 0 (λ r below. (types r below).positive))

@@ -3,7 +3,7 @@
 use Rattle.std.specs.Prelude.{ℕ, ◌<◌, ◌^◌, ◌≡◌, ◌↔◌, Bool, true, cond}
 use Rattle.std.proofs.Common.{sym, ap₂, ◌∙◌, lit<}
 use Rattle.std.proofs.Math.Path.{fun_ext}
-use Rattle.std.proofs.Math.Logic.{Iff·trans, Iff·symm}
+use mathlib.Core.Logic.Iff
 use Rattle.std.proofs.Math.Nat.{one-le-pow}
 use Rattle.types.specs.Types.{column}
 use Rattle.types.specs.Attributes.{column-below}
@@ -96,5 +96,5 @@ module _ {K : Kinds} (C : Coded K) (e : Expression) (F : Formula K) (legal : Leg
             instantiation = I;
             image = image;
             output = instance-output C F grounded A types t f;
-            only = λ J has gives. unique J I (λ r below a v h. Iff·trans (Iff·symm (has r below a v h)) (image r below a v h));
+            only = λ J has gives. unique J I (λ r below a v h. Iff.trans (Iff.symm (has r below a v h)) (image r below a v h));
           }

@@ -146,7 +146,7 @@ module _ {K : Kinds} (C : Coded K) (F : Formula K) where
 
   pub fillable-fits : Grounded F → fillable C F ≡ true → FilledFitting C F
   unfolding fillable
-  fillable-fits ground h =
+  fillable-fits is_grounded h =
       let found = reach-chosen 15 (2 ^ F.relations - 1) h in
       let state = found.0 in
       let choice : Choice C F state = record {
@@ -156,18 +156,18 @@ module _ {K : Kinds} (C : Coded K) (F : Formula K) where
       in
       record {
         assignment = chosen C F state;
-        types = choice-types C F ground state choice;
-        filled = choice-filled C F ground state choice ((union-full state).1 found.1.1);
+        types = choice-types C F is_grounded state choice;
+        filled = choice-filled C F is_grounded state choice ((union-full state).1 found.1.1);
         type = chosen_type C F state;
-        fits = choice-fits C F ground state choice;
+        fits = choice-fits C F is_grounded state choice;
       }
 
   pub fits-fillable : Grounded F → FilledFitting C F → fillable C F ≡ true
   unfolding fillable
-  fits-fillable ground f =
+  fits-fillable is_grounded f =
       let state = holders C F.relations f.assignment in
-      let own = own-choice C F ground f.assignment f.types f.type f.fits in
-      rw (← (union-full state).0 (own-covers C F ground f.assignment f.types f.type f.fits f.filled))
+      let own = own-choice C F is_grounded f.assignment f.types f.type f.fits in
+      rw (← (union-full state).0 (own-covers C F is_grounded f.assignment f.types f.type f.fits f.filled))
       (chosen-reach 15 state (record { below = λ i l k. own.below i (is_special_lem i l k); allowed = λ i l k. own.allowed i (is_special_lem i l k) }))
     where
       is_special_lem : (i : ℕ) → 1 ≤ i → i ≤ 15 → T (special i)

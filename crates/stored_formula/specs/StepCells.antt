@@ -36,17 +36,17 @@ unary-by : (u : Unary) (broken given : Bool → Bool) → unary_test plain_code 
 unary-by u broken given test = record { coded = unary-tested plain_code broken given (unary_step u) test; clear = unary-clear u; local = unary-local u }
 
 pub set-step : (op : SetOp) (n : Bool) → UnaryStep plain_code (breaks_set plain (set_operator_of op) n) (yields_set plain (set_operator_of op) n) (unary_step (set_step op n))
-set-step Selection true = unary-by _ _ _ refl
-set-step Selection false = unary-by _ _ _ refl
-set-step Projection true = unary-by _ _ _ refl
-set-step Projection false = unary-by _ _ _ refl
+set-step Selection true = unary-by (set_step Selection true) _ _ refl
+set-step Selection false = unary-by (set_step Selection false) _ _ refl
+set-step Projection true = unary-by (set_step Projection true) _ _ refl
+set-step Projection false = unary-by (set_step Projection false) _ _ refl
 
 pub renaming-step : (is_old is_new : Bool) → UnaryStep plain_code (breaks_renaming plain is_old is_new) (yields_renaming plain is_old is_new) (unary_step (renaming_step is_old is_new))
-renaming-step true true = unary-by _ _ _ refl
-renaming-step true false = unary-by _ _ _ refl
-renaming-step false true = unary-by _ _ _ refl
-renaming-step false false = unary-by _ _ _ refl
+renaming-step true true = unary-by (renaming_step true true) _ _ refl
+renaming-step true false = unary-by (renaming_step true false) _ _ refl
+renaming-step false true = unary-by (renaming_step false true) _ _ refl
+renaming-step false false = unary-by (renaming_step false false) _ _ refl
 
 pub projecting-out-step : (is_old : Bool) → UnaryStep plain_code (breaks_out plain is_old) (yields_out plain is_old) (unary_step (projecting_out_step is_old))
-projecting-out-step true = unary-by _ _ _ refl
-projecting-out-step false = unary-by _ _ _ refl
+projecting-out-step true = unary-by (projecting_out_step true) _ _ refl
+projecting-out-step false = unary-by (projecting_out_step false) _ _ refl

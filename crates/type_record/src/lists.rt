@@ -5,7 +5,7 @@ ghost use Rattle.type_record.specs.Lists.{read_list};
 use refusal::Refusal;
 
 // The number of attributes, or the first refusal of 14 to 16.
-#[derive(Drop)]
+#[derive(Clone, Copy)]
 pub enum ListReading {
     Listed(usize),
     Refused(Refusal),

@@ -6,7 +6,7 @@ use crate::lists::{ListReading, read_list};
 use refusal::Refusal;
 
 // The special attributes, bit 0 clear, and the number of ordinary ones; or the first refusal of 14 to 16.
-#[derive(Drop)]
+#[derive(Clone, Copy)]
 pub enum RecordReading {
     Read(u16, usize),
     Refused(Refusal),

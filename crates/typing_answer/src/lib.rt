@@ -4,7 +4,7 @@
 use refusal::Refusal;
 
 // The length of the output record, or that the schema does not type the node, or the first refusal.
-#[derive(Drop)]
+#[derive(Clone, Copy)]
 pub enum Answer {
     Typed(usize),
     Untyped,

@@ -5,7 +5,7 @@ use refusal::Refusal;
 
 // The lowest special attribute whose column allows nothing, or 16, and the first allowed subset of each
 // special attribute below it; 0 for any other number.
-#[derive(Drop)]
+#[derive(Clone, Copy)]
 pub struct Subsets {
     pub blocked: u8,
     pub chosen: [u8; 16],
@@ -13,7 +13,7 @@ pub struct Subsets {
 
 // The length of the witness schema and the number of its memberships; or the lowest special attribute whose column
 // allows nothing, or 0 where each allows something but the relations cannot all be filled; or the first refusal.
-#[derive(Drop)]
+#[derive(Clone, Copy)]
 pub enum Outcome {
     Typable(usize, u8),
     Untypable(u8),
@@ -22,7 +22,7 @@ pub enum Outcome {
 
 // The verdict without its witness: the number of memberships that the witness has; or the attribute; or the first
 // refusal.
-#[derive(Drop)]
+#[derive(Clone, Copy)]
 pub enum Typability {
     Typable(u8),
     Untypable(u8),

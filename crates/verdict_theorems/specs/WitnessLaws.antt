@@ -73,8 +73,8 @@ module _ (m : ℕ) (few : m ≤ 8) (e : Expression) (legal : Legal m e) where
   is-formula : Theorem.FormulaOf e (cell_formula m e)
   is-formula = record { allowed = λ c s hc hs. allowed-is m e c s hs; output = λ c s hc hs. output-is m e c s hs }
 
-  ground : Grounded (cell_formula m e)
-  ground = Theorem.grounded e (cell_formula m e) legal is-formula
+  is_grounded : Grounded (cell_formula m e)
+  is_grounded = Theorem.grounded e (cell_formula m e) legal is-formula
 
   subsets-few : 2 ^ m ≤ 256
   subsets-few = pow_mono {j = 8} few
@@ -237,7 +237,7 @@ module _ (m : ℕ) (few : m ≤ 8) (e : Expression) (legal : Legal m e) where
             ordinary-column (omega arith) ∙ ap (allowed_bit m e 0) (sym same) ∙ is
         go (no h) (no past) =
             let size = length-drop 15 choice in
-            ordinary-column (omega arith) ∙ ap (allowed_bit m e 0) (get_or-eq_default choice 0 {n = i} (omega arith)) ∙ ground.allowed
+            ordinary-column (omega arith) ∙ ap (allowed_bit m e 0) (get_or-eq_default choice 0 {n = i} (omega arith)) ∙ is_grounded.allowed
 
     -- its type: the attributes whose output bit stands
     abbrev witness_type : Attrs
@@ -247,19 +247,19 @@ module _ (m : ℕ) (few : m ≤ 8) (e : Expression) (legal : Legal m e) where
     witness-fits a = record { allowed = each a; output = refl }
       where
         each : (a : ℕ) → allowed_bit m e (column a) (holders m (assignment_of records) a) ≡ true
-        each zero = ap₂ (allowed_bit m e) (column-of-other 0 special-zero) holders-zero ∙ ground.allowed
+        each zero = ap₂ (allowed_bit m e) (column-of-other 0 special-zero) holders-zero ∙ is_grounded.allowed
         each (suc i) = ap (allowed_bit m e (column (suc i))) (witness-holders i) ∙ entry-allowed i
 
     witness-type : IsType witness_type
     witness-type =
         record {
-          positive = ap₂ (output_bit m e) (column-of-other 0 special-zero) holders-zero ∙ ground.output;
+          positive = ap₂ (output_bit m e) (column-of-other 0 special-zero) holders-zero ∙ is_grounded.output;
           finite = finite-by 24 none;
         }
       where
         none : (a : ℕ) → 24 ≤ a → witness_type a ≡ false
         none a past =
-            ap₂ (output_bit m e) (column-of-other a (special-above a (omega arith))) (holders-none m (assignment_of records) a (λ r inside. witness-within r inside a past)) ∙ ground.output
+            ap₂ (output_bit m e) (column-of-other a (special-above a (omega arith))) (holders-none m (assignment_of records) a (λ r inside. witness-within r inside a past)) ∙ is_grounded.output
 
     -- ---- every relation has an attribute
 
