@@ -132,7 +132,7 @@ resumed-clears {bytes} {before} {items} {k} {at} {s} (suc n) h fits clear =
     let first = ap (standing bytes) (sym (add-zero s)) ∙ clear 0 (omega arith) in
     let next : s + 1 + n ≡ s + suc n = omega arith in
     subst (Resumed bytes before items k at) next
-    (resumed-clears n (resumed-clear h (omega arith) first) (omega arith)
+    (resumed-clears {s = s + 1} n (resumed-clear h (omega arith) first) (omega arith)
     (λ i less. let place : s + 1 + i ≡ s + suc i = omega arith in ap (standing bytes) place ∙ clear (suc i) (omega arith)))
 
 -- the rest of a byte of the map

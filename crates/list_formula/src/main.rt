@@ -1,10 +1,9 @@
 // Reads an expression file from standard input and prints its last node (FORMAT 7.14).
 #![tactic(auto)]
 
-use std::io;
-
 use listing::Listed;
 use standard_input::read_full;
+use std::io;
 
 // Both slices are long enough for every file, so that no answer is a refusal.
 fn print_listing(rt: &impl Print, file: &[u8]) -> io::Result<()> {

@@ -7,10 +7,9 @@
 
 ghost use Rattle.std.specs.Prelude.{◌+◌, ◌≤◌, length};
 
-use std::io;
-
 use column::{Bytes, agreeing_bytes};
 use standard_input::read_full;
+use std::io;
 
 // The allowed byte at a place and the output byte after it.
 fn bytes_at(input: &[u8], at: usize) -> Bytes

@@ -6,12 +6,11 @@
 // byte (0 recovered, 255 untyped, else the number of the refusal), and with 0 the instantiation recovered.
 #![tactic(auto)]
 
-use std::io;
-
 use record::record;
 use recover_answer::Recovery;
 use round_trip::apply_and_recover;
 use standard_input::read_full;
+use std::io;
 
 fn print_byte(rt: &impl Print, byte: u8) -> io::Result<()> {
     let bytes = [byte];

@@ -2,7 +2,8 @@ use Rattle.instantiation_writer.proofs.OneList.{follow-first, follow-bounds, fol
 use lib.ListN.{length-set}
 use borrow.Author.Tests.{eqb-true, eqb-false}
 use native.Mathlib.Omega.{arith}
-use mathlib.Core.Logic.{inl, inr, ⊎_elim}
+use mathlib.Core.Logic.{inl, inr}
+use Rattle.instantiation_writer.proofs.lists.write_list.Goals.{then-loop-j-test+else-sorted-j, else-loop-j-test}
 use Rattle.instantiation_writer.proofs.lists.write_list.Goals as goal
 
 pub bounds-sorted-i : goal.bounds-sorted-i
@@ -42,7 +43,7 @@ pub bounds-out-j : goal.bounds-out-j
 bounds-out-j c =
     let pre = c.requires in
     let room = follow-room _ _ pre.by_subset.0 _ pre.by_subset.1 pre.i_in_bounds c.loop-j.invariant c.loop-j-test.true
-    (eqb-true _ _ c.if-sorted-j.true) in
+    c.if-sorted-j.true in
     omega arith
 
 pub overflow_cast-out-in-loop-j : goal.overflow_cast-out-in-loop-j
@@ -76,7 +77,7 @@ pub bounds-out-j-in-loop-j : goal.bounds-out-j-in-loop-j
 bounds-out-j-in-loop-j c =
     let pre = c.requires in
     let room = follow-room _ _ pre.by_subset.0 _ pre.by_subset.1 pre.i_in_bounds c.loop-j.invariant c.loop-j-test.true
-    (eqb-true _ _ c.if-sorted-j.true) in
+    c.if-sorted-j.true in
     simp length-set (omega arith)
 
 pub overflow_add-j : goal.overflow_add-j
@@ -85,7 +86,7 @@ overflow_add-j c = let few = c.requires.by_subset.0.few in omega arith
 pub loop-j-preserved : goal.loop-j-preserved
 loop-j-preserved c =
     let pre = c.requires in
-    follow-next _ _ pre.by_subset.0 _ pre.by_subset.1 pre.i_in_bounds c.loop-j.invariant c.loop-j-test.true (eqb-true _ _ c.if-sorted-j.true)
+    follow-next _ _ pre.by_subset.0 _ pre.by_subset.1 pre.i_in_bounds c.loop-j.invariant c.loop-j-test.true c.if-sorted-j.true
 
 pub overflow_sub-out-2 : goal.overflow_sub-out-2
 overflow_sub-out-2 c =
@@ -109,7 +110,8 @@ bounds-out-0 c =
 pub returns : goal.returns
 returns c =
     let pre = c.requires in
-    let both = follow-whole _ _ pre.by_subset.0 _ pre.by_subset.1 pre.i_in_bounds c.loop-j.invariant (⊎_elim (λ w. inr (w.0.taken, eqb-false _ _ w.2.left)) (λ w. inl w.left) c.loop-j-test.branch) in
+    let both = follow-whole _ _ pre.by_subset.0 _ pre.by_subset.1 pre.i_in_bounds c.loop-j.invariant
+    (elim c.loop-j-test.branch [ then-loop-j-test+else-sorted-j w ↦ inr (w.loop-j-test.true, w.if-sorted-j.false) | else-loop-j-test w ↦ inl w.loop-j-test.false ]) in
     record {
       value = both.0;
       out_after = both.1;

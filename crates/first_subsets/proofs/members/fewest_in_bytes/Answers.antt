@@ -1,0 +1,32 @@
+use native.Mathlib.Omega.{arith}
+use Rattle.types.specs.Memberships.{ones-most}
+use Rattle.first_subsets.specs.ByteMembers.{byte-most, fewest-none, fewest-next, fewest-all}
+use Rattle.first_subsets.proofs.members.fewest_in_bytes.Goals as goal
+
+pub loop-i-init : goal.loop-i-init
+loop-i-init c = fewest-none _
+
+pub overflow_cast-i-in-loop-i : goal.overflow_cast-i-in-loop-i
+overflow_cast-i-in-loop-i c =
+    let below = c.loop-i-test.true in
+    let few = ones-most c.loop-i.i (omega arith) in
+    omega arith
+
+pub overflow_add-i : goal.overflow_add-i
+overflow_add-i c =
+    let i = c.loop-i.i in
+    let below = c.loop-i-test.true in
+    let few = ones-most i (omega arith) in
+    let byte = byte-most _ (c.type_inv.column i).fits in
+    let here = c.fewest_in_byte-here.ensures in
+    omega arith
+
+pub loop-i-preserved : goal.loop-i-preserved
+loop-i-preserved c =
+    let i = c.loop-i.i in
+    let below = c.loop-i-test.true in
+    rw (c.lesser-fewest.ensures, c.fewest_in_byte-here.ensures)
+    (fewest-next _ i _ c.loop-i.invariant (omega arith) (c.type_inv.column i).fits)
+
+pub returns : goal.returns
+returns c = fewest-all _ _ _ c.loop-i.invariant c.loop-i-test.false

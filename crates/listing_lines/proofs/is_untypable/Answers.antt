@@ -1,0 +1,12 @@
+use mathlib.Core.Path.{sym, ap, ◌∙◌}
+use Rattle.verdict_answer.specs.Typability.{says_untypable, says-untypable}
+use Rattle.listing_lines.proofs.is_untypable.Goals as goal
+
+pub returns-in-Untypable : goal.returns-in-Untypable
+returns-in-Untypable c = ap says_untypable (sym c.in-Untypable.is ∙ c.typability.ensures) ∙ says-untypable _ _
+
+pub returns-in-Typable : goal.returns-in-Typable
+returns-in-Typable c = ap says_untypable (sym c.in-Typable.is ∙ c.typability.ensures) ∙ says-untypable _ _
+
+pub returns-in-Refused : goal.returns-in-Refused
+returns-in-Refused c = ap says_untypable (sym c.in-Refused.is ∙ c.typability.ensures) ∙ says-untypable _ _

@@ -1,0 +1,14 @@
+use Prim.Native.Nat.{◌-◌}
+use Rattle.attribute_set.specs.AttrSet.{has_attribute}
+use Rattle.node.specs.declared.nodes.SetOp.TheVariants.{Selection}
+use Rattle.column.specs.Steps.{set_step}
+use Rattle.column.specs.Column.{unary_column}
+use Rattle.stored_formula.specs.ColumnPlace.{column_at}
+use Rattle.stored_formula.specs.WrittenColumns.{ColumnLoop}
+use Rattle.node_columns.proofs.fill_selection.Given as goal
+
+abbrev pub invariant-loop-c : goal.invariant-loop-c
+invariant-loop-c l = ColumnLoop (λ c. unary_column (set_step Selection (has_attribute l.s c)) (column_at l.initial.work l.l c)) l.k l.c l.initial.work l.work
+
+abbrev pub decreases-loop-c : goal.decreases-loop-c
+decreases-loop-c l = 16 - l.c
