@@ -4,10 +4,9 @@
 
 ghost use Rattle.std.specs.Prelude.{◌≤◌, length};
 
+use listing::Listed;
 use std::env::{Env, FillError};
 use std::io;
-
-use listing::Listed;
 
 fn print_usage(rt: &impl Print) -> io::Result<()> {
     rt.write_all(b"usage: list_query RELATIONS TEXT\n")
