@@ -48,7 +48,6 @@ use Rattle.verdict_answer.specs.VerdictLaws.{verdict-passes}
 use Rattle.verdict_answer.specs.Typability.{without_witness, typability-given}
 use Rattle.verdict_answer.specs.declared.Outcome.{Outcome}
 use Rattle.verdict_answer.specs.declared.Outcome.TheVariants.{Typable as TypableBy, Untypable as UntypableBy, Refused as RefusedBy}
-use Rattle.verdict_answer.specs.declared.Typability.{Typability}
 use Rattle.verdict_answer.specs.declared.Typability.TheVariants.{Typable, Untypable, Refused}
 use Rattle.verdict_theorems.specs.WitnessLaws.{Witness}
 use Rattle.verdict_theorems.specs.Theorems.{verdict-untypable, verdict-witness, verdict-memberships, verdict-fewest}

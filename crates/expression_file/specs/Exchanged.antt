@@ -1,6 +1,6 @@
 -- The edited file (FORMAT 1.8): a file with the record of one node exchanged. It is accepted, with the same counts; its
 -- other nodes and their records are the old ones.
-use Rattle.std.specs.Prelude.{ℕ, zero, suc, ◌+◌, ◌-◌, ◌<◌, ◌≡◌, refl, set, take}
+use Rattle.std.specs.Prelude.{ℕ, zero, suc, ◌+◌, ◌<◌, ◌≡◌, refl, set, take}
 use Rattle.std.proofs.Math.Path.{sym, ap, ap₂}
 use Rattle.std.proofs.Common.{◌∙◌, add-zero, zero-add, take-append-drop, drop_at, length-take-le, take-add, drop-drop}
 use mathlib.Core.List.{List, ◌++◌, append_assoc}

@@ -7,7 +7,7 @@
 --   expression_at   the expression of a node                                             (crate node_expression, NodeExpression)
 --   node_text       the line of a node with its verdict                                  (crate listing_lines, Lines)
 --   listed_answer, listed_text, listed_space   what the listing leaves, by its contract    (Listing)
-use Rattle.std.specs.Prelude.{ℕ, ◌+◌, ◌-◌, ◌≤◌, ◌≡◌, ◌↔◌, Bool, true, false, List, ◌++◌, length, take}
+use Rattle.std.specs.Prelude.{ℕ, ◌-◌, ◌≤◌, ◌≡◌, ◌↔◌, Bool, true, false, List, ◌++◌, length, take}
 use Rattle.std.proofs.Common.{sym, subst, ◌∙◌, arith}
 use Rattle.bits.specs.Booleans.{is_false}
 use Rattle.algebra.specs.Expression.{Legal}

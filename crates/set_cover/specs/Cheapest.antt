@@ -13,7 +13,7 @@ use Rattle.bits.specs.Rising.{Rising}
 use Rattle.types.specs.Memberships.{members, members-most, members-some}
 use Rattle.states.specs.Formula.{type_variable}
 use Rattle.set_cover.specs.Remainder.{rest, rest-least, rest-swap, rest-again, rest-fewer}
-use Rattle.set_cover.specs.Least.{infinity, least, least-of, Attained, least-found}
+use Rattle.set_cover.specs.Least.{infinity, least-of, Attained, least-found}
 use Rattle.set_cover.specs.Cost.{price, cost, lower, cost-zero, cost-cover, cost-next}
 use Rattle.set_cover.specs.Choice.{Chosen, weight, uncovered, NotAbove, picked, best_variables, best, picked_variable, no-variables, variables-step}
 

@@ -9,7 +9,7 @@ use Rattle.std.proofs.Math.Dec.{T_prop}
 use Rattle.attribute_set.specs.AttrSet.{special}
 use Rattle.attribute_set.specs.Laws.{special-above}
 use Rattle.types.specs.Types.{ordinary, column}
-use Rattle.bits.specs.Truth.{is_true, by-true, both}
+use Rattle.bits.specs.Truth.{is_true, by-true}
 use Rattle.types.specs.Attributes.{Kind, is_special, is_ordinary, is_zero, kind, special-bounds, special-ordinary, zero-other, column-special, column-other}
 use Rattle.algebra.specs.Cell.{Kinds}
 use Rattle.bits.specs.Booleans.{and_left, and_right}

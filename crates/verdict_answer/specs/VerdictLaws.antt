@@ -11,7 +11,7 @@ use Rattle.bits.specs.Tab.{over}
 use Rattle.refusal.specs.declared.Refusal.{Refusal}
 use Rattle.expression_file.specs.declared.files.Acceptance.{Acceptance}
 use Rattle.expression_file.specs.declared.files.Acceptance.TheVariants.{Accepted, Refused as FileRefused}
-use Rattle.admission.specs.Admission.{after, sliced, admitted}
+use Rattle.admission.specs.Admission.{sliced, admitted}
 use Rattle.admission.specs.AdmissionLaws.{Admits, sliced-passed, admitted-passed, admits-few}
 use Rattle.node_expression.specs.NodeExpression.{expression_at, expression-legal}
 use Rattle.stored_formula.specs.FormulaBytes.{allowed_bit, formulas_of}

@@ -1,5 +1,5 @@
 -- Laws of the witness: the table that it is written from, and who has which attribute in it.
-use Rattle.std.specs.Prelude.{ℕ, zero, suc, ◌+◌, ◌-◌, ◌^◌, ◌≤◌, ◌<◌, ◌≡◌, refl, Bool, cond, List, [], ◌∷◌, length, get_or, drop}
+use Rattle.std.specs.Prelude.{ℕ, zero, suc, ◌+◌, ◌^◌, ◌≤◌, ◌<◌, ◌≡◌, refl, Bool, cond, List, [], ◌∷◌, length, get_or, drop}
 use Rattle.std.proofs.Common.{ap, ◌∙◌, lt_of_lt_of_le, arith, eq-eqb, ne_eqb, pow_mono, pow_pos, length-take-le, get_or-take}
 use Rattle.std.proofs.Math.ListN.{length-drop}
 use Rattle.std.proofs.Math.Seq.{get_or-drop}

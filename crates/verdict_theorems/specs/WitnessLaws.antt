@@ -12,7 +12,6 @@ use Rattle.bits.specs.Bit.{bit, bit-none}
 use Rattle.bits.specs.Booleans.{and_left, and_right}
 use Rattle.bits.specs.Word.{Bytes}
 use Rattle.bits.specs.Truth.{by-true, by-false}
-use Rattle.attribute_set.specs.AttrSet.{special}
 use Rattle.attribute_set.specs.Laws.{special-in, special-zero, special-above}
 use Rattle.types.specs.Types.{Attrs, IsType, Filled, column, holders}
 use Rattle.types.specs.Laws.{finite-by, column-of-special, column-of-other}

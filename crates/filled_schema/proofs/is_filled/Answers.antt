@@ -1,6 +1,5 @@
 use mathlib.Core.Path.{refl}
 use native.Mathlib.Omega.{arith}
-use borrow.Author.Tests.{not-true, not-false}
 use Rattle.filled_schema.proofs.RelationsTested.{passed-all, passed-next, passed-not}
 use Rattle.filled_schema.proofs.is_filled.Goals as goal
 

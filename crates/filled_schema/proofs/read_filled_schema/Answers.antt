@@ -1,5 +1,4 @@
 use native.Mathlib.Omega.{arith}
-use borrow.Author.Tests.{not-true, not-false}
 use Rattle.filled_schema.proofs.Tested.{tested-refused, handed-table, tested-empty, tested-read}
 use Rattle.filled_schema.proofs.read_filled_schema.Goals as goal
 

@@ -1,5 +1,4 @@
 use native.Mathlib.Omega.{arith}
-use borrow.Author.Tests.{not-true, not-false}
 use Rattle.text.specs.Put.{wrote_none}
 use Rattle.listing_lines.specs.Lines.{attribute_text}
 use Rattle.listing_lines.proofs.write_attribute_line.Goals as goal

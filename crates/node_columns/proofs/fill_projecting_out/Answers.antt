@@ -1,5 +1,4 @@
 use mathlib.Core.Path.{ap₂, ◌∙◌}
-use Rattle.column.specs.Steps.{projecting_out_step}
 use Rattle.column.specs.Column.{unary_column}
 use Rattle.stored_formula.specs.WrittenColumns.{columns-first, columns-read, columns-start, columns-write, columns-next, columns-end}
 use borrow.Author.Rules.{rules}

@@ -1,6 +1,5 @@
 use mathlib.Core.Path.{sym, ◌∙◌}
 use native.Mathlib.Omega.{arith}
-use borrow.Author.Tests.{not-true, not-false}
 use lib.Seq.{length-take-le}
 use Rattle.query_operands.specs.Reading.{is_read, is-missing}
 use Rattle.query.specs.ParseSteps.{Passed, parse-relations, parse-slice, parse-length, parse-missing, parse-followed, parse-nodes, parse-fault, parse-fits, parse-written}

@@ -3,7 +3,7 @@ use mathlib.Core.Path.{◌≡◌}
 use native.Mathlib.Omega.{arith}
 use lib.ListN.{length-replicate}
 use Rattle.bits.specs.Written.{written_none, written-more, written-whole}
-use Rattle.special_maps.specs.Special.{map_of, maps_from}
+use Rattle.special_maps.specs.Special.{maps_from}
 use Rattle.special_maps.proofs.maps_from.Goals as goal
 
 pub loop-r-init : goal.loop-r-init

@@ -6,7 +6,6 @@ use Rattle.column.specs.Column.{output_in}
 use Rattle.node_expression.specs.NodeExpression.{expression-legal}
 use Rattle.expression_file.specs.Accepted.{accepted-file}
 use lib.Seq.{length-take-le}
-use borrow.Author.Tests.{not-true, not-false}
 use native.Mathlib.Omega.{arith}
 use mathlib.Core.Path.{sym}
 use Rattle.table_application.proofs.apply_table.Goals as goal

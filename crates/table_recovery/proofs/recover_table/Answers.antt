@@ -1,7 +1,6 @@
 use native.Mathlib.Omega.{arith}
 use Rattle.recover_answer.specs.RecoverLaws.{entry-untyped, special-untyped, table-recovered, recovered-from}
 use Rattle.special_maps.specs.SpecialLaws.{subsets-size}
-use borrow.Author.Tests.{not-true, not-false}
 use Rattle.table_recovery.proofs.recover_table.Goals as goal
 
 pub entries_allowed-requires : goal.entries_allowed-requires

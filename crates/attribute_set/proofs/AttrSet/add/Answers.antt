@@ -2,7 +2,6 @@ use mathlib.Core.Path.{◌≡◌, sym, ap, ◌∙◌}
 use Prim.Native.Nat.{ℕ, ◌≤◌, ◌*◌, ◌^◌, ◌%◌}
 use native.Mathlib.Nat.{one-mul, mod-eq_of_lt}
 use native.Mathlib.Omega.{arith}
-use borrow.Author.Rules.{rules}
 use lib.Pow.{pow-lt}
 use Rattle.attribute_set.specs.Laws.{special-range}
 use Rattle.attribute_set.specs.AttrSet.{with_attribute, set_of}

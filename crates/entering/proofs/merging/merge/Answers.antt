@@ -1,6 +1,5 @@
 use Rattle.entering.specs.Merging.{merge-first, bounds, merge-entered}
 use mathlib.Core.Logic.{inl, inr}
-use borrow.Author.Tests.{ltb-false}
 use native.Mathlib.Omega.{arith}
 use Rattle.entering.proofs.merging.merge.Goals as goal
 

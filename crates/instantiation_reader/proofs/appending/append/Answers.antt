@@ -1,6 +1,5 @@
 use native.Mathlib.Nat.{le_trans}
 use Rattle.instantiation_reader.proofs.AppendedEntries.{adding-none, adding-room, adding-more, adding-end}
-use borrow.Author.Tests.{ltb-true, ltb-false}
 use native.Mathlib.Omega.{arith}
 use mathlib.Core.Logic.{inl, inr}
 use Rattle.instantiation_reader.proofs.appending.append.Goals as goal

@@ -1,6 +1,5 @@
 use Rattle.instantiation_writer.proofs.OneList.{follow-first, follow-bounds, follow-room, follow-next, follow-front, follow-whole}
 use lib.ListN.{length-set}
-use borrow.Author.Tests.{eqb-true, eqb-false}
 use native.Mathlib.Omega.{arith}
 use mathlib.Core.Logic.{inl, inr}
 use Rattle.instantiation_writer.proofs.lists.write_list.Goals.{then-loop-j-test+else-sorted-j, else-loop-j-test}

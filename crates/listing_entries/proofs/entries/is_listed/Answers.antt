@@ -1,6 +1,6 @@
 use mathlib.Core.Path.{subst}
 use native.Mathlib.Omega.{arith}
-use borrow.Author.Tests.{lt-ltb, le-ltb, not-true, not-false}
+use borrow.Author.Tests.{lt-ltb, le-ltb}
 use Rattle.bits.specs.Bit.{bit_test}
 use Rattle.listing_entries.specs.Entries.{KindFits}
 use Rattle.listing_entries.proofs.entries.is_listed.Goals as goal

@@ -1,5 +1,4 @@
 use native.Mathlib.Omega.{arith}
-use borrow.Author.Tests.{not-true, not-false}
 use Rattle.text.specs.Put.{wrote_none, wrote-more}
 use Rattle.listing_entries.specs.Entries.{entry_text}
 use Rattle.listing_entries.proofs.entries.write_entry.Goals as goal

@@ -8,7 +8,6 @@ use Rattle.query_operands.specs.Reading.{is_read, is-missing, reads_as}
 use Rattle.query_language.specs.Steps.{by-relation, by-pair, by-prefix}
 use Rattle.query_operands.specs.ReadingLaws.{room-placed, room-byte, room_after, is-prefix, room-prefix, prefixed-none, prefixed-half, prefixed-done}
 use Rattle.query_operands.specs.ReadingLaws.{is-sign, room-sign, pair-no-left, pair-no-sign, pair-no-right, pair-not-closed, pair-done}
-use borrow.Fn.PlainCycle.{is}
 use Rattle.query_operands.proofs.operands.+read_operand_read_pair.Goals as goal
 
 pub read_operand-read_relation-requires : goal.read_operand-read_relation-requires
@@ -22,7 +21,6 @@ read_operand-returns-then-b-eq114 t c =
 pub read_operand-read_pair-requires : goal.read_operand-read_pair-requires
 read_operand-read_pair-requires t c =
     let inside = byte_inside c.args.text.now c.args.at 40 (sym c.byte_at-b.ensures ∙ c.if-b-eq40.true) (lit≤ tt) in
-
     (omega arith, room-byte 40 c.requires (sym c.byte_at-b.ensures ∙ c.if-b-eq40.true) (lit≤ tt))
 
 pub read_operand-returns-then-b-eq40 : goal.read_operand-returns-then-b-eq40
@@ -38,7 +36,6 @@ read_operand-read_operand-requires t c =
     let prefix = is-prefix _ _ (sym c.in-Prefix.is ∙ c.prefix_at.ensures) in
     let later = room-prefix c.requires prefix in
     let room = later.1 in
-
     (omega arith, room)
 
 pub read_operand-overflow_sub-all : goal.read_operand-overflow_sub-all
@@ -92,7 +89,6 @@ read_operand-returns-in-Read t c =
 
 pub read_pair-read_operand-requires : goal.read_pair-read_operand-requires
 read_pair-read_operand-requires t c =
-
     (omega arith, c.requires)
 
 pub read_pair-overflow_add-a : goal.read_pair-overflow_add-a
@@ -108,7 +104,6 @@ read_pair-read_operand-requires-in-Operator t c =
     let sign = is-sign _ _ (sym c.in-Operator.is ∙ c.sign_at.ensures) in
     let first = room_after c.requires left in
     let room = room-sign first.room sign in
-
     (omega arith, room)
 
 pub read_pair-returns-then-byte_at-ne41 : goal.read_pair-returns-then-byte_at-ne41

@@ -1,6 +1,5 @@
 use mathlib.Core.Path.{sym, ◌∙◌}
 use native.Mathlib.Omega.{arith}
-use borrow.Author.Tests.{not-true, not-false}
 use Rattle.query_language.specs.NumberLaws.{digit-range}
 use Rattle.query_operands.specs.ReadingLaws.{relation-none, relation-done}
 use Rattle.query_operands.proofs.operands.read_relation.Goals as goal

@@ -1,5 +1,4 @@
 use mathlib.Core.Path.{sym, ◌∙◌}
-use mathlib.Core.Bool.{true}
 use native.Mathlib.Omega.{arith}
 use Rattle.query_language.specs.Steps.{items-none, items-below, items-last, items-other, items-next}
 use Rattle.query_prefixes.specs.AnswerLaws.{number_is, number-missing, number_read, comma-placed, list-none, list-last, list-more}

@@ -1,6 +1,5 @@
 use mathlib.Core.Path.{sym, ◌∙◌}
 use native.Mathlib.Omega.{arith}
-use borrow.Author.Tests.{not-true, not-false}
 use Rattle.query_language.specs.NumberLaws.{digit-range}
 use Rattle.query_language.specs.Steps.{digit-none, digit-zero, digits-two, digits-one}
 use Rattle.query_prefixes.specs.AnswerLaws.{number-found, number-none}
