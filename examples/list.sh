@@ -9,8 +9,9 @@ fi
 exec 3<"$1"
 cd "$(dirname "$0")/.."
 program=target/bin/list_formula
-if [ ! -x $program ] || [ -n "$(find crates crates.txt -type f -newer $program)" ]; then
-    rt check list_formula >&2
-    touch $program
+if [ ! -x $program ] || [ -n "$(find crates crates.txt -name out -prune -o -type f -newer $program -print)" ]; then
+    rt run list_formula </dev/null >/dev/null
+    mkdir -p target/bin
+    cp crates/list_formula/out/list_formula $program
 fi
 exec $program <&3

@@ -8,8 +8,9 @@ if [ $# -ne 2 ]; then
 fi
 cd "$(dirname "$0")/.."
 program=target/bin/list_query
-if [ ! -x $program ] || [ -n "$(find crates crates.txt -type f -newer $program)" ]; then
-    rt check list_query >&2
-    touch $program
+if [ ! -x $program ] || [ -n "$(find crates crates.txt -name out -prune -o -type f -newer $program -print)" ]; then
+    rt run list_query </dev/null >/dev/null
+    mkdir -p target/bin
+    cp crates/list_query/out/list_query $program
 fi
 exec $program "$1" "$2"

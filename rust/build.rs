@@ -30,7 +30,7 @@ fn main() {
     if !archive.exists() {
         println!(
             "cargo:warning=there is no {}; the command that makes it, \
-             run in the top folder of the repository, is: rt staticlib type_formula",
+             run in the top folder of the repository, is: sh tools/build.sh type_formula",
             archive.display()
         );
     }

@@ -107,7 +107,7 @@
 //!
 //! # The archive
 //!
-//! The compiled functions are in `libtype_formula.a`, which `rt staticlib type_formula`, run in the
+//! The compiled functions are in `libtype_formula.a`, which `sh tools/build.sh type_formula`, run in the
 //! top folder of the repository, writes to `target/staticlib`. The environment variable
 //! `TYPE_FORMULA_ARCHIVE_DIR` names another folder.
 #![no_std]

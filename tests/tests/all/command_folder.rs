@@ -9,7 +9,7 @@ use std::time::{Duration, SystemTime};
 
 /// In the place of `rt` where something is not proved.
 const FAILING_RT: &str = "#!/bin/sh
-echo 'rt: bits NOT PROVED'
+echo 'rt: bits NOT PROVED' >&2
 exit 1
 ";
 
@@ -35,14 +35,15 @@ impl Tested {
         let (program, body) = (self.program, self.body);
         format!(
             "#!/bin/sh
-[ \"$*\" = 'check {program}' ] || exit 2
-echo 'rt: bits proved (1 s)'
-mkdir -p target/bin
-cat >target/bin/{program} <<'END'
+[ \"$*\" = 'run {program}' ] || exit 2
+echo 'rt: bits proved (1 s)' >&2
+mkdir -p crates/{program}/out
+cat >crates/{program}/out/{program} <<'END'
 #!/bin/sh
 {body}
 END
-chmod +x target/bin/{program}
+chmod +x crates/{program}/out/{program}
+echo 'what the program prints'
 "
         )
     }

@@ -1,0 +1,20 @@
+#!/bin/sh
+# Proves and builds the archive of the C functions and the programs, and puts them where the tests and callers look for
+# them: target/staticlib/libtype_formula.a, and target/bin/NAME. With names, these alone.
+set -eu
+cd "$(dirname "$0")/.."
+[ $# -gt 0 ] || set -- type_formula list_formula list_query print_agreement print_round_trip
+for name; do
+    case $name in
+    type_formula)
+        rt lib "$name"
+        mkdir -p target/staticlib
+        cp "crates/$name/out/lib$name.a" target/staticlib/
+        ;;
+    *)
+        rt run "$name" </dev/null >/dev/null
+        mkdir -p target/bin
+        cp "crates/$name/out/$name" target/bin/
+        ;;
+    esac
+done
