@@ -9,8 +9,8 @@ use Rattle.set_cover.specs.Remainder.{rest, rest-and, rest-least}
 use Rattle.set_cover.specs.Least.{infinity}
 use Rattle.set_cover.specs.Cost.{cost}
 use Rattle.set_cover.specs.Choice.{picked, best, best_variables, best-next, best-variables}
-use Rattle.set_cover.specs.Cheapest.{special-picked}
-use Rattle.set_cover.specs.BestLaws.{best-least}
+use Rattle.set_cover.proofs.Cheapest.{special-picked}
+use Rattle.set_cover.proofs.BestLaws.{best-least}
 use Rattle.cover_rows.specs.Rows.{price_in}
 use Rattle.cover_rows.specs.Holding.{Holds, Allows, pick-special}
 use Rattle.verdict_answer.specs.Witness.{specials_of}

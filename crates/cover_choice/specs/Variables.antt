@@ -12,7 +12,7 @@ use Rattle.set_cover.specs.Remainder.{rest, rest-and, rest-fewer}
 use Rattle.set_cover.specs.Least.{infinity}
 use Rattle.set_cover.specs.Cost.{cost}
 use Rattle.set_cover.specs.Choice.{picked, best_variables, picked_variable, variables-step, no-variables}
-use Rattle.set_cover.specs.Cheapest.{variable-picked, takes}
+use Rattle.set_cover.proofs.Cheapest.{variable-picked, takes}
 use Rattle.cover_rows.specs.Rows.{price_in}
 use Rattle.cover_rows.specs.Holding.{Holds, Allows, pick-variable}
 use Rattle.verdict_answer.specs.Witness.{choice_in, numbered, ordinaries_of}

@@ -15,7 +15,8 @@ use Rattle.set_cover.specs.Remainder.{rest, rest-least}
 use Rattle.set_cover.specs.Least.{infinity, least, least-same}
 use Rattle.set_cover.specs.Cost.{price, cost, cost-next}
 use Rattle.set_cover.specs.Choice.{picked, picked-lowest}
-use Rattle.set_cover.specs.Shortcuts.{covering, covering-none, covering-next, covering-is}
+use Rattle.set_cover.specs.Shortcuts.{covering, covering-none, covering-next}
+use Rattle.set_cover.proofs.Shortcuts.{covering-is}
 use Rattle.cover_rows.specs.Rows.{Costs, price_in, cost_row}
 
 -- the row has the values of f at the needs below N

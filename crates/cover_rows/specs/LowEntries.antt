@@ -13,7 +13,8 @@ use Rattle.std.proofs.lemmas.List.Edits.{length-paste}
 use Rattle.bits.specs.AllBelow.{all_below, all_in}
 use Rattle.bits.specs.Written.{Written}
 use Rattle.copying.specs.Copied.{paste-front, paste-outside}
-use Rattle.set_cover.specs.Remainder.{rest, rest-least, rest-none, rest-again, rest-union}
+use Rattle.set_cover.specs.Remainder.{rest, rest-least, rest-none, rest-again}
+use Rattle.set_cover.proofs.Remainder.{rest-union}
 use Rattle.cover_rows.specs.Blocks.{WrittenAt, block_more, rest-low}
 
 -- the entry of a row at what remains of x without the relations of a subset

@@ -11,7 +11,8 @@ use Rattle.bits.specs.Part.{part-from}
 use Rattle.copying.specs.Copied.{paste-inside, paste-outside}
 use Rattle.set_cover.specs.Least.{infinity}
 use Rattle.set_cover.specs.Cost.{cost}
-use Rattle.set_cover.specs.Shortcuts.{cost-most, covering, covering-settled, skip-cost}
+use Rattle.set_cover.specs.Shortcuts.{cost-most, covering}
+use Rattle.set_cover.proofs.Shortcuts.{covering-settled, skip-cost}
 use Rattle.cover_rows.specs.Rows.{Costs, CostsUpTo, cost_row, row-length, row-costs}
 use Rattle.cover_rows.specs.Holding.{Holds, Allows, rows-hold, start-row as start_is, start-costs, covering-start, covering-row, covering-all}
 use Rattle.verdict_answer.specs.Witness.{cost_in}

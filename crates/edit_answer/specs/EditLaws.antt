@@ -21,7 +21,8 @@ use Rattle.expression_file.specs.declared.files.Acceptance.TheVariants.{Accepted
 use Rattle.expression_file.specs.ReadFile.{acceptance}
 use Rattle.expression_file.specs.Accepted.{accepted-file}
 use Rattle.expression_file.specs.Walk.{longest_file, file-most}
-use Rattle.expression_file.specs.Exchanged.{exchanged, exchanged-accepted}
+use Rattle.expression_file.specs.Exchanged.{exchanged}
+use Rattle.expression_file.proofs.Exchanged.{exchanged-accepted}
 use Rattle.admission.specs.Admission.{asked}
 use Rattle.admission.specs.AdmissionLaws.{tested-refused, tested-stops, tested-passes, passed, asked-passed}
 use Rattle.edit_answer.specs.declared.Editing.{Editing}

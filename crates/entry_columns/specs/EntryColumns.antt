@@ -14,7 +14,8 @@ use Rattle.bits.specs.Booleans.{and_left, and_right}
 use Rattle.bits.specs.Pack.{bits-once}
 use Rattle.type_sets.specs.Sets.{relation_word}
 use Rattle.type_sets.specs.SetLaws.{one_table}
-use Rattle.type_sets.specs.SetCells.{relation-bit, relation-below}
+use Rattle.type_sets.specs.SetCells.{relation-below}
+use Rattle.type_sets.proofs.SetCells.{relation-bit}
 
 -- ---- the bits of a word shifted to the left
 

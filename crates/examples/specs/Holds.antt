@@ -32,7 +32,7 @@ use Rattle.set_cover.specs.Choice.{picked, best_variables, best}
 use Rattle.verdict_answer.specs.First.{lowest_with, fewest_in, blocked_by}
 use Rattle.verdict_answer.specs.Witness.{cost_in, choice_in, specials_of, ordinaries_of, witness_bytes}
 use Rattle.verdict_answer.specs.Verdict.{untypable_in, outcome, outcome_in, schema_in, verdict_answer, verdict_schema}
-use Rattle.verdict_answer.specs.VerdictLaws.{verdict-passes}
+use Rattle.verdict_answer.proofs.VerdictLaws.{verdict-passes}
 use Rattle.type_record.specs.Lists.{read_from, read_list, listed}
 use Rattle.type_record.specs.Record.{read_record, record_size, record_at, record_bytes, output_size}
 use Rattle.type_record.specs.RecordBytes.{record-length}
@@ -44,7 +44,7 @@ use Rattle.schema.specs.declared.reading.Judgement.TheVariants.{Read, Refused as
 use Rattle.filled_schema.specs.FilledSchema.{table_filled, filled_reading}
 use Rattle.table_types.specs.Output.{typed_in, output_map, output_list}
 use Rattle.typing_answer.specs.Typing.{typed_answer, table_answer, typed_out, table_out, typing_answer, typing_out}
-use Rattle.typing_answer.specs.TypingLaws.{schema-stops, schema-goes, typing-goes}
+use Rattle.typing_answer.proofs.TypingLaws.{schema-stops, schema-goes, typing-goes}
 use Rattle.typing_answer.specs.declared.Answer.{Answer}
 use Rattle.typing_answer.specs.declared.Answer.TheVariants.{Typed, Untyped, Refused as TypingRefused}
 use Rattle.instantiation.specs.Instantiation.{read_lists, entries_in, subsets_of, refused_instantiation, instantiation_reading}

@@ -28,7 +28,7 @@ use Rattle.expression_file.specs.declared.files.Acceptance.TheVariants.{Accepted
 use Rattle.algebra.specs.Expression.{Expression, Legal, relation, binary, product, with_set, projection}
 use Rattle.algebra.specs.Rules.{Typed, relations, projections}
 use Rattle.algebra.specs.Cell.{plain, ok}
-use Rattle.algebra.specs.ByAttribute.{typed-cells}
+use Rattle.algebra.proofs.ByAttribute.{typed-cells}
 use Rattle.node_expression.specs.NodeExpression.{expression_at, expression-legal, earlier, named}
 use Rattle.type_record.specs.Record.{record_size, record_bytes, output_size}
 use Rattle.schema.specs.Schema.{assignment_of, entries_of, maps_of}
@@ -39,7 +39,7 @@ use Rattle.filled_schema.specs.FilledRecords.{table_filled_lem}
 use Rattle.filled_schema.specs.FilledLaws.{filled-schema}
 use Rattle.table_types.specs.Output.{typed_in, output_map, output_list}
 use Rattle.typing_answer.specs.Typing.{typing_answer, typing_out}
-use Rattle.typing_answer.specs.TypingLaws.{answer_typed, answer-untyped, out-typed, out-untyped, typing-records}
+use Rattle.typing_answer.proofs.TypingLaws.{answer_typed, answer-untyped, out-typed, out-untyped, typing-records}
 use Rattle.typing_answer.specs.declared.Answer.TheVariants.{Typed as TypedAnswer, Untyped}
 use Rattle.typing_theorems.specs.TableTyped.{table-rules}
 use Rattle.examples.specs.Cases.{e7, e8}

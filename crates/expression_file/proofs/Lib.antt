@@ -1,1 +1,3 @@
 mod CheckedNodes
+pub mod Exchanged
+pub mod WrittenFile

@@ -14,7 +14,7 @@ use Rattle.expression_file.specs.declared.files.Acceptance.{Acceptance}
 use Rattle.expression_file.specs.declared.files.Acceptance.TheVariants.{Accepted, Refused}
 use Rattle.node.specs.ReadNode.{read_node}
 use Rattle.expression_file.specs.ReadFile.{PlacedNode, Nodes, follow, read_nodes, collect, after_header, header, parse, answer, acceptance, nodes_in, placed_nodes}
-use Rattle.node.specs.Enough.{node-local}
+use Rattle.node.proofs.Enough.{node-local}
 use Rattle.node.specs.Reading.{node-legal, node-refused}
 
 -- ---- the counts

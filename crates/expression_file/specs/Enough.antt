@@ -14,7 +14,7 @@ use Rattle.expression_file.specs.declared.files.Acceptance.TheVariants.{Accepted
 use Rattle.node.specs.ReadNode.{read_node}
 use Rattle.expression_file.specs.ReadFile.{PlacedNode, Nodes, follow, read_nodes, header, collect, after_header, parse, answer, acceptance}
 use Rattle.node.specs.Reading.{node-legal}
-use Rattle.node.specs.Enough.{node-enough}
+use Rattle.node.proofs.Enough.{node-enough}
 use Rattle.expression_file.specs.Accepted.{header-counts}
 
 -- ---- so many nodes: more than five bytes each are enough

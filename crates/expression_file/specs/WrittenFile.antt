@@ -1,22 +1,18 @@
 -- Files made of nodes: they are accepted, and their nodes are those that they were made of.
-use Prim.Native.Nat.{ℕ, zero, suc, ◌+◌, ◌*◌, ◌≤◌}
-use Rattle.std.specs.Prelude.{◌≡◌}
+use Prim.Native.Nat.{ℕ, suc, ◌+◌, ◌*◌, ◌≤◌}
+use Rattle.std.specs.Prelude.{◌≡◌, []}
 use Rattle.std.proofs.Math.Path.{refl, ap}
-use Rattle.std.proofs.Common.{sym, subst, ◌∙◌, add-zero, arith, le-ltb, length-append}
-use Rattle.std.proofs.Math.Bool.{not}
-use mathlib.Core.List.{List, [], ◌∷◌, ◌++◌, append_assoc, append-nil}
-use Rattle.std.proofs.Math.ListN.{length, get_or}
-use Rattle.bits.specs.Range.{range-in}
-use Rattle.refusal.specs.Chain.{refuse-passes}
+use Rattle.std.proofs.Common.{sym, subst, ◌∙◌, add-zero, arith, length-append}
+use mathlib.Core.List.{List, ◌∷◌, ◌++◌, append_assoc, append-nil}
+use Rattle.std.proofs.Math.ListN.{length}
 use Rattle.refusal.specs.Several.{several_read as nodes_read}
 use Rattle.node.specs.declared.nodes.Node.{Node}
-use Rattle.node.specs.declared.nodes.Node.TheVariants.{Relation}
 use Rattle.node.specs.ReadNode.{read_node}
 use Rattle.node.specs.Legal.{LegalNode}
-use Rattle.node.specs.NodeBytes.{node_bytes, bytes_most, bytes_read}
-use Rattle.expression_file.specs.declared.files.Acceptance.TheVariants.{Accepted}
-use Rattle.expression_file.specs.ReadFile.{PlacedNode, read_nodes, header, acceptance, placed_at, node_at}
-use Rattle.expression_file.specs.Accepted.{front-node, FileRead, read-file}
+use Rattle.node.specs.NodeBytes.{node_bytes, bytes_most}
+use Rattle.node.proofs.NodeBytes.{bytes_read}
+use Rattle.expression_file.specs.ReadFile.{PlacedNode, read_nodes}
+use Rattle.expression_file.specs.Accepted.{front-node}
 
 -- the bytes of nodes, each directly after the one before
 unfoldable pub nodes_bytes : List Node → List ℕ
@@ -75,11 +71,11 @@ legal-append m k n (x ∷ ns) os e a b = (a.0, legal-append m (k + 1) (length ns
 -- ---- reading
 
 -- each node with its bytes
-placed_of : List Node → List PlacedNode
+unfoldable pub placed_of : List Node → List PlacedNode
 placed_of [] = []
 placed_of (n ∷ ns) = record { node = n; bytes = node_bytes n } ∷ placed_of ns
 
-nodes-read : (m k : ℕ) (ns : List Node) → LegalNodes m k ns → read_nodes m (length ns) k (nodes_bytes ns) ≡ nodes_read (placed_of ns)
+pub nodes-read : (m k : ℕ) (ns : List Node) → LegalNodes m k ns → read_nodes m (length ns) k (nodes_bytes ns) ≡ nodes_read (placed_of ns)
 unfolding read_nodes nodes_bytes placed_of
 nodes-read m k [] legal = refl
 nodes-read m k (n ∷ ns) legal =
@@ -93,29 +89,3 @@ pub record FileNodes (m : ℕ) (ns : List Node) : Type 0 where
   pub relations : (1 ≤ m) × (m ≤ 8)
   pub count : (1 ≤ length ns) × (length ns ≤ 64)
   pub legal : LegalNodes m 0 ns
-
-module _ (m : ℕ) (ns : List Node) (nodes : FileNodes m ns) where
-  file-header : header (file_of m ns) ≡ Accepted m (length ns)
-  unfolding header file_of
-  file-header =
-      refuse-passes _ _ _ _ (le-ltb (length (m ∷ length ns ∷ nodes_bytes ns)) 2 (omega arith))
-      ∙ refuse-passes _ _ _ _ (ap not (range-in 1 8 m nodes.relations.0 nodes.relations.1))
-      ∙ refuse-passes _ _ _ _ (ap not (range-in 1 64 (length ns) nodes.count.0 nodes.count.1))
-
-  file-read : FileRead (file_of m ns) m (length ns) (placed_of ns)
-  unfolding file_of
-  file-read = read-file (file_of m ns) m (length ns) (placed_of ns) file-header (nodes-read m 0 ns nodes.legal)
-
-  -- it is accepted
-  pub file-accepted : acceptance (file_of m ns) ≡ Accepted m (length ns)
-  file-accepted = file-read.accepted
-
-  -- its nodes are these
-  pub file-node : (k : ℕ) → node_at (file_of m ns) k ≡ get_or ns k (Relation 0)
-  unfolding placed_at placed_of
-  file-node k = ap (λ (es : List PlacedNode). (get_or es k (record { node = Relation 0; bytes = [] })).node) file-read.nodes ∙ go ns k
-    where
-      go : (ns : List Node) (k : ℕ) → (get_or (placed_of ns) k (record { node = Relation 0; bytes = [] })).node ≡ get_or ns k (Relation 0)
-      go [] k = refl
-      go (n ∷ ns) zero = refl
-      go (n ∷ ns) (suc k) = go ns k

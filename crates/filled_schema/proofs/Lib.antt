@@ -1,3 +1,4 @@
 mod HoldersResumed
 mod RelationsTested
 mod Tested
+pub mod FilledLaws

@@ -13,7 +13,8 @@ use Rattle.bits.specs.Rising.{member}
 use Rattle.bits.specs.Truth.{is_true, by-true, by-false, left, right}
 use Rattle.types.specs.Memberships.{members, members-none}
 use Rattle.verdict_answer.specs.First.{fewest_in}
-use Rattle.verdict_answer.specs.FewestLaws.{Fewest, rank, fewest-once, fewest-in}
+use Rattle.verdict_answer.specs.FewestLaws.{Fewest, rank, fewest-once}
+use Rattle.verdict_answer.proofs.FewestLaws.{fewest-in}
 
 -- ---- the test
 

@@ -1,5 +1,5 @@
 -- The map by the subsets of the entries, one entry after the other.
-use Rattle.std.specs.Prelude.{ℕ, zero, suc, ◌+◌, ◌*◌, ◌/◌, ◌%◌, ◌^◌, ◌<◌, ◌≡◌, refl, Bool, false, not, List, [], ◌∷◌, map, length, get_or, take}
+use Rattle.std.specs.Prelude.{ℕ, zero, suc, ◌+◌, ◌*◌, ◌/◌, ◌%◌, ◌^◌, ◌<◌, ◌≡◌, refl, Bool, false, not, List, ◌∷◌, map, length, get_or, take, []}
 use Rattle.std.proofs.Math.Path.{sym, ap, ap₂}
 use Rattle.std.proofs.Common.{◌∙◌}
 use Rattle.std.proofs.Math.Bool.{◌||◌, or_assoc, or-false}
@@ -13,10 +13,8 @@ use Rattle.std.proofs.Math.Pow.{pow-lt}
 use Rattle.bits.specs.Bit.{bit-or, bit-power, bit-none, shifted_one}
 use Rattle.bits.specs.Pack.{pack, bit-pack, pack-below, pack-same, byte-is}
 use Rattle.bits.specs.Rising.{member}
-use Rattle.bits.specs.Tab.{tab, tab-is, length-tab, get_or-tab}
 use Rattle.membership.specs.Entries.{subset_of}
-use Rattle.instantiation.specs.Instantiation.{with_subset, lists_of, map_byte}
-use Rattle.instantiation.specs.EntriesLaws.{list_at_lem}
+use Rattle.instantiation.specs.Instantiation.{with_subset}
 
 -- byte j of the map
 unfoldable pub bits_of : List ℕ → ℕ → ℕ
@@ -66,18 +64,10 @@ module _ (es : List ℕ) (i : ℕ) (inside : i < length es) where
 
 -- ---- the lists that are not empty
 
-member-some : (s : ℕ) (es : List ℕ) → member s (map subset_of es) ≡ not (eqb (length (with_subset s es)) 0)
+pub member-some : (s : ℕ) (es : List ℕ) → member s (map subset_of es) ≡ not (eqb (length (with_subset s es)) 0)
 member-some s [] = refl
 member-some s (e ∷ es) = go (ℕ_discrete s (subset_of e)) (member-some s es)
   where
     go : Dec (s ≡ subset_of e) → member s (map subset_of es) ≡ not (eqb (length (with_subset s es)) 0) → eqb s (subset_of e) || member s (map subset_of es) ≡ not (eqb (length (with_subset s (e ∷ es))) 0)
     go (yes is) rest = rw (eq-eqb s (subset_of e) is, eq-eqb (subset_of e) s (sym is)) (ap not (sym (eqb-suc-zero (length (with_subset s es)))))
     go (no other) rest = rw (ne_eqb s (subset_of e) other, ne_eqb (subset_of e) s (λ k. other (sym k))) rest
-
-pub bits-all : (es : List ℕ) → tab 32 (bits_of es) ≡ tab 32 (map_byte (lists_of es))
-unfolding bits_of map_byte
-bits-all es =
-    tab-is 32 (map_byte (lists_of es)) 0 (tab 32 (bits_of es)) (length-tab 32 (bits_of es))
-    (λ j below. get_or-tab 32 (bits_of es) j 0 below
-    ∙ pack-same 8 (λ i. member (j * 8 + i) (map subset_of es)) (λ i. not (eqb (length (get_or (lists_of es) (j * 8 + i) [])) 0))
-    (λ i inside. member-some (j * 8 + i) es ∙ ap (λ (l : List ℕ). not (eqb (length l) 0)) (sym (list_at_lem es (j * 8 + i) (omega arith)))))

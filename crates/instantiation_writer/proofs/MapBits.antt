@@ -11,7 +11,8 @@ use lib.Seq.{get_or-take, get_or-set_same, get_or-set_other, length-take-le, tak
 use Rattle.bits.specs.Tab.{tab, length-tab, get_or-tab, over, over-front, over-covered}
 use Rattle.bits.specs.Written.{Written, written_all}
 use Rattle.instantiation.specs.Instantiation.{lists_of, map_byte}
-use Rattle.instantiation.specs.SubsetBits.{bits_of, bits_none, bits-here, bits-other, bits-all}
+use Rattle.instantiation.specs.SubsetBits.{bits_of, bits_none, bits-here, bits-other}
+use Rattle.instantiation.proofs.SubsetBits.{bits-all}
 
 pub record Mapping (es old out : List ℕ) (i : ℕ) : Type 0 where
   pub up_to : i ≤ length es

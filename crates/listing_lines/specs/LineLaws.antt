@@ -16,7 +16,7 @@ use Rattle.stored_formula.specs.FormulaBytesLaws.{output-within}
 use Rattle.stored_formula.specs.NodeColumn.{cell-allowed, cell-output}
 use Rattle.verdict_answer.specs.First.{allowed_at}
 use Rattle.verdict_answer.specs.FirstLaws.{stored-cells}
-use Rattle.verdict_answer.specs.VerdictLaws.{same-untypable}
+use Rattle.verdict_answer.proofs.VerdictLaws.{same-untypable}
 use Rattle.listing_entries.specs.declared.entries.Kind.TheVariants.{Variables, Output, Signed}
 use Rattle.text.specs.Characters.{decimal, subset_text, newline}
 use Rattle.text.specs.Each.{each, each_same}

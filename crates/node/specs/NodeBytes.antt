@@ -1,5 +1,5 @@
 -- The bytes of a node (FORMAT 1.4): reading them gives the node back, and what is read is made of them.
-use Rattle.std.specs.Prelude.{ℕ, ◌+◌, ◌*◌, ◌/◌, ◌%◌, ◌≤◌, ◌<◌, ◌≡◌, refl, Bool, true, false, cond, not, List, [], ◌∷◌, ◌++◌, eqb, length, get_or, take}
+use Rattle.std.specs.Prelude.{ℕ, ◌+◌, ◌*◌, ◌/◌, ◌%◌, ◌≤◌, ◌<◌, ◌≡◌, refl, Bool, true, false, cond, not, List, ◌∷◌, ◌++◌, eqb, length, get_or, take, []}
 use Rattle.std.proofs.Common.{sym, ap, ap₂, subst, ◌∙◌, arith, lit≤}
 use borrow.Author.Tests.{le-ltb, lt-leb, eqb-true, eqb-false, not-false}
 use Rattle.bits.specs.Bit.{bit}
@@ -22,7 +22,7 @@ use Rattle.node.specs.declared.checking.Check.TheVariants.{Legal, Refused}
 use Rattle.node.specs.Operators.{binary_of, set_op_of, binary_code, set_code}
 use Rattle.node.specs.ReadNode.{size_of, value_of, check_fields, check_node, node_with, node_of, read_node}
 use Rattle.node.specs.Legal.{legal-cases, LegalNode, node-passed}
-use Rattle.node.specs.Reading.{checked-read, read-checked}
+use Rattle.node.specs.Reading.{read-checked}
 
 -- FORMAT 1.4: the map and the fields
 abbrev pub node_bytes : Node → List ℕ
@@ -55,7 +55,7 @@ set-code-known Selection = (range-in 5 6 5 (lit≤ tt) (lit≤ tt), refl)
 set-code-known Projection = (range-in 5 6 6 (lit≤ tt) (lit≤ tt), refl)
 
 -- the bytes of a legal node, whatever follows them, pass the check
-bytes-checked : (m k : ℕ) (node : Node) (rest : List ℕ) → LegalNode m k node → check_node m k (node_bytes node ++ rest) ≡ Legal (length (node_bytes node))
+pub bytes-checked : (m k : ℕ) (node : Node) (rest : List ℕ) → LegalNode m k node → check_node m k (node_bytes node ++ rest) ≡ Legal (length (node_bytes node))
 unfolding check_node check_fields size_of
 bytes-checked m k (Relation r) rest h =
     let bytes : List ℕ = 1 ∷ r ∷ rest in
@@ -98,7 +98,7 @@ bytes-checked m k (ProjectingOut o old) rest h =
     ∙ refuse-passes _ _ _ _ (ap not h.1)
 
 -- they are those of that node
-bytes-node : (node : Node) (rest : List ℕ) → node_of (node_bytes node ++ rest) ≡ node
+pub bytes-node : (node : Node) (rest : List ℕ) → node_of (node_bytes node ++ rest) ≡ node
 unfolding node_of
 bytes-node (Relation r) rest = refl
 bytes-node (Binary op l r) rest = ap (λ (o : BinaryOp). Binary o l r) (code-known op).1
@@ -107,12 +107,6 @@ bytes-node (WithSet op k s) rest =
     ap₂ (λ (o : SetOp) (t : AttrSet). WithSet o k t) (set-code-known op).1 (ap set_of value ∙ set-bits s)
 bytes-node (Renaming k old new) rest = refl
 bytes-node (ProjectingOut k old) rest = refl
-
--- the bytes of a legal node, whatever follows them, are read as that node
-pub bytes_read : (m k : ℕ) (node : Node) (rest : List ℕ) → LegalNode m k node → read_node m k (node_bytes node ++ rest) ≡ Read node (length (node_bytes node))
-bytes_read m k node rest h =
-    checked-read m k (node_bytes node ++ rest) (length (node_bytes node)) (bytes-checked m k node rest h)
-    ∙ ap (λ (n : Node). Read n (length (node_bytes node))) (bytes-node node rest)
 
 -- ---- and back: what is read is made of its node's bytes
 

@@ -10,7 +10,8 @@ use Rattle.expression_file.specs.declared.files.Acceptance.{Acceptance}
 use Rattle.expression_file.specs.declared.files.Acceptance.TheVariants.{Accepted, Refused as FileRefused}
 use Rattle.expression_file.specs.ReadFile.{acceptance}
 use Rattle.expression_file.specs.Accepted.{accepted-file}
-use Rattle.expression_file.specs.Exchanged.{exchanged, exchanged-accepted}
+use Rattle.expression_file.specs.Exchanged.{exchanged}
+use Rattle.expression_file.proofs.Exchanged.{exchanged-accepted}
 use Rattle.admission.specs.Admission.{admitted, formula_size}
 use Rattle.admission.specs.AdmissionLaws.{Admits, admitted-passed}
 use Rattle.edit_answer.specs.Edit.{check_record, recorded}
@@ -20,7 +21,8 @@ use Rattle.stored_formula.specs.FormulaBytes.{allowed_bit, formulas_of}
 use Rattle.verdict_answer.specs.First.{allowed_at}
 use Rattle.verdict_answer.specs.Formed.{Formed}
 use Rattle.verdict_answer.specs.Verdict.{outcome_in}
-use Rattle.verdict_answer.specs.VerdictLaws.{filled-formed, filled-outcome}
+use Rattle.verdict_answer.specs.VerdictLaws.{filled-formed}
+use Rattle.verdict_answer.proofs.VerdictLaws.{filled-outcome}
 use Rattle.verdict_answer.specs.Typability.{without_witness}
 use Rattle.verdict_answer.specs.declared.Typability.{Typability}
 use Rattle.verdict_answer.specs.declared.Typability.TheVariants.{Refused}

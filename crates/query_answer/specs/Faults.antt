@@ -1,9 +1,9 @@
 -- The numbers of a query that are out of their ranges, from left to right (FORMAT 11.8).
-use Rattle.std.specs.Prelude.{ℕ, ◌<◌, ◌≡◌, Bool, cond, ◌&&◌, ltb}
+use Rattle.std.specs.Prelude.{ℕ, ◌≡◌, Bool, cond, ◌&&◌, ltb, []}
 use Rattle.std.proofs.Math.Path.{refl, ap}
-use Rattle.std.proofs.Common.{sym, ◌∙◌, arith, ltb-true}
+use Rattle.std.proofs.Common.{sym, ◌∙◌, arith}
 use Rattle.std.proofs.Math.Bool.{true, false}
-use mathlib.Core.List.{List, [], ◌∷◌, ◌++◌}
+use mathlib.Core.List.{List, ◌∷◌, ◌++◌}
 use Rattle.refusal.specs.declared.Refusal.{Refusal}
 use Rattle.refusal.specs.declared.Refusal.TheVariants.{RelationNumber, Attribute}
 use Rattle.attribute_set.specs.AttrSet.{special}
@@ -89,35 +89,21 @@ module _ (m : ℕ) where
       ∙ ap (λ (f : Fault). leftmost f (first_of (faults_of m q))) (first-attributes (prefix_attributes p))
 
 -- a list without a first has none
-first-none : (rs : List Refusal) → first_of rs ≡ NoFault → rs ≡ []
+pub first-none : (rs : List Refusal) → first_of rs ≡ NoFault → rs ≡ []
 unfolding first_of
 first-none [] e = refl
 first-none (r ∷ rs) e = absurd (let z : ◌≡◌ {A = ℕ} 0 1 = cc in omega arith)
 
 -- ---- queries in which nothing is out of range
 
-leftmost-none : (f g : Fault) → leftmost f g ≡ NoFault → (f ≡ NoFault) × (g ≡ NoFault)
+pub leftmost-none : (f g : Fault) → leftmost f g ≡ NoFault → (f ≡ NoFault) × (g ≡ NoFault)
 leftmost-none NoFault g e = (refl, e)
 leftmost-none (First r) g e = absurd (let z : ◌≡◌ {A = ℕ} 0 1 = cc in omega arith)
 
-guard_none : (t : Bool) (r : Refusal) → cond t NoFault (First r) ≡ NoFault → t ≡ true
+pub guard_none : (t : Bool) (r : Refusal) → cond t NoFault (First r) ≡ NoFault → t ≡ true
 guard_none true r e = refl
 guard_none false r e = absurd (let z : ◌≡◌ {A = ℕ} 0 1 = cc in omega arith)
 
-none_first : (rs : List Refusal) → rs ≡ [] → first_of rs ≡ NoFault
+pub none_first : (rs : List Refusal) → rs ≡ [] → first_of rs ≡ NoFault
 unfolding first_of
 none_first rs e = rw e
-
-module _ (m : ℕ) where
-  pub faultless-relation : (r : ℕ) → faults_of m (relation r) ≡ [] → r < m
-  faultless-relation r e = ltb-true r m (guard_none (ltb r m) RelationNumber (sym (fault-relation m r) ∙ none_first _ e))
-
-  pub faultless-pair : (op : BinaryOp) (l r : Query) → faults_of m (pair op l r) ≡ [] → (faults_of m l ≡ []) × (faults_of m r ≡ [])
-  faultless-pair op l r e =
-      let both = leftmost-none _ _ (sym (fault-pair m op l r) ∙ none_first _ e) in
-      (first-none _ both.0, first-none _ both.1)
-
-  pub faultless-prefixed : (p : Prefix) (q : Query) → faults_of m (prefixed p q) ≡ [] → (all_special (prefix_attributes p) ≡ true) × (faults_of m q ≡ [])
-  faultless-prefixed p q e =
-      let both = leftmost-none _ _ (sym (fault-prefixed m p q) ∙ none_first _ e) in
-      (guard_none (all_special (prefix_attributes p)) Attribute both.0, first-none _ both.1)

@@ -9,7 +9,8 @@ use Rattle.node.specs.declared.nodes.Node.TheVariants.{Relation, Binary, WithSet
 use Rattle.node.specs.NodeBytes.{node_bytes, bytes_most}
 use Rattle.expression_file.specs.WrittenFile.{nodes_bytes, file_of, nodes-one, nodes-append, file-bytes, written-most}
 use Rattle.query_language.specs.Query.{Prefix, with_set, renaming, projecting_out, Query, relation, pair, prefixed, node_count}
-use Rattle.query_language.specs.Sizes.{query_size, relation-size, pair_size, prefixed-size, prefix-some}
+use Rattle.query_language.specs.Sizes.{query_size, relation-size, prefixed-size, prefix-some}
+use Rattle.query_language.proofs.Sizes.{pair_size}
 
 -- FORMAT 11.6: the node of a prefix over the node of its operand
 abbrev pub prefix_node : Prefix → ℕ → Node

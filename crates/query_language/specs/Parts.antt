@@ -1,11 +1,10 @@
 -- The parts of a query's text (FORMAT 11.6): each relation, pair and prefixed operand with the place where its text
 -- begins and the place after it, in the order in which they are numbered as nodes.
-use Rattle.std.specs.Prelude.{ℕ, zero, suc, ◌+◌, ◌≤◌, ◌<◌, ◌≡◌, refl, List, [], ◌∷◌, ◌++◌, length, get_or, drop}
-use Rattle.std.proofs.Common.{sym, ap, ◌∙◌, arith, length-append}
+use Rattle.std.specs.Prelude.{ℕ, zero, suc, ◌+◌, ◌≤◌, ◌<◌, ◌≡◌, refl, List, ◌∷◌, ◌++◌, length, get_or, drop, []}
+use Rattle.std.proofs.Common.{sym, arith, length-append}
 use Rattle.node.specs.declared.nodes.BinaryOp.{BinaryOp}
-use Rattle.query_language.specs.Query.{Prefix, Query, relation, pair, prefixed, sign_byte, prefix_before, query_before, query_text, node_count}
-use Rattle.query_language.specs.PrefixLaws.{prefix-least}
-use Rattle.query_language.specs.Sizes.{query_size, prefix_size, before_text, before-prefix, pair-before, prefixed-before, pair_size, prefixed-size, query-some, past}
+use Rattle.query_language.specs.Query.{Prefix, Query, relation, pair, prefixed, query_before, node_count}
+use Rattle.query_language.specs.Sizes.{query_size, prefix_size}
 
 -- a query within a text: where its text begins, and the place after it
 pub record Part : Type 0 where
@@ -53,7 +52,7 @@ unfoldable pub Each : (Part → Type 0) → List Part → Type 0
 Each P [] = Unit {0}
 Each P (x ∷ xs) = P x × Each P xs
 
-each_append : (P : Part → Type 0) (xs ys : List Part) → Each P xs → Each P ys → Each P (xs ++ ys)
+pub each_append : (P : Part → Type 0) (xs ys : List Part) → Each P xs → Each P ys → Each P (xs ++ ys)
 unfolding Each
 each_append P [] ys a b = b
 each_append P (x ∷ xs) ys a b = (a.0, each_append P xs ys a.1 b)
@@ -63,7 +62,7 @@ unfolding Each
 each-so P Q [] f a = tt
 each-so P Q (x ∷ xs) f a = (f x a.0, each-so P Q xs f a.1)
 
-each-one : (P : Part → Type 0) (x : Part) → P x → Each P (x ∷ [])
+pub each-one : (P : Part → Type 0) (x : Part) → P x → Each P (x ∷ [])
 unfolding Each
 each-one P x p = (p, tt)
 
@@ -76,33 +75,13 @@ each_at P (x ∷ xs) d a (suc i) h = each_at P xs d a.1 i (omega arith)
 -- ---- a part lies in the text of the whole
 
 -- it has a byte, and lies between two places
-record Within (low high : ℕ) (x : Part) : Type 0 where
-  from : low ≤ x.start
-  some : x.start < x.end
-  upto : x.end ≤ high
+pub record Within (low high : ℕ) (x : Part) : Type 0 where
+  pub from : low ≤ x.start
+  pub some : x.start < x.end
+  pub upto : x.end ≤ high
 
-whole-within : (at low : ℕ) (q : Query) → low ≤ at → Within low (at + query_size q) (whole_part at q)
-whole-within at low q h = let some = query-some q in record { from = h; some = omega arith; upto = omega arith }
-
-wider : (low high low' high' : ℕ) (xs : List Part) → low' ≤ low → high ≤ high' → Each (Within low high) xs → Each (Within low' high') xs
+pub wider : (low high low' high' : ℕ) (xs : List Part) → low' ≤ low → high ≤ high' → Each (Within low high) xs → Each (Within low' high') xs
 wider low high low' high' xs l h = each-so (Within low high) (Within low' high') xs (λ x w. let a = w.from in let b = w.upto in record { from = omega arith; some = w.some; upto = omega arith })
-
-parts_within : (at : ℕ) (q : Query) → Each (Within at (at + query_size q)) (parts_from at q)
-unfolding parts_from
-parts_within at (relation r) = each-one (Within at (at + query_size (relation r))) (whole_part at (relation r)) (whole-within at at (relation r) (omega arith))
-parts_within at (pair op l r) =
-    let size = pair_size op l r in
-    let high = at + query_size (pair op l r) in
-    let rights = at + 1 + query_size l + 1 in
-    let left = wider (at + 1) (at + 1 + query_size l) at high (parts_from (at + 1) l) (omega arith) (omega arith) (parts_within (at + 1) l) in
-    let right = wider rights (rights + query_size r) at high (parts_from rights r) (omega arith) (omega arith) (parts_within rights r) in
-    let last = each-one (Within at high) (whole_part at (pair op l r)) (whole-within at at (pair op l r) (omega arith)) in
-    each_append (Within at high) (parts_from (at + 1) l) _ left (each_append (Within at high) (parts_from rights r) _ right last)
-parts_within at (prefixed p q) =
-    let size = prefixed-size p q in
-    let high = at + query_size (prefixed p q) in
-    let inner = wider (at + prefix_size p) (at + prefix_size p + query_size q) at high (parts_from (at + prefix_size p) q) (omega arith) (omega arith) (parts_within (at + prefix_size p) q) in
-    each_append (Within at high) (parts_from (at + prefix_size p) q) _ inner (each-one (Within at high) (whole_part at (prefixed p q)) (whole-within at at (prefixed p q) (omega arith)))
 
 -- ---- their order
 
@@ -126,12 +105,12 @@ unfoldable pub Ordered : List Part → Type 0
 Ordered [] = Unit {0}
 Ordered (x ∷ xs) = Each (Earlier x) xs × Ordered xs
 
-ordered-append : (xs ys : List Part) → Ordered xs → Ordered ys → Each (λ x. Each (Earlier x) ys) xs → Ordered (xs ++ ys)
+pub ordered-append : (xs ys : List Part) → Ordered xs → Ordered ys → Each (λ x. Each (Earlier x) ys) xs → Ordered (xs ++ ys)
 unfolding Ordered Each
 ordered-append [] ys a b c = b
 ordered-append (x ∷ xs) ys a b c = (each_append (Earlier x) xs ys a.0 c.0, ordered-append xs ys a.1 b c.1)
 
-ordered-one : (x : Part) → Ordered (x ∷ [])
+pub ordered-one : (x : Part) → Ordered (x ∷ [])
 unfolding Ordered Each
 ordered-one x = (tt, tt)
 
@@ -144,73 +123,25 @@ ordered_at (x ∷ xs) d o (suc i) zero h k = absurd (omega arith)
 ordered_at (x ∷ xs) d o (suc i) (suc j) h k = ordered_at xs d o.1 i j (omega arith) (omega arith)
 
 -- parts that end before others begin are earlier
-all-earlier : (low middle high : ℕ) (xs ys : List Part) → Each (Within low middle) xs → Each (Within middle high) ys → Each (λ x. Each (Earlier x) ys) xs
+pub all-earlier : (low middle high : ℕ) (xs ys : List Part) → Each (Within low middle) xs → Each (Within middle high) ys → Each (λ x. Each (Earlier x) ys) xs
 all-earlier low middle high xs ys a b =
     each-so (Within low middle) (λ x. Each (Earlier x) ys) xs
     (λ x v. each-so (Within middle high) (Earlier x) ys
     (λ y w. let up = v.upto in let from = w.from in let some = w.some in record { ends = omega arith; inner = λ e. absurd (omega arith) }) b) a
 
 -- the whole after parts that it has within
-before-whole : (low at : ℕ) (q : Query) (xs : List Part) → at < low → Each (Within low (at + query_size q)) xs → Each (λ x. Each (Earlier x) (whole_part at q ∷ [])) xs
+pub before-whole : (low at : ℕ) (q : Query) (xs : List Part) → at < low → Each (Within low (at + query_size q)) xs → Each (λ x. Each (Earlier x) (whole_part at q ∷ [])) xs
 before-whole low at q xs h a =
     each-so (Within low (at + query_size q)) (λ x. Each (Earlier x) (whole_part at q ∷ [])) xs
     (λ x w. let up = w.upto in let from = w.from in each-one (Earlier x) (whole_part at q) (record { ends = up; inner = λ e. omega arith })) a
 
-earlier-both : (xs ys zs : List Part) → Each (λ x. Each (Earlier x) ys) xs → Each (λ x. Each (Earlier x) zs) xs → Each (λ x. Each (Earlier x) (ys ++ zs)) xs
+pub earlier-both : (xs ys zs : List Part) → Each (λ x. Each (Earlier x) ys) xs → Each (λ x. Each (Earlier x) zs) xs → Each (λ x. Each (Earlier x) (ys ++ zs)) xs
 unfolding Each
 earlier-both [] ys zs a b = tt
 earlier-both (x ∷ xs) ys zs a b = (each_append (Earlier x) ys zs a.0 b.0, earlier-both xs ys zs a.1 b.1)
-
--- FORMAT 11.6: the parts are in the order in which their texts end, an operand before the part that has it
-pub parts-ordered : (at : ℕ) (q : Query) → Ordered (parts_from at q)
-unfolding parts_from
-parts-ordered at (relation r) = ordered-one (whole_part at (relation r))
-parts-ordered at (pair op l r) =
-    let size = pair_size op l r in
-    let rights = at + 1 + query_size l + 1 in
-    let lefts = parts_from (at + 1) l in
-    let others = parts_from rights r in
-    let last = whole_part at (pair op l r) ∷ [] in
-    let left = parts_within (at + 1) l in
-    let right = parts_within rights r in
-    let high = at + query_size (pair op l r) in
-    let left-last = before-whole (at + 1) at (pair op l r) lefts (omega arith) (wider (at + 1) (at + 1 + query_size l) (at + 1) high lefts (omega arith) (omega arith) left) in
-    let right-last = before-whole (at + 1) at (pair op l r) others (omega arith) (wider rights (rights + query_size r) (at + 1) high others (omega arith) (omega arith) right) in
-    let left-right = all-earlier (at + 1) rights (rights + query_size r) lefts others (wider (at + 1) (at + 1 + query_size l) (at + 1) rights lefts (omega arith) (omega arith) left) right in
-    ordered-append lefts (others ++ last) (parts-ordered (at + 1) l)
-    (ordered-append others last (parts-ordered rights r) (ordered-one (whole_part at (pair op l r))) right-last)
-    (earlier-both lefts others last left-right left-last)
-parts-ordered at (prefixed p q) =
-    let size = prefixed-size p q in
-    let least = prefix-least p [] in
-    let inner = parts_from (at + prefix_size p) q in
-    let high = at + query_size (prefixed p q) in
-    ordered-append inner (whole_part at (prefixed p q) ∷ []) (parts-ordered (at + prefix_size p) q) (ordered-one (whole_part at (prefixed p q)))
-    (before-whole (at + prefix_size p) at (prefixed p q) inner (omega arith) (wider (at + prefix_size p) (at + prefix_size p + query_size q) (at + prefix_size p) high inner (omega arith) (omega arith) (parts_within (at + prefix_size p) q)))
 
 -- ---- their texts
 
 -- the text of the part stands where the part says
 unfoldable pub StandsIn : List ℕ → Part → Type 0
 StandsIn text x = drop x.start text ≡ query_before x.query (drop x.end text)
-
-whole-stands : (text : List ℕ) (at : ℕ) (q : Query) (rest : List ℕ) → drop at text ≡ query_before q rest → StandsIn text (whole_part at q)
-unfolding StandsIn
-whole-stands text at q rest e = e ∙ ap (query_before q) (sym (past text at (query_text q) rest (e ∙ before_text q rest)))
-
--- FORMAT 11.6: each part's text stands at its place
-pub parts-stand : (text : List ℕ) (at : ℕ) (q : Query) (rest : List ℕ) → drop at text ≡ query_before q rest → Each (StandsIn text) (parts_from at q)
-unfolding parts_from
-parts-stand text at (relation r) rest e = each-one (StandsIn text) (whole_part at (relation r)) (whole-stands text at (relation r) rest e)
-parts-stand text at (pair op l r) rest e =
-    let whole = whole-stands text at (pair op l r) rest e in
-    let right = query_before r (41 ∷ rest) in
-    let left_is : drop (at + 1) text ≡ query_before l (sign_byte op ∷ right) = past text at (40 ∷ []) (query_before l (sign_byte op ∷ right)) (e ∙ pair-before op l r rest) in
-    let sign-is : drop (at + 1 + query_size l) text ≡ sign_byte op ∷ right = past text (at + 1) (query_text l) (sign_byte op ∷ right) (left_is ∙ before_text l (sign_byte op ∷ right)) in
-    let right_is : drop (at + 1 + query_size l + 1) text ≡ right = past text (at + 1 + query_size l) (sign_byte op ∷ []) right sign-is in
-    each_append (StandsIn text) (parts_from (at + 1) l) _ (parts-stand text (at + 1) l (sign_byte op ∷ right) left_is)
-    (each_append (StandsIn text) (parts_from (at + 1 + query_size l + 1) r) _ (parts-stand text (at + 1 + query_size l + 1) r (41 ∷ rest) right_is) (each-one (StandsIn text) (whole_part at (pair op l r)) whole))
-parts-stand text at (prefixed p q) rest e =
-    let whole = whole-stands text at (prefixed p q) rest e in
-    let inner-is : drop (at + prefix_size p) text ≡ query_before q rest = past text at (prefix_before p []) (query_before q rest) (e ∙ prefixed-before p q rest ∙ before-prefix p (query_before q rest)) in
-    each_append (StandsIn text) (parts_from (at + prefix_size p) q) _ (parts-stand text (at + prefix_size p) q rest inner-is) (each-one (StandsIn text) (whole_part at (prefixed p q)) whole)

@@ -1,11 +1,10 @@
 -- The length of a query's text.
-use Rattle.std.specs.Prelude.{ℕ, ◌+◌, ◌≤◌, ◌≡◌, refl, List, [], ◌∷◌, ◌++◌, length, drop}
+use Rattle.std.specs.Prelude.{ℕ, ◌+◌, ◌≤◌, ◌≡◌, refl, List, ◌∷◌, ◌++◌, length, drop, []}
 use Rattle.std.proofs.Common.{sym, ap, ◌∙◌, arith, length-append, length-drop, drop-drop, drop_at}
 use Rattle.node.specs.declared.nodes.BinaryOp.{BinaryOp}
-use Rattle.query_language.specs.Query.{Prefix, Query, relation, pair, prefixed, sign_byte, prefix_before, query_before, query_text, node_count}
+use Rattle.query_language.specs.Query.{Prefix, Query, relation, pair, prefixed, sign_byte, prefix_before, query_before, query_text}
 use Rattle.query_language.specs.PrefixLaws.{PrefixRead, prefix-least}
-use Rattle.query_language.specs.OperandLaws.{OperandRead, count-least, count-some}
-use Rattle.query_language.specs.Language.{prefix-append, query-append}
+use Rattle.query_language.specs.Language.{prefix-append}
 
 -- the bytes of a query's text
 abbrev pub query_size : Query → ℕ
@@ -17,21 +16,8 @@ prefix_size p = length (prefix_before p [])
 
 -- ---- a text and what follows it
 
-pub before_text : (q : Query) (rest : List ℕ) → query_before q rest ≡ query_text q ++ rest
-before_text q rest = query-append q [] rest
-
 pub before-prefix : (p : Prefix) (rest : List ℕ) → prefix_before p rest ≡ prefix_before p [] ++ rest
 before-prefix p rest = prefix-append p [] rest
-
-before-size : (q : Query) (rest : List ℕ) → length (query_before q rest) ≡ query_size q + length rest
-before-size q rest = ap length (before_text q rest) ∙ length-append (query_text q) rest
-
-pub pair_size : (op : BinaryOp) (l r : Query) → query_size (pair op l r) ≡ 1 + (query_size l + (1 + (query_size r + 1)))
-unfolding query_before
-pair_size op l r =
-    let a = before-size l (sign_byte op ∷ query_before r (41 ∷ [])) in
-    let b = before-size r (41 ∷ []) in
-    omega arith
 
 pub prefixed-size : (p : Prefix) (q : Query) → query_size (prefixed p q) ≡ prefix_size p + query_size q
 unfolding query_before
@@ -57,23 +43,6 @@ relation-size r = refl
 
 pub prefix-some : (p : Prefix) → 3 ≤ prefix_size p
 prefix-some p = let h = prefix-least p [] in omega arith
-
--- a node has two bytes or more
-pub count-size : (q : Query) → node_count q + node_count q ≤ query_size q
-count-size q = let h = count-least q [] in omega arith
-
-pub query-some : (q : Query) → 1 ≤ query_size q
-query-some q = let a = count-size q in let b = count-some q in omega arith
-
--- the place after what was read
-pub operand-end : (text : List ℕ) (at : ℕ) (q : Query) (next : ℕ) → at ≤ length text → OperandRead text at q next → next ≡ at + query_size q
-operand-end text at q next h read =
-    let long = before-size q (drop next text) in
-    let left = length-drop at text in
-    let right = length-drop next text in
-    let same : length (drop at text) ≡ length (query_before q (drop next text)) = ap length read.text-is in
-    let within = read.within in
-    omega arith
 
 pub prefix-end : (text : List ℕ) (at : ℕ) (p : Prefix) (next : ℕ) → at ≤ length text → PrefixRead text at p next → next ≡ at + prefix_size p
 prefix-end text at p next h read =

@@ -9,12 +9,15 @@ use Rattle.text.specs.Put.{Wrote, wrote-more, wrote_as}
 use Rattle.query_language.specs.Parsed.{missing, found}
 use Rattle.query_language.specs.Query.{Prefix, relation, pair, prefixed, node_count}
 use Rattle.query_language.specs.Parse.{is_digit, prefix_at, sign_at, relation_at, pair_with, prefixed_with, operand_at}
-use Rattle.query_language.specs.Steps.{relation-none as no-relation, relation-there, prefixed-none as no-prefix, prefixed-half as no_Operand, prefixed-there}
+use Rattle.query_language.specs.Steps.{prefixed-none as no-prefix, prefixed-half as no_Operand, prefixed-there}
+use Rattle.query_language.proofs.Steps.{relation-none as no-relation, relation-there}
 use Rattle.query_language.specs.Steps.{pair-no-left as no-left, pair-no-sign as no_sign, pair-no-right as no-right, pair-not-closed as not-closed, pair-there}
 use Rattle.query_language.specs.Places.{byte_inside}
-use Rattle.query_language.specs.PrefixLaws.{prefix-sound}
-use Rattle.query_language.specs.OperandLaws.{sign-sound, operand_sound, count-some}
-use Rattle.query_language.specs.Sizes.{prefix-some, count-size, operand-end, prefix-end}
+use Rattle.query_language.proofs.PrefixLaws.{prefix-sound}
+use Rattle.query_language.specs.OperandLaws.{sign-sound, count-some}
+use Rattle.query_language.proofs.OperandLaws.{operand_sound}
+use Rattle.query_language.specs.Sizes.{prefix-some, prefix-end}
+use Rattle.query_language.proofs.Sizes.{count-size, operand-end}
 use Rattle.query_answer.specs.declared.Fault.{Fault}
 use Rattle.query_answer.specs.QueryNodes.{prefix_node, bytes_from, bytes-relation, bytes_pair, bytes-prefixed, bytes-size}
 use Rattle.query_answer.specs.Faults.{leftmost, attribute_fault, relation_fault, prefix_attributes, fault-relation, fault-pair, fault-prefixed}

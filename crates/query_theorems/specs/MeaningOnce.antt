@@ -12,7 +12,8 @@ use Rattle.node.specs.declared.nodes.SetOp.{SetOp}
 use Rattle.node.specs.declared.nodes.SetOp.TheVariants.{Selection, Projection}
 use Rattle.node_expression.specs.NodeExpression.{operator_of, set_operator_of}
 use Rattle.query_language.specs.Query.{Prefix, with_set as with_list, renaming as renamed, projecting_out as projected_out, Query, relation, pair, prefixed, RisingFrom, WrittenPrefix, Written}
-use Rattle.query_answer.specs.Faults.{prefix_attributes, faults_of, faultless-pair, faultless-prefixed}
+use Rattle.query_answer.specs.Faults.{prefix_attributes, faults_of}
+use Rattle.query_answer.proofs.Faults.{faultless-pair, faultless-prefixed}
 use Rattle.query_theorems.specs.Meaning.{listed, prefix_meaning, meaning}
 
 -- ---- operators

@@ -1,13 +1,13 @@
 -- The nodes of a query's file: each is legal at its place, and its expression is what the part of the text means that
 -- has its number.
-use Rattle.std.specs.Prelude.{ℕ, zero, suc, ◌+◌, ◌-◌, ◌≤◌, ◌<◌, ◌≡◌, true, List, [], ◌∷◌, ◌++◌, length, get_or}
-use Rattle.std.proofs.Common.{sym, ap, ap₂, subst, ◌∙◌, add-zero, zero-add, arith}
+use Rattle.std.specs.Prelude.{ℕ, zero, suc, ◌+◌, ◌-◌, ◌<◌, ◌≡◌, true, List, ◌∷◌, ◌++◌, length, get_or, []}
+use Rattle.std.proofs.Common.{sym, ap, ap₂, subst, ◌∙◌, add-zero, arith}
 use Rattle.attribute_set.specs.Listed.{all_special, special-first, clear-listed}
 use Rattle.node.specs.declared.nodes.Node.{Node}
 use Rattle.node.specs.declared.nodes.Node.TheVariants.{Relation, Binary}
 use Rattle.node.specs.Legal.{LegalNode}
 use Rattle.expression_file.specs.ReadFile.{node_at}
-use Rattle.expression_file.specs.WrittenFile.{LegalNodes, legal-one, legal-append, FileNodes, file-node, file_of}
+use Rattle.expression_file.specs.WrittenFile.{LegalNodes, legal-one, legal-append}
 use Rattle.algebra.specs.Expression.{binary}
 use Rattle.node_expression.specs.NodeExpression.{operator_of, of_node, expression_at, expression-is}
 use Rattle.query_language.specs.Query.{Prefix, with_set, renaming, projecting_out, Query, relation, pair, prefixed, node_count}
@@ -15,7 +15,8 @@ use Rattle.query_language.specs.OperandLaws.{count-some}
 use Rattle.query_language.specs.Parts.{Part, whole_part, parts_from, parts-relation, parts-pair, parts-prefixed, parts-count}
 use Rattle.query_language.specs.Sizes.{query_size, prefix_size}
 use Rattle.query_answer.specs.QueryNodes.{prefix_node, nodes_from, nodes-relation, nodes-pair, nodes-prefixed, nodes-count}
-use Rattle.query_answer.specs.Faults.{prefix_attributes, faults_of, faultless-relation, faultless-pair, faultless-prefixed}
+use Rattle.query_answer.specs.Faults.{prefix_attributes, faults_of}
+use Rattle.query_answer.proofs.Faults.{faultless-relation, faultless-pair, faultless-prefixed}
 use Rattle.query_theorems.specs.Meaning.{prefix_meaning, meaning, prefix-meaning}
 
 -- ---- legal nodes
@@ -49,7 +50,7 @@ query-legal m k (prefixed p q) e =
 -- ---- the nodes of a file, one after the other
 
 -- these are the nodes of the file from node k on, and legal there
-StandFrom : List ℕ → ℕ → ℕ → List Node → Type 0
+pub StandFrom : List ℕ → ℕ → ℕ → List Node → Type 0
 StandFrom file m k [] = Unit {0}
 StandFrom file m k (n ∷ ns) = (node_at file k ≡ n) × LegalNode m k n × StandFrom file m (k + 1) ns
 
@@ -66,7 +67,7 @@ stand-append file m k (n ∷ ns) os s =
 stand-after : (file : List ℕ) (m k n : ℕ) (ns os : List Node) → length ns ≡ n → StandFrom file m k (ns ++ os) → StandFrom file m k ns × StandFrom file m (k + n) os
 stand-after file m k n ns os e s = let parts = stand-append file m k ns os s in (parts.0, subst (λ (j : ℕ). StandFrom file m (k + j) os) e parts.1)
 
-stand-all : (file : List ℕ) (m k : ℕ) (ns : List Node) → LegalNodes m k ns → ((i : ℕ) → node_at file (k + i) ≡ get_or ns i (Relation 0)) → StandFrom file m k ns
+pub stand-all : (file : List ℕ) (m k : ℕ) (ns : List Node) → LegalNodes m k ns → ((i : ℕ) → node_at file (k + i) ≡ get_or ns i (Relation 0)) → StandFrom file m k ns
 unfolding StandFrom
 stand-all file m k [] legal at = tt
 stand-all file m k (n ∷ ns) legal at =
@@ -112,11 +113,11 @@ mean-at file k (x ∷ xs) d a (suc i) h = ap (expression_at file) (next k i) ∙
     next k i = omega arith
 
 -- the parts, and the whole as the last of them
-record Mean (file : List ℕ) (k at : ℕ) (q : Query) : Type 0 where
-  parts : MeanFrom file k (parts_from at q)
-  whole : expression_at file (k + node_count q - 1) ≡ meaning q
+pub record Mean (file : List ℕ) (k at : ℕ) (q : Query) : Type 0 where
+  pub parts : MeanFrom file k (parts_from at q)
+  pub whole : expression_at file (k + node_count q - 1) ≡ meaning q
 
-nodes-mean : (file : List ℕ) (m k at : ℕ) (q : Query) → faults_of m q ≡ [] → StandFrom file m k (nodes_from k q) → Mean file k at q
+pub nodes-mean : (file : List ℕ) (m k at : ℕ) (q : Query) → faults_of m q ≡ [] → StandFrom file m k (nodes_from k q) → Mean file k at q
 unfolding StandFrom
 nodes-mean file m k at (relation r) e s =
     let node = subst (StandFrom file m k) (nodes-relation k r) s in
@@ -155,27 +156,3 @@ nodes-mean file m k at (prefixed p q) e s =
       parts = subst (MeanFrom file k) (sym (parts-prefixed at p q)) (mean-after file k n _ _ (parts-count (at + prefix_size p) q) inner.parts one);
       whole = ap (expression_at file) place ∙ own;
     }
-
--- ---- the file of a query
-
-module _ (m : ℕ) (q : Query) (relations : (1 ≤ m) × (m ≤ 8)) (few : node_count q ≤ 64) (faultless : faults_of m q ≡ []) where
-  pub query-nodes : FileNodes m (nodes_from 0 q)
-  query-nodes =
-      let count = nodes-count 0 q in
-      let some = count-some q in
-      record { relations = relations; count = (omega arith, omega arith); legal = query-legal m 0 q faultless }
-
-  mean : Mean (file_of m (nodes_from 0 q)) 0 0 q
-  mean =
-      let file = file_of m (nodes_from 0 q) in
-      nodes-mean file m 0 0 q faultless (stand-all file m 0 (nodes_from 0 q) (query-legal m 0 q faultless) (λ i. ap (node_at file) (zero-add i) ∙ file-node m (nodes_from 0 q) query-nodes i))
-
-  -- its last node's expression is what the query means
-  pub last-meaning : expression_at (file_of m (nodes_from 0 q)) (node_count q - 1) ≡ meaning q
-  last-meaning = ap (λ (n : ℕ). expression_at (file_of m (nodes_from 0 q)) (n - 1)) (sym (zero-add (node_count q))) ∙ mean.whole
-
-  -- node i's expression is what part i of the text means
-  pub node-meaning : (d : Part) (i : ℕ) → i < node_count q → expression_at (file_of m (nodes_from 0 q)) i ≡ meaning (get_or (parts_from 0 q) i d).query
-  node-meaning d i h =
-      let count = parts-count 0 q in
-      ap (expression_at (file_of m (nodes_from 0 q))) (sym (zero-add i)) ∙ mean-at (file_of m (nodes_from 0 q)) 0 (parts_from 0 q) d mean.parts i (omega arith)

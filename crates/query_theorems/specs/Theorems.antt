@@ -9,34 +9,26 @@
 --   parse_answer, parse_file what parsing leaves, by its contract                       (crate query_answer, ParseQuery)
 -- That each text has one reading, and that no text of the language is the beginning of another, is said of the language
 -- itself: one-reading and no-beginning (crate query_language, Language).
-use Rattle.std.specs.Prelude.{ℕ, ◌-◌, ◌≤◌, ◌<◌, ◌≡◌, refl, ◌↔◌, Bool, true, false, List, [], ◌∷◌, length, get_or, take}
+use Rattle.std.specs.Prelude.{ℕ, ◌-◌, ◌≤◌, ◌<◌, ◌≡◌, refl, ◌↔◌, Bool, true, false, List, ◌∷◌, length, get_or, []}
 use Rattle.std.proofs.Common.{sym, ap, subst, ◌∙◌, arith}
 use Rattle.std.proofs.Math.Decide.{dec_le}
 use Rattle.bits.specs.Range.{in_range, in-range, range-in}
 use Rattle.bits.specs.Booleans.{is_false, clash}
-use Rattle.bits.specs.Tab.{over, take-over}
+use Rattle.bits.specs.Tab.{over}
 use Rattle.refusal.specs.declared.Refusal.{Refusal}
 use Rattle.refusal.specs.declared.Refusal.TheVariants.{RelationCount, ResultSlice, QuerySyntax, QueryLength, QueryNodes}
-use Rattle.types.specs.Types.{Attrs, Assignment}
-use Rattle.algebra.specs.Rules.{Typed}
-use Rattle.expression_file.specs.declared.files.Acceptance.TheVariants.{Accepted}
-use Rattle.expression_file.specs.ReadFile.{acceptance}
-use Rattle.expression_file.specs.WrittenFile.{file_of, file-accepted}
-use Rattle.node_expression.specs.NodeExpression.{expression_at}
 use Rattle.query_language.specs.Parsed.{Parsed, missing, found}
-use Rattle.query_language.specs.Query.{Query, query_text, InLanguage, node_count}
+use Rattle.query_language.specs.Query.{Query, InLanguage, node_count}
 use Rattle.query_language.specs.Parse.{parse_query}
-use Rattle.query_language.specs.Language.{parse-sound, parse-complete, parse-missing, one-reading}
-use Rattle.query_language.specs.Parts.{whole_part, parts_from, parts-count, Earlier, ordered_at, parts-ordered, each_at, StandsIn, parts-stand}
+use Rattle.query_language.proofs.Language.{parse-sound, parse-complete, parse-missing}
+use Rattle.query_language.specs.Parts.{whole_part, parts_from, parts-count, Earlier, ordered_at, each_at, StandsIn}
+use Rattle.query_language.proofs.Parts.{parts-ordered, parts-stand}
 use Rattle.query_answer.specs.declared.Parsing.{Parsing}
 use Rattle.query_answer.specs.declared.Parsing.TheVariants.{Written as FileWritten, Refused}
-use Rattle.query_answer.specs.QueryNodes.{nodes_from, nodes-count, query_file, query-most}
+use Rattle.query_answer.specs.QueryNodes.{query_file}
 use Rattle.query_answer.specs.Faults.{faults_of}
 use Rattle.query_answer.specs.ParseQuery.{Judgement, accepted, faulted, judged, judgement, answer_of, parse_answer, parse_file}
 use Rattle.query_answer.specs.ParseLaws.{answer-is, answer-refused, answer-accepted, answer-stopped, judge-relations, judge-slice, judge-length, judge-text, judged-syntax, judged-nodes, judged-faults}
-use Rattle.query_theorems.specs.Meaning.{meaning}
-use Rattle.query_theorems.specs.QueryExpressions.{query-nodes, last-meaning, node-meaning}
-use Rattle.query_theorems.specs.MeaningOnce.{meaning-once}
 
 -- ---- which texts pass, and the first refusal of the others
 
@@ -140,57 +132,10 @@ pub record FileOf (m : ℕ) (text old : List ℕ) (size : ℕ) : Type 0 where
   pub size_is : size ≡ length (query_file m query)
   pub slice_is : parse_file m text old ≡ over (query_file m query) old
 
-written-file : (m : ℕ) (text old : List ℕ) (size : ℕ) → Answers m text (length old) (FileWritten size) → parse_answer m text (length old) ≡ FileWritten size → FileOf m text old size
+pub written-file : (m : ℕ) (text old : List ℕ) (size : ℕ) → Answers m text (length old) (FileWritten size) → parse_answer m text (length old) ≡ FileWritten size → FileOf m text old size
 written-file m text old size (written {q} a l h f) e =
     let judged-is = judge-text m text (length old) (range-in 1 8 m a.relations.0 a.relations.1) a.slice a.short ∙ ap (judged m) (parse-complete text q l) ∙ judged-faults m q (length text) h ∙ ap (λ (fs : List Refusal). faulted fs (accepted q)) f in
     record { query = q; language = l; relations = a.relations; few = h; faultless = f; size_is = refl; slice_is = sym (answer-accepted m text old q judged-is).slice }
-
--- a text, and slices in which its file was written
-module _ (m : ℕ) (text old : List ℕ) (size : ℕ) (parses : parse_answer m text (length old) ≡ FileWritten size) where
-  -- the query that was read: the text is its text, and the front of the slice its file
-  pub written_of : FileOf m text old size
-  written_of = written-file m text old size ((parse-answers m text (length old) (FileWritten size)).0 parses) parses
-
-  -- FORMAT 9.1: it is no longer than the slice must be
-  pub written-most : size ≤ 322
-  written-most = let w = written_of in let most = query-most m w.query w.few in let is = w.size_is in omega arith
-
-  -- the part of the slice that was written
-  abbrev pub written_part : List ℕ
-  written_part = take size (parse_file m text old)
-
-  -- it is the query's file; the rest of the slice is as it was, by the slice's own equation
-  pub written_is : written_part ≡ query_file m written_of.query
-  written_is = let w = written_of in ap (take size) w.slice_is ∙ ap (λ (n : ℕ). take n (over (query_file m w.query) old)) w.size_is ∙ take-over (query_file m w.query) old
-
-  module _ (q : Query) (l : InLanguage text q) where
-    same : written_of.query ≡ q
-    same = one-reading text written_of.query q written_of.language l
-
-    part-is : written_part ≡ file_of m (nodes_from 0 q)
-    part-is = written_is ∙ ap (query_file m) same
-
-    few-nodes : node_count q ≤ 64
-    few-nodes = subst (λ (u : Query). node_count u ≤ 64) same written_of.few
-
-    no-faults : faults_of m q ≡ []
-    no-faults = ap (faults_of m) (sym same) ∙ written_of.faultless
-
-    -- it is accepted, with the caller's m, and has a node for each relation, pair and prefix of the text
-    pub written-accepted : acceptance written_part ≡ Accepted m (node_count q)
-    written-accepted = ap acceptance part-is ∙ file-accepted m (nodes_from 0 q) (query-nodes m q written_of.relations few-nodes no-faults) ∙ ap (Accepted m) (nodes-count 0 q)
-
-    -- its last node's expression is what the query means
-    pub written-meaning : expression_at written_part (node_count q - 1) ≡ meaning q
-    written-meaning = ap (λ (file : List ℕ). expression_at file (node_count q - 1)) part-is ∙ last-meaning m q written_of.relations few-nodes no-faults
-
-    -- so that the rules give the last node the types that they give the query
-    pub written-typed : (A : Assignment) (t : Attrs) → Typed A (expression_at written_part (node_count q - 1)) t ↔ Typed A (meaning q) t
-    written-typed A t = (subst (λ e. Typed A e t) written-meaning, subst (λ e. Typed A e t) (sym written-meaning))
-
-    -- node i's expression is what part i of the text means
-    pub written-node : (i : ℕ) → i < node_count q → expression_at written_part i ≡ meaning (get_or (parts_from 0 q) i (whole_part 0 q)).query
-    written-node i h = ap (λ (file : List ℕ). expression_at file i) part-is ∙ node-meaning m q written_of.relations few-nodes no-faults (whole_part 0 q) i h
 
 -- ---- the numbers of nodes
 
@@ -204,27 +149,3 @@ module _ (text : List ℕ) (q : Query) (l : InLanguage text q) where
   -- (earlier-once, crate query_language, Parts), so that the places alone give the numbers
   pub parts-numbered : (i j : ℕ) → i < j → j < node_count q → Earlier (get_or (parts_from 0 q) i (whole_part 0 q)) (get_or (parts_from 0 q) j (whole_part 0 q))
   parts-numbered i j h k = let count = parts-count 0 q in ordered_at (parts_from 0 q) (whole_part 0 q) (parts-ordered 0 q) i j h (omega arith)
-
--- ---- a file comes of one text
-
--- two texts that are parsed to one file are equal
-pub text-once :
-    (m : ℕ) (a old : List ℕ) (size : ℕ) (parses : parse_answer m a (length old) ≡ FileWritten size)
-    (k : ℕ) (b other : List ℕ) (other-size : ℕ) (other-parses : parse_answer k b (length other) ≡ FileWritten other-size)
-    → take size (parse_file m a old) ≡ take other-size (parse_file k b other)
-    → a ≡ b
-text-once m a old size parses k b other other-size other-parses e =
-    let u = written_of m a old size parses in
-    let v = written_of k b other other-size other-parses in
-    let first-accepted = written-accepted m a old size parses u.query u.language in
-    let other-accepted = written-accepted k b other other-size other-parses v.query v.language in
-    let counts : Accepted m (node_count u.query) ≡ Accepted k (node_count v.query) = sym first-accepted ∙ ap acceptance e ∙ other-accepted in
-    let count : node_count u.query ≡ node_count v.query = cc in
-    let means : meaning u.query ≡ meaning v.query =
-    sym (written-meaning m a old size parses u.query u.language)
-    ∙ ap (λ (file : List ℕ). expression_at file (node_count u.query - 1)) e
-    ∙ ap (λ (n : ℕ). expression_at (take other-size (parse_file k b other)) (n - 1)) count
-    ∙ written-meaning k b other other-size other-parses v.query v.language
-    in
-    let same = meaning-once m k u.query v.query u.language.written v.language.written u.faultless v.faultless means in
-    u.language.text-is ∙ ap query_text same ∙ sym v.language.text-is

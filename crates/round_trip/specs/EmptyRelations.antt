@@ -20,7 +20,7 @@ use Rattle.schema.specs.declared.reading.Judgement.{Judgement}
 use Rattle.schema.specs.declared.reading.Judgement.TheVariants.{Read, Refused as SchemaRefused}
 use Rattle.filled_schema.specs.FilledSchema.{table_filled, filled_reading}
 use Rattle.filled_schema.specs.FilledRecords.{table_filled_lem}
-use Rattle.filled_schema.specs.FilledLaws.{empty-record}
+use Rattle.filled_schema.proofs.FilledLaws.{empty-record}
 use Rattle.special_maps.specs.Special.{maps_from}
 use Rattle.instantiation.specs.Instantiation.{Instantiation, entries_in, subsets_of, instantiation_reading, instantiation_size}
 use Rattle.instantiation.specs.TableLaws.{ReadInstantiation, read-entries}

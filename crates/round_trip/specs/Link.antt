@@ -15,8 +15,10 @@ use Rattle.algebra.specs.Expression.{Legal}
 use Rattle.expression_file.specs.Accepted.{accepted-file}
 use Rattle.principal.specs.Formula.{Formula, is_variable}
 use Rattle.principal.specs.Instantiation.{Instantiation, HasImage, HasOutput}
-use Rattle.principal.specs.Plain.{to_states, holders-is, variable, image-is, image-special, image-listed}
-use Rattle.states.specs.Members.{Place, in_state, in_list, nowhere, place}
+use Rattle.principal.specs.Plain.{to_states, holders-is, variable}
+use Rattle.principal.proofs.Plain.{image-is, image-special, image-listed}
+use Rattle.states.specs.Members.{Place, in_state, in_list, nowhere}
+use Rattle.states.proofs.Members.{place}
 use Rattle.bits.specs.Truth.{is_true, is_false, by-true, same_test, any-proof}
 use Rattle.node_expression.specs.NodeExpression.{expression_at, expression-legal}
 use Rattle.stored_formula.specs.Formula.{formula_space}

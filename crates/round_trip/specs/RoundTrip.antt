@@ -12,7 +12,8 @@ use Rattle.schema.specs.TableLaws.{ReadSchema}
 use Rattle.instantiation.specs.Seen.{nothing_seen, repeated_in}
 use Rattle.instantiation.specs.Instantiation.{read_lists, entries_in, all_listed, subsets_of, lists_of, instantiation_bytes, instantiation_reading}
 use Rattle.instantiation.specs.ReadLaws.{IsLists, lists-read, lists-written, written-lists, written-subsets}
-use Rattle.instantiation.specs.EntriesLaws.{entries-rising, entries_below, entries-lists, lists-of, lists-once, lists-entries}
+use Rattle.instantiation.specs.EntriesLaws.{entries-rising, entries_below, entries-lists}
+use Rattle.instantiation.proofs.EntriesLaws.{lists-of, lists-once, lists-entries}
 use Rattle.instantiation.specs.TableLaws.{ReadInstantiation, read-instantiation, subsets-size, subsets-none, subsets-small}
 use Rattle.special_maps.specs.Special.{maps_from, subsets_from}
 use Rattle.special_maps.specs.SpecialLaws.{subsets-back, maps-back, subset-zero}

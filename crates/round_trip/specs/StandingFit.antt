@@ -29,7 +29,7 @@ use Rattle.special_maps.specs.Special.{maps_from}
 use Rattle.instantiation.specs.Instantiation.{Instantiation, standing, entries_in, instantiation_reading}
 use Rattle.instantiation.specs.ListZero.{list-zero}
 use Rattle.instantiation.specs.ReadLaws.{lists-read}
-use Rattle.instantiation.specs.StandingBits.{zero_clear, standing-entry, entry-standing}
+use Rattle.instantiation.proofs.StandingBits.{zero_clear, standing-entry, entry-standing}
 use Rattle.instantiation.specs.TableLaws.{ReadInstantiation, instantiation-read, read-entries}
 use Rattle.fitting.specs.Fit.{entries_fit, specials_fit, entry-fits, fit-entries}
 use Rattle.apply_answer.specs.Apply.{table_applied, apply_answer}

@@ -26,7 +26,7 @@ use Rattle.instantiation.specs.TableLaws.{ReadInstantiation, subsets-none}
 use Rattle.instantiation.specs.TableLaws as Instantiations
 use Rattle.table_types.specs.Output.{typed_in, output_list}
 use Rattle.typing_answer.specs.Typing.{typing_answer, typing_out}
-use Rattle.typing_answer.specs.TypingLaws.{answer_typed, out-typed, typing-records}
+use Rattle.typing_answer.proofs.TypingLaws.{answer_typed, out-typed, typing-records}
 use Rattle.typing_answer.specs.declared.Answer.TheVariants.{Typed}
 use Rattle.special_maps.specs.Special.{maps_from, subsets_from}
 use Rattle.special_maps.specs.SpecialLaws.{subsets-back, maps-back}

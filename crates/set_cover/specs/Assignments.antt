@@ -1,28 +1,22 @@
 -- What `cost` and `best` say of every assignment whose attributes the columns allow and in which every relation has an
 -- attribute (FORMAT 7.26).
 use Prim.Native.Nat.{ℕ, zero, suc, ◌+◌, ◌-◌, ◌≤◌, ◌<◌, ◌^◌}
-use Rattle.std.specs.Prelude.{◌≡◌, Bool, false, ◌&&◌, ◌||◌, List, [], ◌∷◌, ◌⊎◌}
+use Rattle.std.specs.Prelude.{◌≡◌, Bool, false, ◌&&◌, ◌||◌, List, ◌∷◌, ◌⊎◌, []}
 use Rattle.std.proofs.Math.Path.{refl, sym, ap, ap₂}
-use Rattle.std.proofs.Common.{◌∙◌, ⊎_elim, add-zero, eq-or-lt_of_le, eq-zero-or-pos, lt_of_lt_of_le, zero-add, suc-add, lt-ltb, pow_mono, pow_pos}
+use Rattle.std.proofs.Common.{◌∙◌, ⊎_elim, add-zero, eq-or-lt_of_le, lt_of_lt_of_le, zero-add, suc-add, lt-ltb, pow_mono}
 use Rattle.std.proofs.Math.Bool.{true, or-true}
-use Rattle.std.proofs.Math.Logic.{inl, inr, ∥∥₁_elim}
-use Rattle.std.proofs.Math.Decide.{dec_le}
+use Rattle.std.proofs.Math.Logic.{inl, inr}
 use native.Mathlib.Omega.{arith}
-use Rattle.std.proofs.Math.Dec.{T_prop}
 use Rattle.bits.specs.Bit.{bit, bit-none}
 use Rattle.bits.specs.Booleans.{clash}
 use Rattle.bits.specs.Bitwise.{packed, no_bits}
 use Rattle.bits.specs.Pack.{pack-same, bit-pack}
 use Rattle.bits.specs.Total.{total, total-none, total-front, total-same}
-use Rattle.bits.specs.Truth.{is_true, by-true}
-use Rattle.types.specs.Types.{Assignment, IsAssignment, Filled, holders}
+use Rattle.types.specs.Types.{Assignment, IsAssignment, holders}
 use Rattle.types.specs.Laws.{holders-packed, holders-below}
-use Rattle.types.specs.Memberships.{members, memberships, Within, members-none, memberships-same, memberships-by}
-use Rattle.set_cover.specs.Least.{infinity}
-use Rattle.set_cover.specs.Cost.{cost}
-use Rattle.set_cover.specs.Choice.{Chosen, weight, uncovered, NotAbove, best}
-use Rattle.set_cover.specs.Cheapest.{fewest, unfilled, best-lowest}
-use Rattle.set_cover.specs.Covered.{any_has, EachBelow, fills-is}
+use Rattle.types.specs.Memberships.{members, members-none}
+use Rattle.set_cover.specs.Choice.{Chosen, weight}
+use Rattle.set_cover.specs.Covered.{any_has, EachBelow}
 
 -- ---- an assignment as a list of subsets
 
@@ -77,7 +71,7 @@ module _ (m : ℕ) (few : m ≤ 8) (A : Assignment) where
   below-256 : (a : ℕ) → holders m A a < 256
   below-256 a = lt_of_lt_of_le (holders-below m A a) (pow_mono {j = 8} few)
 
-  holders-bit : (a r : ℕ) → r < m → bit (holders m A a) r ≡ A r a
+  pub holders-bit : (a r : ℕ) → r < m → bit (holders m A a) r ≡ A r a
   holders-bit a r h = ap (λ (s : ℕ). bit s r) (holders-packed m A a) ∙ bit-pack m (λ r. A r a) r h
 
   -- ---- its members
@@ -95,7 +89,7 @@ module _ (m : ℕ) (few : m ≤ 8) (A : Assignment) where
       (ordinary-weight n (a + 1) ∙ total-same n _ _ (λ i h. let next : a + 1 + i ≡ a + suc i = omega arith in ap (λ (b : ℕ). members (holders m A b)) next))
       ∙ sym (total-front n (λ i. members (holders m A (a + i))))
 
-  last-weight : (n k : ℕ) → k ≤ 15 → weight (last_subsets m A n k) ≡ total (k + n) (λ i. members (holders m A (16 - k + i)))
+  pub last-weight : (n k : ℕ) → k ≤ 15 → weight (last_subsets m A n k) ≡ total (k + n) (λ i. members (holders m A (16 - k + i)))
   unfolding last_subsets
   last-weight n zero h = ordinary-weight n 16 ∙ ap (λ (x : ℕ). total x (λ i. members (holders m A (16 + i)))) (sym (zero-add n))
   last-weight n (suc k) h =
@@ -115,7 +109,7 @@ module _ (m : ℕ) (few : m ≤ 8) (A : Assignment) where
   ordinary-below zero a = tt
   ordinary-below (suc n) a = below-unless (holders m A a) _ (below-256 a) (ordinary-below n (a + 1))
 
-  last-below : (n k : ℕ) → EachBelow 256 (last_subsets m A n k)
+  pub last-below : (n k : ℕ) → EachBelow 256 (last_subsets m A n k)
   unfolding last_subsets
   last-below n zero = ordinary-below n _
   last-below n (suc k) = (below-256 (15 - k), last-below n k)
@@ -135,7 +129,7 @@ module _ (m : ℕ) (few : m ≤ 8) (A : Assignment) where
       has-unless r (holders m A b) (ordinary_subsets m A n (b + 1))
       (⊎_elim (λ same. inl (ap (λ (x : ℕ). bit (holders m A x) r) same ∙ e)) (λ above. inr (ordinary-has n (b + 1) r a (omega arith) (omega arith) e)) (eq-or-lt_of_le from))
 
-  last_has : (n k r a : ℕ) → k ≤ 15 → 16 - k ≤ a → a < 16 + n → bit (holders m A a) r ≡ true → any_has r (last_subsets m A n k) ≡ true
+  pub last_has : (n k r a : ℕ) → k ≤ 15 → 16 - k ≤ a → a < 16 + n → bit (holders m A a) r ≡ true → any_has r (last_subsets m A n k) ≡ true
   unfolding last_subsets
   last_has n zero r a h from up_to e = ordinary-has n 16 r a from up_to e
   last_has n (suc k) r a h from up_to e = go (eq-or-lt_of_le start) (last_has n k r a (omega arith))
@@ -159,71 +153,11 @@ module _ (m : ℕ) (few : m ≤ 8) (A : Assignment) where
     ordinary-chosen zero a h = tt
     ordinary-chosen (suc n) a h = chosen-unless (holders m A a) _ (holders-below m A a) (is.ordinary a h) (ordinary-chosen n (a + 1) (omega arith))
 
-    last-chosen : (n k : ℕ) → k ≤ 15 → Chosen (2 ^ m) allowed k (last_subsets m A n k)
+    pub last-chosen : (n k : ℕ) → k ≤ 15 → Chosen (2 ^ m) allowed k (last_subsets m A n k)
     unfolding last_subsets
     last-chosen n zero h = ordinary-chosen n _ (omega arith)
     last-chosen n (suc k) h = (holders-below m A (15 - k), is.special (15 - k) (omega arith) (omega arith), last-chosen n k (omega arith))
 
 -- no relation has attribute 0
-none-zero : (m : ℕ) (A : Assignment) → IsAssignment m A → holders m A 0 ≡ 0
+pub none-zero : (m : ℕ) (A : Assignment) → IsAssignment m A → holders m A 0 ≡ 0
 none-zero m A types = holders-packed m A 0 ∙ pack-same m (λ r. A r 0) (λ r. false) (λ r h. (types r h).positive) ∙ sym (packed (no_bits {w = m}))
-
-module _
-    (m : ℕ) (few : m ≤ 8) (allowed : ℕ → ℕ → Bool) (A : Assignment) (types : IsAssignment m A) (filled : Filled m A)
-    (bound : ℕ) (within : Within m A bound) (is : Allowed m allowed A) where
-  chosen : Chosen (2 ^ m) allowed 15 (subset_list m A bound)
-  unfolding subset_list
-  chosen = last-chosen m few A allowed is (bound - 16) 15 (omega arith)
-
-  all-below : 2 ^ m - 1 < 2 ^ m
-  all-below = let p = pow_pos m in omega arith
-
-  few-subsets : 2 ^ m ≤ 256
-  few-subsets = pow_mono {j = 8} few
-
-  covers : uncovered (2 ^ m - 1) (subset_list m A bound) ≡ 0
-  unfolding subset_list
-  covers =
-      (fills-is m few (last_subsets m A (bound - 16) 15) (last-below m few A (bound - 16) 15)
-      ).1 (λ r h. is_true (any_has r (last_subsets m A (bound - 16) 15))
-      (∥∥₁_elim (filled r h) (T_prop (any_has r (last_subsets m A (bound - 16) 15))) (λ x. by-true (has r h x.0 (is_true (A r x.0) x.1)))))
-    where
-      has : (r : ℕ) → r < m → (a : ℕ) → A r a ≡ true → any_has r (last_subsets m A (bound - 16) 15) ≡ true
-      has r h a e = go (eq-zero-or-pos a) (dec_le bound a)
-        where
-          go : (a ≡ 0) ⊎ (0 < a) → Dec (bound ≤ a) → any_has r (last_subsets m A (bound - 16) 15) ≡ true
-          go (inl z) d = absurd (clash (sym (ap (A r) z) ∙ e) (types r h).positive)
-          go (inr some) (yes past) = absurd (clash e (within r h a past))
-          go (inr some) (no inside) = last_has m few A (bound - 16) 15 r a (omega arith) some (omega arith) (holders-bit m few A a r h ∙ e)
-
-  list-weight : weight (subset_list m A bound) ≡ memberships m A bound
-  unfolding subset_list
-  list-weight =
-      let none = ap members (none-zero m A types) ∙ members-none in
-      let front = total-front (15 + (bound - 16)) (λ a. members (holders m A a)) in
-      let special =
-      last-weight m few A (bound - 16) 15 (omega arith)
-      ∙ total-same (15 + (bound - 16)) _ (λ i. members (holders m A (suc i))) (λ i h. let next : 16 - 15 + i ≡ suc i = omega arith in ap (λ (a : ℕ). members (holders m A a)) next)
-      in
-      let by = memberships-by m A few (suc (15 + (bound - 16))) in
-      let same = memberships-same m A bound (suc (15 + (bound - 16))) within (λ r h a past. within r h a (omega arith)) in
-      omega arith
-
-  -- no such assignment has fewer memberships than the cost
-  pub schema-fewest : cost (2 ^ m) allowed 15 (2 ^ m - 1) ≤ memberships m A bound
-  schema-fewest =
-      let least = fewest (2 ^ m) allowed few-subsets 15 (subset_list m A bound) (2 ^ m - 1) all-below chosen covers in
-      let same = list-weight in
-      omega arith
-
-  -- where the cost is infinity there is none
-  pub schema-none : infinity ≤ cost (2 ^ m) allowed 15 (2 ^ m - 1) → ⊥
-  schema-none cannot = unfilled (2 ^ m) allowed few-subsets 15 (subset_list m A bound) (2 ^ m - 1) (omega arith) all-below cannot chosen covers
-
-  -- of those with as many memberships none has a lower list than `best`
-  pub schema-lowest : memberships m A bound ≡ cost (2 ^ m) allowed 15 (2 ^ m - 1) → NotAbove (best (2 ^ m) allowed 15 (2 ^ m - 1)) (subset_list m A bound)
-  schema-lowest same = go (dec_le infinity (cost (2 ^ m) allowed 15 (2 ^ m - 1)))
-    where
-      go : Dec (infinity ≤ cost (2 ^ m) allowed 15 (2 ^ m - 1)) → NotAbove (best (2 ^ m) allowed 15 (2 ^ m - 1)) (subset_list m A bound)
-      go (yes cannot) = absurd (schema-none cannot)
-      go (no can) = best-lowest (2 ^ m) allowed few-subsets 15 (subset_list m A bound) (2 ^ m - 1) all-below (omega arith) chosen covers (list-weight ∙ same)

@@ -1,9 +1,9 @@
 -- The relations that still need an attribute once those of a subset have one.
 use Rattle.std.specs.Prelude.{ℕ, ◌-◌, ◌≤◌, ◌<◌, ◌≡◌, refl, Bool, true, false, not, ◌&&◌, ◌||◌, ◌⊎◌}
 use Rattle.std.proofs.Common.{sym, ap, ◌∙◌, inl, inr, mod-eq_of_lt, arith}
-use Rattle.std.specs.Int.Bits.{bit_and, bit_or}
-use Rattle.std.proofs.lemmas.Nat.{and_le_l, and_mask, or_lt}
-use Rattle.bits.specs.Bit.{bit, bit-and, bit-or, bit_not}
+use Rattle.std.specs.Int.Bits.{bit_and}
+use Rattle.std.proofs.lemmas.Nat.{and_le_l, and_mask}
+use Rattle.bits.specs.Bit.{bit, bit-and, bit_not}
 use Rattle.bits.specs.Booleans.{and_left}
 use Rattle.bits.specs.Pack.{bits-once}
 use Rattle.types.specs.Memberships.{members, members-fewer}
@@ -29,23 +29,10 @@ pub rest-bit : (need s j : ℕ) → s < 256 → j < 8 → bit (rest need s) j �
 unfolding rest
 rest-bit need s j hs hj = bit-and need (255 - s) j ∙ ap (λ (b : Bool). bit need j && b) (bit_not 8 s j hs hj)
 
-both : (n a b : Bool) → (n && not a) && not b ≡ n && not (a || b)
+pub both : (n a b : Bool) → (n && not a) && not b ≡ n && not (a || b)
 both true true b = refl
 both true false b = refl
 both false a b = refl
-
--- one subset and then another leave what both together leave
-pub rest-union : (need a b : ℕ) → need < 256 → a < 256 → b < 256 → rest (rest need a) b ≡ rest need (bit_or a b)
-rest-union need a b h ha hb =
-    let la = rest-least need a in
-    let lab = rest-least (rest need a) b in
-    let lor = rest-least need (bit_or a b) in
-    bits-once 8 _ _ (omega arith) (omega arith)
-    (λ j l.
-    rest-bit (rest need a) b j hb l
-    ∙ ap (λ (x : Bool). x && not (bit b j)) (rest-bit need a j ha l)
-    ∙ both (bit need j) (bit a j) (bit b j)
-    ∙ sym (rest-bit need (bit_or a b) j (or_lt 8 a b ha hb) l ∙ ap (λ (x : Bool). bit need j && not x) (bit-or a b j)))
 
 swap : (n a b : Bool) → (n && a) && b ≡ (n && b) && a
 swap true true true = refl

@@ -5,8 +5,6 @@ pub mod Instantiation
 pub mod States
 pub mod Members
 pub mod Instance
-pub mod ImageFits
-pub mod ImageOnce
 pub mod Principal
 pub mod Filled
 pub mod Choice

@@ -8,7 +8,8 @@ use Rattle.algebra.specs.Expression.{Expression, relation, binary, with_set, ren
 use Rattle.algebra.specs.Cell.{plain, out, ok}
 use Rattle.states.specs.Coded.{plain_code, value_at, plain_value, plain-values, bit-back}
 use Rattle.planes.specs.Planes.{stepped_column, stepped_column2}
-use Rattle.planes.specs.Steps.{UnaryStep, stored_bits, cell_column as planes_column, column-of-cells, binary-cells as planes-binary, unary-cells as planes-unary}
+use Rattle.planes.specs.Steps.{UnaryStep, stored_bits, cell_column as planes_column}
+use Rattle.planes.proofs.Steps.{column-of-cells, binary-cells as planes-binary, unary-cells as planes-unary}
 use Rattle.node.specs.declared.nodes.BinaryOp.{BinaryOp}
 use Rattle.node.specs.declared.nodes.Node.{Node}
 use Rattle.node.specs.declared.nodes.Node.TheVariants.{Relation, Binary, WithSet, Renaming, ProjectingOut}

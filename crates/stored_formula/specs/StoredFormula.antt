@@ -8,7 +8,8 @@ use Rattle.algebra.specs.Expression.{Expression}
 use Rattle.algebra.specs.Rules.{Typed}
 use Rattle.principal.specs.Formula.{Formula, Fits}
 use Rattle.principal.specs.Instantiation.{Instantiation, InImage, HasImage, HasOutput, FilledImage}
-use Rattle.principal.specs.Principal as Theorem
+use Rattle.principal.specs.Principal as Principal
+use Rattle.principal.proofs.Principal as Theorem
 use Rattle.expression_file.specs.declared.files.Acceptance.TheVariants.{Accepted}
 use Rattle.expression_file.specs.ReadFile.{node_at, acceptance}
 use Rattle.expression_file.specs.Accepted.{accepted-file}
@@ -64,7 +65,7 @@ module _ (file : List ℕ) (m n : ℕ) (accepted : acceptance file ≡ Accepted 
   subsets-few : 2 ^ m ≤ 256
   subsets-few = pow_mono {j = 8} (accepted-file file m n accepted).counts.relations.1
 
-  pub is-formula : Theorem.FormulaOf (expression_at file k) (formula_in filled m k)
+  pub is-formula : Principal.FormulaOf (expression_at file k) (formula_in filled m k)
   is-formula =
       record {
         allowed = λ c s hc hs. stored-allowed c s hc (lt_of_lt_of_le hs subsets-few) ∙ allowed-is m (expression_at file k) c s hs;

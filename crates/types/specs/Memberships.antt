@@ -1,7 +1,7 @@
 -- Memberships: how many relations have how many attributes (FORMAT 2.16, 3.1).
 use Rattle.std.specs.Prelude.{ℕ, zero, suc, ◌+◌, ◌-◌, ◌*◌, ◌/◌, ◌%◌, ◌≤◌, ◌<◌, ◌≡◌, Bool, true, false, ◌⊎◌}
-use Rattle.std.proofs.Math.Path.{refl, ap}
-use Rattle.std.proofs.Common.{sym, ap₂, ◌∙◌, inl, inr, add_comm, lt_of_lt_of_le, arith, pow_mono}
+use Rattle.std.proofs.Math.Path.{ap}
+use Rattle.std.proofs.Common.{sym, ap₂, ◌∙◌, inl, inr, lt_of_lt_of_le, arith, pow_mono}
 use Rattle.std.proofs.Math.Bool.{cond}
 use Rattle.std.proofs.Math.Logic.{∥∥₁_elim, ∥∥₁_prop}
 use Rattle.std.proofs.Math.Decide.{dec_lt}
@@ -10,7 +10,7 @@ use Rattle.std.proofs.lemmas.Nat.{ones_cat}
 use Rattle.bits.specs.Bit.{bit, bit-none, bit-above}
 use Rattle.bits.specs.Booleans.{clash}
 use Rattle.bits.specs.Pack.{pack, bit-pack, bits-once, pack-below}
-use Rattle.bits.specs.Total.{total, count, total-zero, total-same, total-swap, total-more, count_most, count-fewer, ones-count}
+use Rattle.bits.specs.Total.{total, count, total-zero, total-same, total-more, count_most, count-fewer, ones-count}
 use Rattle.types.specs.Types.{Assignment, IsAssignment, holders}
 use Rattle.types.specs.Laws.{holders-packed, finite-bound}
 
@@ -73,7 +73,7 @@ members-split s h =
     ∙ ap₂ (λ (x y : ℕ). x + y) (members-ones (s / 8) (omega arith)) (members-ones (s % 8) (omega arith))
 
 -- of the relations that have an attribute
-members-held : (m : ℕ) → m ≤ 8 → (A : Assignment) (a : ℕ) → count m (λ r. A r a) ≡ members (holders m A a)
+pub members-held : (m : ℕ) → m ≤ 8 → (A : Assignment) (a : ℕ) → count m (λ r. A r a) ≡ members (holders m A a)
 unfolding members
 members-held m few A a =
     let whole : m + (8 - m) ≡ 8 = omega arith in
@@ -83,29 +83,6 @@ members-held m few A a =
     ∙ ap (λ (s : ℕ). count 8 (bit s)) (sym (holders-packed m A a))
 
 -- ---- memberships
-
-module _ (m : ℕ) (A : Assignment) where
-  pub memberships-is : (bound : ℕ) → memberships m A bound ≡ total m (λ r. count bound (A r))
-  unfolding memberships
-  memberships-is bound = refl
-
-  memberships-more : (bound more : ℕ) → Within m A bound → memberships m A (bound + more) ≡ memberships m A bound
-  unfolding memberships
-  memberships-more bound more within =
-      total-same m (λ r. count (bound + more) (A r)) (λ r. count bound (A r))
-      (λ r h. total-more bound more (λ a. cond (A r a) 1 0) (λ a past. ap (λ (b : Bool). cond b 1 0) (within r h a past)))
-
-  -- whatever the bound
-  pub memberships-same : (b c : ℕ) → Within m A b → Within m A c → memberships m A b ≡ memberships m A c
-  memberships-same b c within also =
-      sym (memberships-more b c within) ∙ ap (memberships m A) (add_comm b c) ∙ memberships-more c b also
-
-  -- attribute by attribute
-  pub memberships-by : m ≤ 8 → (bound : ℕ) → memberships m A bound ≡ total bound (λ a. members (holders m A a))
-  unfolding memberships
-  memberships-by few bound =
-      total-swap m bound (λ r a. cond (A r a) 1 0)
-      ∙ total-same bound (λ a. count m (λ r. A r a)) (λ a. members (holders m A a)) (λ a h. members-held m few A a)
 
 -- types have a bound that none of their attributes reaches
 pub within-some : (m : ℕ) (A : Assignment) → IsAssignment m A → ∥ ((bound : ℕ) × Within m A bound) ∥₁

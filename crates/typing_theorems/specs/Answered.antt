@@ -17,7 +17,7 @@ use Rattle.filled_schema.specs.FilledLaws.{filled-schema}
 use Rattle.schema.specs.declared.reading.Judgement.{Judgement}
 use Rattle.schema.specs.declared.reading.Judgement.TheVariants.{Read, Refused as SchemaRefused}
 use Rattle.typing_answer.specs.Typing.{typing_answer}
-use Rattle.typing_answer.specs.TypingLaws.{schema-stops, typing-stops, typing-goes}
+use Rattle.typing_answer.proofs.TypingLaws.{schema-stops, typing-stops, typing-goes}
 use Rattle.typing_theorems.specs.Theorems.{Unrefused}
 use Rattle.typing_answer.specs.declared.Answer.TheVariants.{Typed, Untyped, Refused}
 

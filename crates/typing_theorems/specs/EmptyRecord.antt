@@ -16,10 +16,10 @@ use Rattle.schema.specs.TableLaws.{read-schema}
 use Rattle.schema.specs.declared.reading.Judgement.{Judgement}
 use Rattle.schema.specs.declared.reading.Judgement.TheVariants.{Read, Refused as SchemaRefused}
 use Rattle.filled_schema.specs.FilledSchema.{filled_reading}
-use Rattle.filled_schema.specs.FilledLaws.{empty-record}
+use Rattle.filled_schema.proofs.FilledLaws.{empty-record}
 use Rattle.table_types.specs.Output.{typed_in}
 use Rattle.typing_answer.specs.Typing.{table_answer, schema_answer, typing_answer}
-use Rattle.typing_answer.specs.TypingLaws.{answer_typed, answer-untyped, schema-stops, schema-goes, typing-goes}
+use Rattle.typing_answer.proofs.TypingLaws.{answer_typed, answer-untyped, schema-stops, schema-goes, typing-goes}
 use Rattle.typing_answer.specs.declared.Answer.TheVariants.{Refused}
 
 -- none of 1 to 13 applies, and the schema has these records, with at most 255 different ordinary attributes

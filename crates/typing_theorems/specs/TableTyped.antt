@@ -11,7 +11,8 @@ use Rattle.algebra.specs.Expression.{Expression, Legal}
 use Rattle.algebra.specs.Rules.{Typed}
 use Rattle.algebra.specs.Cell.{plain, out, ok}
 use Rattle.algebra.specs.CellLaws.{cell-depends, cell-none}
-use Rattle.algebra.specs.ByAttribute.{CellOf, typed-cells, cells-typed, typed-once}
+use Rattle.algebra.specs.ByAttribute.{CellOf}
+use Rattle.algebra.proofs.ByAttribute.{typed-cells, cells-typed, typed-once}
 use Rattle.type_record.specs.Record.{TypeRecord, type_of}
 use Rattle.type_record.specs.RecordBytes.{IsRecord}
 use Rattle.type_record.specs.RecordTypes.{type-of-special, type-of-other}

@@ -32,7 +32,7 @@ use Rattle.table_types.specs.Output.{typed_in, output_map, output_list}
 use Rattle.table_types.specs.OutputRecord.{output_record, output-parts}
 use Rattle.typing_theorems.specs.TableTyped.{table-rules, rules-table, rules-output, output-record}
 use Rattle.typing_answer.specs.Typing.{table_answer, table_out, typing_answer, typing_out}
-use Rattle.typing_answer.specs.TypingLaws.{answer_typed, answer-untyped, out-typed, typing-records}
+use Rattle.typing_answer.proofs.TypingLaws.{answer_typed, answer-untyped, out-typed, typing-records}
 use Rattle.typing_answer.specs.declared.Answer.TheVariants.{Typed as TypedAnswer, Untyped}
 use Rattle.refusal.specs.Several.{several_read as records_read}
 

@@ -6,7 +6,7 @@ use Rattle.admission.specs.AdmissionLaws.{sliced-passed, admitted-passed}
 use Rattle.admission.specs.Admission.{admitted}
 use Rattle.verdict_theorems.specs.Theorems.{verdict-witness}
 use Rattle.verdict_answer.specs.Verdict.{verdict_answer, verdict_schema}
-use Rattle.verdict_answer.specs.VerdictLaws.{verdict-unrefused}
+use Rattle.verdict_answer.proofs.VerdictLaws.{verdict-unrefused}
 use Rattle.verdict_answer.specs.declared.Outcome.TheVariants.{Typable}
 use Rattle.typing_answer.specs.Typing.{typing_answer, typing_out}
 use Rattle.typing_theorems.specs.Theorems.{RecordOf, typing-typed}

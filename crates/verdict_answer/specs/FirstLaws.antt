@@ -18,8 +18,7 @@ use Rattle.column.specs.Column.{allowed_in}
 use Rattle.stored_formula.specs.ColumnPlace.{column_at}
 use Rattle.stored_formula.specs.FormulaBytes.{allowed_bit, cell_column}
 use Rattle.stored_formula.specs.NodeColumn.{cell-allowed}
-use Rattle.verdict_answer.specs.First.{allowed_at, first_in, blocked_by, blocked_in, chosen_by, subsets_by}
-use Rattle.verdict_answer.specs.FewestLaws.{first-same}
+use Rattle.verdict_answer.specs.First.{allowed_at, blocked_by, chosen_by, subsets_by}
 use Rattle.verdict_answer.specs.declared.Subsets.{Subsets}
 
 -- ---- the subsets chosen
@@ -110,13 +109,6 @@ module _ (f g : ℕ → ℕ) (same : (i : ℕ) → i < 16 → f i ≡ g i) where
   blocked-same = lowest-same 15 1 (λ i. eqb (f i) 256) (λ i. eqb (g i) 256) (λ i low high. ap (λ (x : ℕ). eqb x 256) (same i high))
 
 -- ---- columns that allow the same
-
-module _ (f g : ℕ → ℕ → Bool) (same : (i s : ℕ) → i < 16 → s < 256 → f i s ≡ g i s) where
-  pub firsts_same : (i : ℕ) → i < 16 → first_in f i ≡ first_in g i
-  firsts_same i h = first-same (f i) (g i) (λ s below. same i s h below)
-
-  pub blocked-in-same : blocked_in f ≡ blocked_in g
-  blocked-in-same = blocked-same (first_in f) (first_in g) firsts_same
 
 -- a work space that holds the columns of expression e at node k
 pub stored-cells :

@@ -8,20 +8,22 @@ use Rattle.std.proofs.Math.Pow.{ones_lt}
 use Rattle.bits.specs.Rising.{rising-places}
 use Rattle.bits.specs.Total.{total, total-front, total-same, total-more}
 use Rattle.types.specs.Types.{holders}
-use Rattle.types.specs.Memberships.{members, memberships, Within, members-none, memberships-same, memberships-by}
+use Rattle.types.specs.Memberships.{members, memberships, Within, members-none}
+use Rattle.types.proofs.Memberships.{memberships-same, memberships-by}
 use Rattle.algebra.specs.Expression.{Expression, Legal}
 use Rattle.principal.specs.Plain.{holders-none}
 use Rattle.principal.specs.Principal.{FilledTyping}
 use Rattle.stored_formula.specs.FormulaBytes.{allowed_bit}
 use Rattle.schema.specs.Schema.{assignment_of}
 use Rattle.set_cover.specs.Choice.{weight-total, NotAbove}
-use Rattle.set_cover.specs.Cheapest.{best-right}
-use Rattle.set_cover.specs.BestLaws.{best-rises}
-use Rattle.set_cover.specs.Assignments.{unless_empty, ordinary_subsets, last_subsets, subset_list, ordinary-none, ordinary-more, last-ordinary, last_more, list-last, schema-fewest, schema-lowest}
+use Rattle.set_cover.proofs.Cheapest.{best-right}
+use Rattle.set_cover.proofs.BestLaws.{best-rises}
+use Rattle.set_cover.specs.Assignments.{unless_empty, ordinary_subsets, last_subsets, subset_list, ordinary-none, ordinary-more, last-ordinary, last_more, list-last}
+use Rattle.set_cover.proofs.Assignments.{schema-fewest, schema-lowest}
 use Rattle.verdict_answer.specs.Witness.{cost_in, choice_in, witness_records}
 use Rattle.verdict_answer.specs.WitnessLaws.{Variables}
 use Rattle.verdict_answer.specs.Verdict.{untypable_in}
-use Rattle.verdict_answer.specs.VerdictLaws.{typable-parts}
+use Rattle.verdict_answer.proofs.VerdictLaws.{typable-parts}
 use Rattle.verdict_theorems.specs.WitnessLaws.{typing-allowed, is-choice, witness-holders, holders-zero, witness-within}
 
 -- a variable is not the empty subset

@@ -1,21 +1,16 @@
 -- The memberships of a schema, counted off its records: each record's special and listed attributes.
-use Rattle.std.specs.Prelude.{ℕ, zero, suc, ◌+◌, ◌≤◌, ◌<◌, ◌≡◌, refl, Bool, true, false, cond, ◌||◌, List, [], ◌∷◌, eqb, length, get_or}
+use Rattle.std.specs.Prelude.{ℕ, zero, suc, ◌+◌, ◌≤◌, ◌<◌, ◌≡◌, refl, Bool, true, false, cond, ◌||◌, List, ◌∷◌, eqb, length, get_or, []}
 use Rattle.std.proofs.Common.{sym, ap, ap₂, ◌∙◌, add_comm, lt_of_lt_of_le, add-one, arith, eqb-true, pow_mono}
 use Rattle.std.proofs.Math.Bool.{or-false}
 use Rattle.std.proofs.Math.Decide.{dec_lt}
 use Rattle.bits.specs.Bit.{bit, bit-above}
 use Rattle.bits.specs.Rising.{member, Rising, rising-above}
-use Rattle.bits.specs.Total.{total, count, total-none, total-front, total-zero, total-same, total-both, total-more, count-one}
+use Rattle.bits.specs.Total.{count, total-zero, total-same, total-both, total-more, count-one}
 use Rattle.bits.specs.Truth.{by-true, by-false}
-use Rattle.bits.specs.Word.{Bytes}
 use Rattle.attribute_set.specs.Laws.{special-in, special-above, special-zero}
-use Rattle.types.specs.Memberships.{memberships, Within, memberships-is}
 use Rattle.type_record.specs.Record.{TypeRecord, type_of}
 use Rattle.type_record.specs.RecordBytes.{IsRecord}
 use Rattle.type_record.specs.RecordTypes.{type-of-special, type-of-other, clear_first}
-use Rattle.schema.specs.Schema.{assignment_of, schema_reading}
-use Rattle.schema.specs.RecordsLaws.{AllRecords, records-read}
-use Rattle.schema.specs.TableLaws.{ReadSchema}
 
 -- the special and the listed attributes of a record
 abbrev pub attributes_in : TypeRecord → ℕ
@@ -70,7 +65,7 @@ module _ (t : TypeRecord) (is : IsRecord t) where
   map-not-list a (yes h) has = list-below a h
   map-not-list a (no h) has = absurd (by-false (map-above a (omega arith)) (by-true has))
 
-  record-count : (bound : ℕ) → ((a : ℕ) → bound ≤ a → type_of t a ≡ false) → count bound (type_of t) ≡ attributes_in t
+  pub record-count : (bound : ℕ) → ((a : ℕ) → bound ≤ a → type_of t a ≡ false) → count bound (type_of t) ≡ attributes_in t
   record-count bound none =
       let wide : bound + 65536 ≡ 16 + (bound + 65520) = omega arith in
       sym (total-more bound 65536 (λ a. cond (type_of t a) 1 0) (λ a past. ap (λ (b : Bool). cond b 1 0) (none a past)))
@@ -79,19 +74,3 @@ module _ (t : TypeRecord) (is : IsRecord t) where
       ∙ ap₂ (λ (x y : ℕ). x + y)
       (ap (λ (n : ℕ). count n (bit t.map)) wide ∙ total-more 16 (bound + 65520) (λ a. cond (bit t.map a) 1 0) (λ a h. ap (λ (b : Bool). cond b 1 0) (map-above a h)))
       (member-count 15 t.ordinary (bound + 65536) is.rising (λ i. let small = is.below i in omega arith))
-
--- ---- all records
-
-records-count : (ts : List TypeRecord) → AllRecords ts → (bound : ℕ) → ((r : ℕ) → r < length ts → (a : ℕ) → bound ≤ a → assignment_of ts r a ≡ false) → total (length ts) (λ r. count bound (assignment_of ts r)) ≡ attributes_of ts
-records-count [] are bound none = total-none (λ r. count bound (assignment_of [] r))
-records-count (t ∷ ts) are bound none =
-    total-front (length ts) (λ r. count bound (assignment_of (t ∷ ts) r))
-    ∙ ap₂ (λ (x y : ℕ). x + y) (record-count t are.0 bound (none 0 (omega arith))) (records-count ts are.1 bound (λ r h. none (suc r) (omega arith)))
-
--- what was read as a schema has as many memberships as its records have special and listed attributes
-pub schema-memberships : (m : ℕ) (bytes : List ℕ) (ts : List TypeRecord) → Bytes bytes → ReadSchema m bytes (schema_reading m bytes) ts → (bound : ℕ) → Within m (assignment_of ts) bound → memberships m (assignment_of ts) bound ≡ attributes_of ts
-schema-memberships m bytes ts below read bound within =
-    let are = records-read m bytes ts below read.read in
-    memberships-is m (assignment_of ts) bound
-    ∙ ap (λ (n : ℕ). total n (λ r. count bound (assignment_of ts r))) (sym are.0)
-    ∙ records-count ts are.1 bound (λ r h. within r (rw are.0 at h))

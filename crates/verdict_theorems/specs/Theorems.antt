@@ -39,7 +39,7 @@ use Rattle.verdict_theorems.specs.WitnessLaws.{Witness, untypable-is, blocked-at
 use Rattle.verdict_theorems.specs.MembershipLaws.{witness-memberships, witness-subsets, witness-numbered, cost-least, choice-lowest}
 use Rattle.verdict_answer.specs.Witness.{cost_in, choice_in, witness_records, witness_bytes}
 use Rattle.verdict_answer.specs.Verdict.{untypable_in, outcome_in, schema_in, verdict_answer, verdict_space, verdict_schema}
-use Rattle.verdict_answer.specs.VerdictLaws.{outcome-untypable, outcome-typable, verdict-stops, verdict-passes, verdict-unrefused}
+use Rattle.verdict_answer.proofs.VerdictLaws.{outcome-untypable, outcome-typable, verdict-stops, verdict-passes, verdict-unrefused}
 use Rattle.verdict_answer.specs.declared.Outcome.TheVariants.{Typable, Untypable, Refused}
 use Rattle.type_record.specs.Record.{TypeRecord}
 use Rattle.schema.specs.Schema.{schema_size, assignment_of}

@@ -22,7 +22,8 @@ use Rattle.states.specs.Formula.{type_variable}
 use Rattle.principal.specs.Formula.{Formula, Fits, Grounded}
 use Rattle.principal.specs.Plain.{holders-is, holders-none}
 use Rattle.principal.specs.Blocked.{Blocked}
-use Rattle.principal.specs.Principal as Theorem
+use Rattle.principal.specs.Principal as Principal
+use Rattle.principal.proofs.Principal as Theorem
 use Rattle.principal.specs.Principal.{FilledTyping}
 use Rattle.stored_formula.specs.FormulaBytes.{allowed_bit, output_bit}
 use Rattle.stored_formula.specs.FormulaBytesLaws.{allowed-is, allowed-below, output-is}
@@ -41,17 +42,19 @@ use Rattle.filled_schema.specs.FilledRecords.{table_filled_lem}
 use Rattle.filled_schema.specs.FilledLaws.{schema-filled}
 use Rattle.refusal.specs.Several.{several_read as records_read}
 use Rattle.set_cover.specs.Least.{infinity}
-use Rattle.set_cover.specs.Cheapest.{best-right}
-use Rattle.set_cover.specs.Covered.{EachBelow, any_place, fills-is}
-use Rattle.set_cover.specs.BestLaws.{best-below, best-least, best-most, best-entry, best-special, best-variable}
-use Rattle.set_cover.specs.Assignments.{Allowed, schema-none}
+use Rattle.set_cover.proofs.Cheapest.{best-right}
+use Rattle.set_cover.specs.Covered.{EachBelow, any_place}
+use Rattle.set_cover.proofs.Covered.{fills-is}
+use Rattle.set_cover.proofs.BestLaws.{best-below, best-least, best-most, best-entry, best-special, best-variable}
+use Rattle.set_cover.specs.Assignments.{Allowed}
+use Rattle.set_cover.proofs.Assignments.{schema-none}
 use Rattle.verdict_answer.specs.First.{first_in, blocked_in}
-use Rattle.verdict_answer.specs.FewestLaws.{fewest-in}
+use Rattle.verdict_answer.proofs.FewestLaws.{fewest-in}
 use Rattle.verdict_answer.specs.FirstLaws.{blocked-lowest}
 use Rattle.verdict_answer.specs.Witness.{cost_in, choice_in, specials_of, ordinaries_of, witness_records, witness_bytes}
 use Rattle.verdict_answer.specs.WitnessLaws.{Variables, IsChoice, witness-bytes, specials-at, choice-table, ordinaries-holders}
 use Rattle.verdict_answer.specs.Verdict.{untypable_in}
-use Rattle.verdict_answer.specs.VerdictLaws.{untypable-blocked, untypable-unfilled, untypable-none, typable-parts}
+use Rattle.verdict_answer.proofs.VerdictLaws.{untypable-blocked, untypable-unfilled, untypable-none, typable-parts}
 
 -- these bytes are read as a schema of m relations without a refusal, every relation has an attribute, and the rules
 -- derive a type of e under the assignment that it means
@@ -69,7 +72,7 @@ abbrev cell_formula : ℕ → Expression → Formula
 cell_formula m e = record { relations = m; allowed = allowed_bit m e; output = output_bit m e }
 
 module _ (m : ℕ) (few : m ≤ 8) (e : Expression) (legal : Legal m e) where
-  is-formula : Theorem.FormulaOf e (cell_formula m e)
+  is-formula : Principal.FormulaOf e (cell_formula m e)
   is-formula = record { allowed = λ c s hc hs. allowed-is m e c s hs; output = λ c s hc hs. output-is m e c s hs }
 
   is_grounded : Grounded (cell_formula m e)
@@ -81,10 +84,10 @@ module _ (m : ℕ) (few : m ≤ 8) (e : Expression) (legal : Legal m e) where
   -- ---- an assignment that types the expression
 
   -- each attribute is allowed as it has it
-  fits-at : (t : Theorem.Typing m e) (a : ℕ) → allowed_bit m e (column a) (holders m t.assignment a) ≡ true
+  fits-at : (t : Principal.Typing m e) (a : ℕ) → allowed_bit m e (column a) (holders m t.assignment a) ≡ true
   fits-at t a = ((Theorem.typed-fits e (cell_formula m e) legal is-formula t.assignment t.type).0 t.typed a).allowed
 
-  pub typing-allowed : (t : Theorem.Typing m e) → Allowed m (allowed_bit m e) t.assignment
+  pub typing-allowed : (t : Principal.Typing m e) → Allowed m (allowed_bit m e) t.assignment
   typing-allowed t =
       record {
         special = λ i some most. ap (λ (c : ℕ). allowed_bit m e c (holders m t.assignment i)) (sym (column-of-special i (special-in i some most))) ∙ fits-at t i;
@@ -107,7 +110,7 @@ module _ (m : ℕ) (few : m ≤ 8) (e : Expression) (legal : Legal m e) where
       }
 
   -- a column allows nothing: no assignment types it, filled or not
-  pub blocked-none : blocked_in (allowed_bit m e) < 16 → Theorem.Typing m e → ⊥
+  pub blocked-none : blocked_in (allowed_bit m e) < 16 → Principal.Typing m e → ⊥
   blocked-none h = (Theorem.verdict e (cell_formula m e) legal is-formula).0 (blocks h)
 
   pub untypable-untyped : untypable_in m (allowed_bit m e) < 16 → FilledTyping m e → ⊥

@@ -4,7 +4,7 @@ use mathlib.Core.List.{List}
 use native.Mathlib.Omega.{arith}
 use Rattle.column.specs.Column.{allowed_in}
 use Rattle.verdict_answer.specs.First.{fewest_in}
-use Rattle.verdict_answer.specs.FewestLaws.{first_small}
+use Rattle.verdict_answer.proofs.FewestLaws.{first_small}
 use Rattle.verdict_answer.specs.FirstLaws.{choose-first, choose-next, choose-blocked, choose-ended}
 use Rattle.first_subsets.proofs.first_in_columns.Goals as goal
 

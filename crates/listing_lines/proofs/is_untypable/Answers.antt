@@ -1,5 +1,6 @@
 use mathlib.Core.Path.{sym, ap, ◌∙◌}
-use Rattle.verdict_answer.specs.Typability.{says_untypable, says-untypable}
+use Rattle.verdict_answer.specs.Typability.{says_untypable}
+use Rattle.verdict_answer.proofs.WithoutWitness.{says-untypable}
 use Rattle.listing_lines.proofs.is_untypable.Goals as goal
 
 pub returns-in-Untypable : goal.returns-in-Untypable

@@ -3,7 +3,7 @@ use mathlib.Core.Path.{sym, ap, subst, ◌∙◌}
 use native.Mathlib.Omega.{arith}
 use Rattle.node.specs.Legal.{LegalNode}
 use Rattle.expression_file.specs.Walk.{here-decoded}
-use Rattle.type_sets.specs.FilledSets.{filled-node}
+use Rattle.type_sets.proofs.FilledSets.{filled-node}
 use Rattle.set_filling.proofs.fill_node.Goals as goal
 
 pub decode-decoding-requires : goal.decode-decoding-requires

@@ -1,4 +1,4 @@
-use Rattle.verdict_answer.specs.Typability.{typability-unfilled, typability-filled}
+use Rattle.verdict_answer.proofs.WithoutWitness.{typability-unfilled, typability-filled}
 use Rattle.typability.proofs.table_typability.Goals as goal
 
 pub returns-then-cost-lt200 : goal.returns-then-cost-lt200

@@ -4,7 +4,7 @@ use native.Mathlib.Omega.{arith}
 use lib.ListN.{drop}
 use Rattle.set_cover.specs.Choice.{uncovered}
 use Rattle.verdict_answer.specs.VerdictLaws.{stored-open}
-use Rattle.verdict_answer.specs.Typability.{typability-blocked, typability-first}
+use Rattle.verdict_answer.proofs.WithoutWitness.{typability-blocked, typability-first}
 use Rattle.typability.proofs.typability.Goals as goal
 
 pub returns-then-subsets-lt16 : goal.returns-then-subsets-lt16

@@ -1,4 +1,5 @@
-use Rattle.typing_answer.specs.TypingLaws.{schema-stops, schema-goes, schema-table, read-stopped}
+use Rattle.typing_answer.specs.TypingLaws.{schema-table, read-stopped}
+use Rattle.typing_answer.proofs.TypingLaws.{schema-stops, schema-goes}
 use Rattle.expression_file.specs.Accepted.{accepted-file}
 use native.Mathlib.Omega.{arith}
 use Rattle.typing.proofs.type_schema.Goals as goal

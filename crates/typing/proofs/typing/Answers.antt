@@ -2,7 +2,7 @@ use mathlib.Core.Path.{sym, ◌∙◌}
 use native.Mathlib.Omega.{arith}
 use Rattle.expression_file.specs.Accepted.{accepted-file}
 use Rattle.admission.specs.AdmissionLaws.{sliced-after, sliced-passed, asked-passed}
-use Rattle.typing_answer.specs.TypingLaws.{typing-stops, typing-goes}
+use Rattle.typing_answer.proofs.TypingLaws.{typing-stops, typing-goes}
 use Rattle.typing.proofs.typing.Goals as goal
 
 pub overflow_cast-node : goal.overflow_cast-node

@@ -4,7 +4,8 @@ use mathlib.Core.List.{[]}
 use native.Mathlib.Omega.{arith}
 use lib.ListN.{drop}
 use Rattle.set_cover.specs.Choice.{uncovered}
-use Rattle.verdict_answer.specs.VerdictLaws.{stored-blocked, stored-open, first-writes, first-typable}
+use Rattle.verdict_answer.specs.VerdictLaws.{stored-open}
+use Rattle.verdict_answer.proofs.VerdictLaws.{stored-blocked, first-writes, first-typable}
 use Rattle.verdict.proofs.stored_verdict.Goals as goal
 
 pub returns-then-subsets-lt16 : goal.returns-then-subsets-lt16

@@ -1,7 +1,8 @@
 use mathlib.Core.Path.{sym, ◌∙◌}
 use native.Mathlib.Omega.{arith}
 use Rattle.admission.specs.AdmissionLaws.{sliced-after, slice-admits, admits-few}
-use Rattle.verdict_answer.specs.VerdictLaws.{verdict-stops, verdict-goes, filled-formed}
+use Rattle.verdict_answer.specs.VerdictLaws.{filled-formed}
+use Rattle.verdict_answer.proofs.VerdictLaws.{verdict-stops, verdict-goes}
 use Rattle.verdict.proofs.verdict.Goals as goal
 
 pub fill-requires : goal.fill-requires

@@ -1,6 +1,7 @@
 use native.Mathlib.Omega.{arith}
 use Rattle.types.specs.Memberships.{ones-most}
-use Rattle.first_subsets.specs.ByteMembers.{byte-most, fewest-none, fewest-next, fewest-all}
+use Rattle.first_subsets.specs.ByteMembers.{fewest-none, fewest-all}
+use Rattle.first_subsets.proofs.ByteMembers.{byte-most, fewest-next}
 use Rattle.first_subsets.proofs.members.fewest_in_bytes.Goals as goal
 
 pub loop-i-init : goal.loop-i-init

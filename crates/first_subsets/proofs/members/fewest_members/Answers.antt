@@ -1,4 +1,4 @@
-use Rattle.first_subsets.specs.ByteMembers.{fewest-first-byte}
+use Rattle.first_subsets.proofs.ByteMembers.{fewest-first-byte}
 use Rattle.first_subsets.proofs.members.fewest_members.Goals as goal
 
 pub returns-then-first-lt2 : goal.returns-then-first-lt2

@@ -5,7 +5,7 @@ use Rattle.node.specs.NodeBytes.{node_bytes}
 use Rattle.text.specs.Put.{wrote_as}
 use Rattle.query_language.specs.Places.{byte_inside}
 use Rattle.query_operands.specs.Reading.{is_read, is-missing, reads_as}
-use Rattle.query_language.specs.Steps.{by-relation, by-pair, by-prefix}
+use Rattle.query_language.proofs.Steps.{by-relation, by-pair, by-prefix}
 use Rattle.query_operands.specs.ReadingLaws.{room-placed, room-byte, room_after, is-prefix, room-prefix, prefixed-none, prefixed-half, prefixed-done}
 use Rattle.query_operands.specs.ReadingLaws.{is-sign, room-sign, pair-no-left, pair-no-sign, pair-no-right, pair-not-closed, pair-done}
 use Rattle.query_operands.proofs.operands.+read_operand_read_pair.Goals as goal

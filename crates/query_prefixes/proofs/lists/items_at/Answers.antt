@@ -1,6 +1,6 @@
 use mathlib.Core.Path.{sym, ◌∙◌}
 use native.Mathlib.Omega.{arith}
-use Rattle.query_language.specs.Steps.{items-none, items-below, items-last, items-other, items-next}
+use Rattle.query_language.proofs.Steps.{items-none, items-below, items-last, items-other, items-next}
 use Rattle.query_prefixes.specs.AnswerLaws.{number_is, number-missing, number_read, comma-placed, list-none, list-last, list-more}
 use Rattle.query_prefixes.proofs.lists.items_at.Goals as goal
 

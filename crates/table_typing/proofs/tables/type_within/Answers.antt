@@ -1,7 +1,7 @@
 use Rattle.membership.specs.HolderLaws.{listed-reaches, listed-fits}
 use Rattle.algebra.specs.Cell.{plain, out}
 use Rattle.bits.specs.Bit.{bit}
-use Rattle.typing_answer.specs.TypingLaws.{table-untyped, output-bits, map-fits, table-typed}
+use Rattle.typing_answer.proofs.TypingLaws.{table-untyped, output-bits, map-fits, table-typed}
 use Rattle.type_sets.specs.SetLaws.{node-room}
 use Rattle.node_expression.specs.NodeExpression.{expression_at, expression-legal}
 use lib.Seq.{length-take-le}

@@ -4,8 +4,8 @@ use native.Mathlib.Omega.{arith}
 use lib.Pow.{pow_mono, pow_pos}
 use Rattle.verdict_answer.specs.First.{allowed_at}
 use Rattle.verdict_answer.specs.WitnessLaws.{specials-none, specials-size}
-use Rattle.verdict_answer.specs.VerdictLaws.{stored-typable}
-use Rattle.set_cover.specs.BestLaws.{best-least}
+use Rattle.verdict_answer.proofs.VerdictLaws.{stored-typable}
+use Rattle.set_cover.proofs.BestLaws.{best-least}
 use Rattle.cover_table.specs.Table.{first-lent}
 use Rattle.cover_choice.specs.Variables.{chosen-entries}
 use Rattle.verdict.proofs.witness.chosen_verdict.Goals as goal

@@ -1,5 +1,5 @@
 use native.Mathlib.Omega.{arith}
-use Rattle.verdict_answer.specs.VerdictLaws.{stored-unfilled}
+use Rattle.verdict_answer.proofs.VerdictLaws.{stored-unfilled}
 use Rattle.verdict.proofs.witness.table_verdict.Goals as goal
 
 pub chosen_verdict-requires : goal.chosen_verdict-requires

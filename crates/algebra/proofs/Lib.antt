@@ -1,0 +1,2 @@
+pub mod ByAttribute
+pub mod TypedCells

@@ -1,0 +1,3 @@
+pub mod EntriesLaws
+pub mod StandingBits
+pub mod SubsetBits

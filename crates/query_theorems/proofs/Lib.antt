@@ -1,0 +1,3 @@
+pub mod QueryExpressions
+pub mod Theorems
+pub mod OneText

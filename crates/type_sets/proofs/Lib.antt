@@ -1,0 +1,2 @@
+pub mod FilledSets
+pub mod SetCells
