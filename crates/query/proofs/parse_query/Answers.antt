@@ -43,7 +43,7 @@ pub returns-then-count-gt64 : goal.returns-then-count-gt64
 returns-then-count-gt64 c =
     let passed : Passed _ _ c.args.file.now = record { relations = sym c.in_range.ensures ∙ c.if-not-in_range.false; room = c.if-file-lt322.false; short = c.if-text-gt512.false } in
     let whole = is_read c.in-Read.is c.read_operand.ensures in
-    let done = parse-nodes passed whole c.if-next-text.false c.if-count-gt64.true in
+    let done = parse-nodes passed whole (omega arith) c.if-count-gt64.true in
     record {
       value = done.answer;
       file_after = done.slice;

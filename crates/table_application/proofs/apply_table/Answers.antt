@@ -57,7 +57,7 @@ pub returns-then-not-filled : goal.returns-then-not-filled
 returns-then-not-filled c =
     let pre = c.requires in
     let both = empty-refused _ _ _ (accepted-file _ _ _ pre.file_value).counts.relations.1 (expression-legal _ _ _ pre.file_value _ pre.node_lt_n) _ _ _ _ pre.filled
-    pre.read_subsets _ _ _ _ c.if-not-entries_allowed.false c.entries_allowed.ensures c.if-not-allowed.false c.specials_allowed-allowed.ensures _
+    pre.read_subsets _ _ _ _ c.if-not-entries_allowed.false c.entries_allowed.ensures (cc) c.specials_allowed-allowed.ensures _
     c.maps_from-special.ensures _ c.if-not-filled.true c.is_filled-filled.ensures in
     record {
       value = both.0;
