@@ -1,6 +1,6 @@
 /*
  * Type formulas of relational-algebra expressions: the operations for callers in C (C99 and later)
- * and C++. Link with libtype_formula.a, which the command 'rt staticlib type_formula' writes to
+ * and C++. Link with libtype_formula.a, which the command 'sh tools/build.sh type_formula' writes to
  * target/staticlib. "FORMAT" is docs/FORMAT.md: what the bytes are and what the operations answer.
  *
  * What the boundary assumes
