@@ -10,7 +10,7 @@ exec 3<"$1"
 cd "$(dirname "$0")/.."
 program=target/bin/list_formula
 if [ ! -x $program ] || [ -n "$(find crates crates.txt -name out -prune -o -type f -newer $program -print)" ]; then
-    rt run list_formula </dev/null >/dev/null
+    (cd crates/list_formula && rt run </dev/null >/dev/null)
     mkdir -p target/bin
     cp crates/list_formula/out/list_formula $program
 fi

@@ -9,7 +9,7 @@ fi
 cd "$(dirname "$0")/.."
 program=target/bin/list_query
 if [ ! -x $program ] || [ -n "$(find crates crates.txt -name out -prune -o -type f -newer $program -print)" ]; then
-    rt run list_query </dev/null >/dev/null
+    (cd crates/list_query && rt run </dev/null >/dev/null)
     mkdir -p target/bin
     cp crates/list_query/out/list_query $program
 fi

@@ -7,12 +7,12 @@ cd "$(dirname "$0")/.."
 for name; do
     case $name in
     type_formula)
-        rt lib "$name"
+        (cd "crates/$name" && rt lib)
         mkdir -p target/staticlib
         cp "crates/$name/out/lib$name.a" target/staticlib/
         ;;
     *)
-        rt run "$name" </dev/null >/dev/null
+        (cd "crates/$name" && rt run </dev/null >/dev/null)
         mkdir -p target/bin
         cp "crates/$name/out/$name" target/bin/
         ;;

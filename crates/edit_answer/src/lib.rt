@@ -4,7 +4,7 @@
 use refusal::Refusal;
 
 // The length of the edited file, or the first refusal.
-#[derive(Drop)]
+#[derive(Clone, Copy)]
 pub enum Editing {
     Written(usize),
     Refused(Refusal),

@@ -35,14 +35,14 @@ impl Tested {
         let (program, body) = (self.program, self.body);
         format!(
             "#!/bin/sh
-[ \"$*\" = 'run {program}' ] || exit 2
+[ \"$(basename \"$PWD\") $*\" = '{program} run' ] || exit 2
 echo 'rt: bits proved (1 s)' >&2
-mkdir -p crates/{program}/out
-cat >crates/{program}/out/{program} <<'END'
+mkdir -p out
+cat >out/{program} <<'END'
 #!/bin/sh
 {body}
 END
-chmod +x crates/{program}/out/{program}
+chmod +x out/{program}
 echo 'what the program prints'
 "
         )
@@ -67,12 +67,14 @@ echo 'what the program prints'
         let folder = Folder::new(self, "newer");
         folder.run(self.arguments);
         let program = format!("target/bin/{}", self.program);
+        let main = format!("crates/{}/src/main.rt", self.program);
         let earlier = SystemTime::now() - Duration::from_secs(3_600);
         let said = || parts(&folder.run(self.arguments)).2.to_string();
         for source in ["crates/bits/src/lib.rt", "crates.txt"] {
             folder.set_time(&program, earlier);
             folder.set_time("crates/bits/src/lib.rt", earlier);
             folder.set_time("crates.txt", earlier);
+            folder.set_time(&main, earlier);
             assert_eq!(said(), "");
             folder.set_time(source, SystemTime::now() - Duration::from_secs(60));
             assert_eq!(said(), PROVED);
@@ -108,6 +110,7 @@ impl Folder {
         let text = text.unwrap_or_else(|error| panic!("examples/{command}: {error}"));
         folder.write(&format!("examples/{command}"), &text);
         folder.write("crates/bits/src/lib.rt", "");
+        folder.write(&format!("crates/{}/src/main.rt", tested.program), "");
         folder.write("crates.txt", "bits:\n");
         folder.write("a file", "text of the file\n");
         folder.write_rt(&tested.rt());

@@ -6,7 +6,7 @@ use Rattle.listing.proofs.write_listing.Goals as goal
 
 pub returns-then-work-lt65536 : goal.returns-then-work-lt65536
 returns-then-work-lt65536 c =
-    let both = listed-work _ _ _ c.if-work-lt65536.true in
+    let both = listed-work c.args.file.now c.args.work.now c.args.text.now (omega arith) in
     record {
       value = both.0;
       text_after = both.1.0;
@@ -15,7 +15,7 @@ returns-then-work-lt65536 c =
 
 pub returns-then-text-lt32768 : goal.returns-then-text-lt32768
 returns-then-text-lt32768 c =
-    let both = listed-text _ _ _ c.if-work-lt65536.false c.if-text-lt32768.true in
+    let both = listed-text c.args.file.now c.args.work.now c.args.text.now (omega arith) (omega arith) in
     record {
       value = both.0;
       text_after = both.1.0;

@@ -15,7 +15,7 @@ returns-then-not-in_range c =
 
 pub returns-then-file-lt322 : goal.returns-then-file-lt322
 returns-then-file-lt322 c =
-    let done = parse-slice _ _ _ (sym c.in_range.ensures ∙ c.if-not-in_range.false) c.if-file-lt322.true in
+    let done = parse-slice c.args.m c.args.text.now c.args.file.now (sym c.in_range.ensures ∙ c.if-not-in_range.false) (omega arith) in
     record {
       value = done.answer;
       file_after = done.slice;
@@ -23,7 +23,7 @@ returns-then-file-lt322 c =
 
 pub returns-then-text-gt512 : goal.returns-then-text-gt512
 returns-then-text-gt512 c =
-    let done = parse-length _ _ _ (sym c.in_range.ensures ∙ c.if-not-in_range.false) c.if-file-lt322.false c.if-text-gt512.true in
+    let done = parse-length c.args.m c.args.text.now c.args.file.now (sym c.in_range.ensures ∙ c.if-not-in_range.false) (omega arith) (omega arith) in
     record {
       value = done.answer;
       file_after = done.slice;
@@ -31,7 +31,7 @@ returns-then-text-gt512 c =
 
 pub returns-then-next-text : goal.returns-then-next-text
 returns-then-next-text c =
-    let passed : Passed _ _ c.args.file.now = record { relations = sym c.in_range.ensures ∙ c.if-not-in_range.false; room = c.if-file-lt322.false; short = c.if-text-gt512.false } in
+    let passed : Passed _ _ c.args.file.now = record { relations = sym c.in_range.ensures ∙ c.if-not-in_range.false; room = omega arith; short = omega arith } in
     let whole = is_read c.in-Read.is c.read_operand.ensures in
     let done = parse-followed passed whole c.if-next-text.true in
     record {
@@ -41,7 +41,7 @@ returns-then-next-text c =
 
 pub returns-then-count-gt64 : goal.returns-then-count-gt64
 returns-then-count-gt64 c =
-    let passed : Passed _ _ c.args.file.now = record { relations = sym c.in_range.ensures ∙ c.if-not-in_range.false; room = c.if-file-lt322.false; short = c.if-text-gt512.false } in
+    let passed : Passed _ _ c.args.file.now = record { relations = sym c.in_range.ensures ∙ c.if-not-in_range.false; room = omega arith; short = omega arith } in
     let whole = is_read c.in-Read.is c.read_operand.ensures in
     let done = parse-nodes passed whole (omega arith) c.if-count-gt64.true in
     record {
@@ -63,13 +63,13 @@ slice_bounds-write_file-end c =
 
 pub write_file-requires : goal.write_file-requires
 write_file-requires c =
-    let passed : Passed _ _ c.args.file.now = record { relations = sym c.in_range.ensures ∙ c.if-not-in_range.false; room = c.if-file-lt322.false; short = c.if-text-gt512.false } in
+    let passed : Passed _ _ c.args.file.now = record { relations = sym c.in_range.ensures ∙ c.if-not-in_range.false; room = omega arith; short = omega arith } in
     let whole = is_read c.in-Read.is c.read_operand.ensures in
     parse-fits passed whole c.if-next-text.false c.if-count-gt64.false
 
 pub returns-in-NotRead : goal.returns-in-NotRead
 returns-in-NotRead c =
-    let passed : Passed _ _ c.args.file.now = record { relations = sym c.in_range.ensures ∙ c.if-not-in_range.false; room = c.if-file-lt322.false; short = c.if-text-gt512.false } in
+    let passed : Passed _ _ c.args.file.now = record { relations = sym c.in_range.ensures ∙ c.if-not-in_range.false; room = omega arith; short = omega arith } in
     let done = parse-missing passed (is-missing c.in-NotRead.is c.read_operand.ensures) in
     record {
       value = done.answer;
@@ -78,7 +78,7 @@ returns-in-NotRead c =
 
 pub returns-in-First : goal.returns-in-First
 returns-in-First c =
-    let passed : Passed _ _ c.args.file.now = record { relations = sym c.in_range.ensures ∙ c.if-not-in_range.false; room = c.if-file-lt322.false; short = c.if-text-gt512.false } in
+    let passed : Passed _ _ c.args.file.now = record { relations = sym c.in_range.ensures ∙ c.if-not-in_range.false; room = omega arith; short = omega arith } in
     let whole = is_read c.in-Read.is c.read_operand.ensures in
     let done = parse-fault passed whole c.if-next-text.false c.if-count-gt64.false c.in-First.is in
     record {
@@ -88,7 +88,7 @@ returns-in-First c =
 
 pub returns-in-NoFault : goal.returns-in-NoFault
 returns-in-NoFault c =
-    let passed : Passed _ _ c.args.file.now = record { relations = sym c.in_range.ensures ∙ c.if-not-in_range.false; room = c.if-file-lt322.false; short = c.if-text-gt512.false } in
+    let passed : Passed _ _ c.args.file.now = record { relations = sym c.in_range.ensures ∙ c.if-not-in_range.false; room = omega arith; short = omega arith } in
     let whole = is_read c.in-Read.is c.read_operand.ensures in
     let done = parse-written passed whole c.if-next-text.false c.if-count-gt64.false c.in-NoFault.is c.write_file.ensures in
     record {

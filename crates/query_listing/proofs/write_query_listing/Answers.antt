@@ -1,3 +1,4 @@
+use native.Mathlib.Omega.{arith}
 use mathlib.Core.Path.{refl, sym, ◌∙◌}
 use lib.ListN.{replicate}
 use lib.Seq.{length-take-le}
@@ -7,7 +8,7 @@ use Rattle.query_listing.proofs.write_query_listing.Goals as goal
 
 pub returns-then-work-lt65536 : goal.returns-then-work-lt65536
 returns-then-work-lt65536 c =
-    let both = listed-work _ _ _ _ c.if-work-lt65536.true in
+    let both = listed-work c.args.m c.args.query.now c.args.work.now c.args.text.now (omega arith) in
     record {
       value = both.0;
       text_after = both.1.0;
@@ -16,7 +17,7 @@ returns-then-work-lt65536 c =
 
 pub returns-then-text-lt32768 : goal.returns-then-text-lt32768
 returns-then-text-lt32768 c =
-    let both = listed-text _ _ _ _ c.if-work-lt65536.false c.if-text-lt32768.true in
+    let both = listed-text c.args.m c.args.query.now c.args.work.now c.args.text.now (omega arith) (omega arith) in
     record {
       value = both.0;
       text_after = both.1.0;

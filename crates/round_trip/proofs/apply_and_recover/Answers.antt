@@ -7,7 +7,7 @@ use Rattle.round_trip.proofs.apply_and_recover.Goals as goal
 pub returns-then-recovered-lt-INSTANTIATION_SIZE : goal.returns-then-recovered-lt-INSTANTIATION_SIZE
 returns-then-recovered-lt-INSTANTIATION_SIZE c =
     let args = c.args in
-    let both = trip-short args.file.now args.node args.instantiation.now args.work.now args.schema.now args.out.now args.recovered.now c.if-recovered-lt-INSTANTIATION_SIZE.true in
+    let both = trip-short args.file.now args.node args.instantiation.now args.work.now args.schema.now args.out.now args.recovered.now (omega arith) in
     record {
       value = both.0;
       work_after = both.1.0;
@@ -42,7 +42,7 @@ returns-in-Applied c =
     let apply = c.apply in
     let args = c.args in
     let both = trip-applied args.file.now args.node args.instantiation.now args.work.now args.schema.now args.out.now args.recovered.now
-    c.if-recovered-lt-INSTANTIATION_SIZE.false (λ x. omega (arith, c.type_inv.instantiation x)) _ _
+    (omega arith) (λ x. omega (arith, c.type_inv.instantiation x)) _ _
     (sym c.in-Applied.is ∙ apply.ensures.value) _ _ _ apply.auto.work apply.ensures.work_after apply.ensures.schema_after apply.ensures.out_after _ _
     _ recover.ensures.value recover.ensures.work_after recover.ensures.out_after in
     record {
@@ -58,7 +58,7 @@ returns-in-Refused c =
     let apply = c.apply in
     let args = c.args in
     let both = trip-refused args.file.now args.node args.instantiation.now args.work.now args.schema.now args.out.now args.recovered.now
-    c.if-recovered-lt-INSTANTIATION_SIZE.false _ _ _ _ (sym c.in-Refused.is ∙ apply.ensures.value) apply.ensures.work_after apply.ensures.schema_after apply.ensures.out_after in
+    (omega arith) _ _ _ _ (sym c.in-Refused.is ∙ apply.ensures.value) apply.ensures.work_after apply.ensures.schema_after apply.ensures.out_after in
     record {
       value = both.0;
       work_after = both.1.0;
