@@ -15,8 +15,15 @@ struct Function {
     parameters: Vec<(String, String)>,
 }
 
-/// The numbers that Apply writes have names of their own in the engine's source.
-const NAMES_IN_APPLY: [(&str, &str); 2] = [("size", "schema_size"), ("width", "out_size")];
+/// Names that are others for callers than in the engine's source: a function, the name there and
+/// theirs. The numbers that Apply writes have names of their own, and no parameter of the engine
+/// can be called `result`.
+const NAMES_OF_CALLERS: [(&str, &str, &str); 4] = [
+    ("type_formula_apply", "size", "schema_size"),
+    ("type_formula_apply", "width", "out_size"),
+    ("type_formula_edit", "res", "result"),
+    ("type_formula_edit", "res_len", "result_len"),
+];
 
 /// The type in C of a number or a pointer to one.
 fn type_in_c(rust: &str) -> &'static str {
@@ -109,12 +116,15 @@ fn exported() -> Vec<Function> {
         .map(|file| fs::read_to_string(file.expect("a file").path()).expect("text"))
         .flat_map(|text| declared_in_rust(&text))
         .collect();
-    let apply = functions
-        .iter_mut()
-        .filter(|function| function.name == "type_formula_apply");
-    for (name, _) in apply.flat_map(|function| &mut function.parameters) {
-        if let Some((_, callers)) = NAMES_IN_APPLY.iter().find(|(own, _)| own == name) {
-            *name = callers.to_string();
+    for Function {
+        name, parameters, ..
+    } in &mut functions
+    {
+        for (own, _) in parameters {
+            let mut names = NAMES_OF_CALLERS.iter();
+            if let Some((_, _, callers)) = names.find(|it| it.0 == name && it.1 == own) {
+                *own = callers.to_string();
+            }
         }
     }
     functions
