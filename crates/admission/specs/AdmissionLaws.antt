@@ -1,5 +1,5 @@
 -- Laws of the tests after a file is accepted: which refusal comes, and what holds where none does.
-use Rattle.std.specs.Prelude.{ℕ, ◌*◌, ◌≤◌, ◌<◌, refl, Bool, true, false, List}
+use Rattle.std.specs.Prelude.{ℕ, ◌*◌, ◌≤◌, ◌<◌, refl, Bool, true, false, List, Result, Err, Ok}
 use Rattle.std.proofs.Math.Path.{◌≡◌, ap}
 use Rattle.std.proofs.Common.{◌∙◌, arith, lit≤}
 use borrow.Author.Tests.{lt-ltb, le-ltb, le-leb, lt-leb, leb-false, ltb-false}
@@ -8,58 +8,57 @@ use Rattle.refusal.specs.Chain.{refuse-stops, refuse-passes, refuse-past, refuse
 use Rattle.refusal.specs.Number.{number_of}
 use Rattle.refusal.specs.declared.Refusal.{Refusal}
 use Rattle.refusal.specs.declared.Refusal.TheVariants.{NodeNumber, WorkSpace, ResultSlice}
-use Rattle.expression_file.specs.declared.files.Acceptance.{Acceptance}
-use Rattle.expression_file.specs.declared.files.Acceptance.TheVariants.{Accepted, Refused}
-use Rattle.expression_file.specs.ReadFile.{acceptance}
+use Rattle.expression_file.specs.ReadFile.{acceptance, Accepted}
 use Rattle.expression_file.specs.Accepted.{accepted-file, file-refused}
 use Rattle.admission.specs.Admission.{tested, asked, spaced, admitted, sliced, formula_size}
+use Rattle.expression_file.specs.declared.files.Header.{Header}
 
 -- ---- one test
 
-module _ (a : Acceptance) (test : ℕ → Bool) (q : Refusal) where
-  pub tested-refused : {r : Refusal} → a ≡ Refused r → tested a test q ≡ Refused r
+module _ (a : Result Header Refusal) (test : ℕ → Bool) (q : Refusal) where
+  pub tested-refused : {r : Refusal} → a ≡ Err r → tested a test q ≡ Err r
   unfolding tested
   tested-refused e = rw e
 
-  pub tested-stops : {m n : ℕ} → a ≡ Accepted m n → test n ≡ true → tested a test q ≡ Refused q
+  pub tested-stops : {m n : ℕ} → a ≡ Accepted m n → test n ≡ true → tested a test q ≡ Err q
   unfolding tested
-  tested-stops {m} {n} e t = rw e (refuse-stops Refused (test n) q (Accepted m n) t)
+  tested-stops {m} {n} e t = rw e (refuse-stops Err (test n) q (Accepted m n) t)
 
   pub tested-passes : {m n : ℕ} → a ≡ Accepted m n → test n ≡ false → tested a test q ≡ Accepted m n
   unfolding tested
-  tested-passes {m} {n} e t = rw e (refuse-passes Refused (test n) q (Accepted m n) t)
+  tested-passes {m} {n} e t = rw e (refuse-passes Err (test n) q (Accepted m n) t)
 
   pub passed : {m n : ℕ} → tested a test q ≡ Accepted m n → (a ≡ Accepted m n) × (test n ≡ false)
   unfolding tested
   passed {m} {n} = go a
     where
-      go : (b : Acceptance) → tested b test q ≡ Accepted m n → (b ≡ Accepted m n) × (test n ≡ false)
-      go (Refused r) e = absurd (let z : ◌≡◌ {A = ℕ} 0 1 = cc in omega arith)
-      go (Accepted m' n') e =
-          let past = refuse-past Refused (test n') q (Accepted m' n') (λ r. let z : ◌≡◌ {A = ℕ} 0 1 = cc in omega arith) e in
-          let is : Accepted m' n' ≡ Accepted m n = past.1 in
-          let same : n ≡ n' = cc in
+      go : (b : Result Header Refusal) → tested b test q ≡ Accepted m n → (b ≡ Accepted m n) × (test n ≡ false)
+      go (Err r) e = absurd (let z : ◌≡◌ {A = ℕ} 0 1 = cc in omega arith)
+      go (Ok h) e =
+          let past = refuse-past Err (test h.nodes) q (Accepted h.relations h.nodes) (λ r. let z : ◌≡◌ {A = ℕ} 0 1 = cc in omega arith) e in
+          let is : Accepted h.relations h.nodes ≡ Accepted m n = past.1 in
+          let same : n ≡ h.nodes = cc in
           (is, ap test same ∙ past.0)
 
 -- the refusal of a test is its own or came before
-pub tested-number : (a : Acceptance) (test : ℕ → Bool) (q : Refusal) (most : ℕ) → ((r : Refusal) → a ≡ Refused r → number_of r ≤ most) → number_of q ≤ most → (r : Refusal) → tested a test q ≡ Refused r → number_of r ≤ most
+pub tested-number : (a : Result Header Refusal) (test : ℕ → Bool) (q : Refusal) (most : ℕ) → ((r : Refusal) → a ≡ Err r → number_of r ≤ most) → number_of q ≤ most → (r : Refusal) → tested a test q ≡ Err r → number_of r ≤ most
 unfolding tested
 tested-number a test q most before own r e = go a refl e
   where
-    go : (b : Acceptance) → a ≡ b → tested b test q ≡ Refused r → number_of r ≤ most
-    go (Refused p) is said = before r (is ∙ said)
-    go (Accepted m n) is said =
-        refuse-has (λ (b : Acceptance). b ≡ Refused r → number_of r ≤ most) Refused (test n) q (Accepted m n)
+    go : (b : Result Header Refusal) → a ≡ b → tested b test q ≡ Err r → number_of r ≤ most
+    go (Err p) is said = before r (is ∙ said)
+    go (Ok h) is said =
+        refuse-has (λ (b : Result Header Refusal). b ≡ Err r → number_of r ≤ most) Err (test h.nodes) q (Accepted h.relations h.nodes)
         (λ same. let here : q ≡ r = cc in rw (← here) own) (λ passes other. absurd (let z : ◌≡◌ {A = ℕ} 0 1 = cc in omega arith)) said
 
 -- ---- 13
 
-module _ (a : Acceptance) (size least : ℕ) where
-  pub sliced-refused : {r : Refusal} → a ≡ Refused r → sliced a size least ≡ Refused r
+module _ (a : Result Header Refusal) (size least : ℕ) where
+  pub sliced-refused : {r : Refusal} → a ≡ Err r → sliced a size least ≡ Err r
   unfolding sliced
   sliced-refused e = tested-refused a (λ n. ltb size least) ResultSlice e
 
-  pub sliced-stops : {m n : ℕ} → a ≡ Accepted m n → size < least → sliced a size least ≡ Refused ResultSlice
+  pub sliced-stops : {m n : ℕ} → a ≡ Accepted m n → size < least → sliced a size least ≡ Err ResultSlice
   unfolding sliced
   sliced-stops e h = tested-stops a (λ n. ltb size least) ResultSlice e (lt-ltb size least h)
 
@@ -67,7 +66,7 @@ module _ (a : Acceptance) (size least : ℕ) where
   unfolding sliced
   sliced-passes e h = tested-passes a (λ n. ltb size least) ResultSlice e (le-ltb size least h)
 
-  pub sliced-number : (most : ℕ) → 13 ≤ most → ((r : Refusal) → a ≡ Refused r → number_of r ≤ most) → (r : Refusal) → sliced a size least ≡ Refused r → number_of r ≤ most
+  pub sliced-number : (most : ℕ) → 13 ≤ most → ((r : Refusal) → a ≡ Err r → number_of r ≤ most) → (r : Refusal) → sliced a size least ≡ Err r → number_of r ≤ most
   unfolding sliced
   sliced-number most enough before r e = tested-number a (λ n. ltb size least) ResultSlice most before enough r e
 
@@ -78,11 +77,11 @@ module _ (a : Acceptance) (size least : ℕ) where
 -- ---- 1 to 11
 
 module _ (file : List ℕ) (k : ℕ) where
-  pub asked-refused : {r : Refusal} → acceptance file ≡ Refused r → asked file k ≡ Refused r
+  pub asked-refused : {r : Refusal} → acceptance file ≡ Err r → asked file k ≡ Err r
   unfolding asked
   asked-refused e = tested-refused (acceptance file) (λ n. leb n k) NodeNumber e
 
-  pub asked-stops : {m n : ℕ} → acceptance file ≡ Accepted m n → n ≤ k → asked file k ≡ Refused NodeNumber
+  pub asked-stops : {m n : ℕ} → acceptance file ≡ Accepted m n → n ≤ k → asked file k ≡ Err NodeNumber
   unfolding asked
   asked-stops {m} {n} e h = tested-stops (acceptance file) (λ n. leb n k) NodeNumber e (le-leb n k h)
 
@@ -95,18 +94,18 @@ module _ (file : List ℕ) (k : ℕ) where
   asked-passed {m} {n} e = let p = passed (acceptance file) (λ n. leb n k) NodeNumber e in (p.0, leb-false n k p.1)
 
   -- no later refusal comes of it
-  pub asked-number : {r : Refusal} → asked file k ≡ Refused r → number_of r ≤ 11
+  pub asked-number : {r : Refusal} → asked file k ≡ Err r → number_of r ≤ 11
   unfolding asked
   asked-number {r} e = tested-number (acceptance file) (λ n. leb n k) NodeNumber 11 (λ q is. let h = file-refused file q is in omega arith) (lit≤ tt) r e
 
 -- ---- 12
 
-module _ (a : Acceptance) (space : ℕ) where
-  pub spaced-refused : {r : Refusal} → a ≡ Refused r → spaced a space ≡ Refused r
+module _ (a : Result Header Refusal) (space : ℕ) where
+  pub spaced-refused : {r : Refusal} → a ≡ Err r → spaced a space ≡ Err r
   unfolding spaced
   spaced-refused e = tested-refused a (λ n. ltb space (n * formula_size)) WorkSpace e
 
-  pub spaced-stops : {m n : ℕ} → a ≡ Accepted m n → space < n * formula_size → spaced a space ≡ Refused WorkSpace
+  pub spaced-stops : {m n : ℕ} → a ≡ Accepted m n → space < n * formula_size → spaced a space ≡ Err WorkSpace
   unfolding spaced
   spaced-stops {m} {n} e h = tested-stops a (λ n. ltb space (n * formula_size)) WorkSpace e (lt-ltb space (n * formula_size) h)
 
@@ -134,7 +133,7 @@ module _ (file : List ℕ) (k space : ℕ) where
       let found = asked-passed file k enough.0 in
       record { accepted = found.0; node = found.1; work_space = enough.1 }
 
-  pub admitted-refused : {r : Refusal} → asked file k ≡ Refused r → admitted file k space ≡ Refused r
+  pub admitted-refused : {r : Refusal} → asked file k ≡ Err r → admitted file k space ≡ Err r
   unfolding admitted
   admitted-refused e = spaced-refused (asked file k) space e
 
@@ -143,7 +142,7 @@ module _ (file : List ℕ) (k space : ℕ) where
   admitted-passes a = spaced-passes (asked file k) space (asked-passes file k a.accepted a.node) a.work_space
 
   -- no later refusal comes of it
-  pub admitted-number : (r : Refusal) → admitted file k space ≡ Refused r → number_of r ≤ 12
+  pub admitted-number : (r : Refusal) → admitted file k space ≡ Err r → number_of r ≤ 12
   unfolding admitted spaced
   admitted-number r e = tested-number (asked file k) (λ n. ltb space (n * formula_size)) WorkSpace 12 (λ q is. let h = asked-number file k is in omega arith) (lit≤ tt) r e
 
@@ -158,8 +157,8 @@ admits-few {file} a =
 -- ---- 1 to 13
 
 -- one more result slice, after tests that are known
-pub sliced-after : (a b c : Acceptance) (size least : ℕ) → c ≡ sliced b size least → b ≡ a → c ≡ sliced a size least
-sliced-after a b c size least said is = said ∙ ap (λ (x : Acceptance). sliced x size least) is
+pub sliced-after : (a b c : Result Header Refusal) (size least : ℕ) → c ≡ sliced b size least → b ≡ a → c ≡ sliced a size least
+sliced-after a b c size least said is = said ∙ ap (λ (x : Result Header Refusal). sliced x size least) is
 
 pub slice-admits : (file : List ℕ) (k space size least : ℕ) {m n : ℕ} → sliced (admitted file k space) size least ≡ Accepted m n → Admits file k space m n × (least ≤ size)
 slice-admits file k space size least e =

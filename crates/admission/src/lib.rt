@@ -5,56 +5,48 @@
 ghost use Rattle.std.specs.Prelude.{◌≡◌};
 ghost use Rattle.admission.specs.Admission.{asked, spaced, sliced, admitted};
 
-use expression_file::{Acceptance, accept};
+use expression_file::{Header, accept};
 use refusal::Refusal;
 
 // The file and the node asked for: refusals 1 to 11 (FORMAT 8.5).
-pub fn ask(file: &[u8], node: usize) -> Acceptance
+pub fn ask(file: &[u8], node: usize) -> Result<Header, Refusal>
     ensures { result ≡ asked file.now node }
 {
-    match accept(file) {
-        Acceptance::Refused(r) => Acceptance::Refused(r),
-        Acceptance::Accepted(m, n) => {
-            if n as usize <= node {
-                return Acceptance::Refused(Refusal::NodeNumber);
-            }
-            Acceptance::Accepted(m, n)
-        }
+    let header = accept(file)?;
+    if header.nodes as usize <= node {
+        return Err(Refusal::NodeNumber);
     }
+    Ok(header)
 }
 
 // One more test, 12: whether the work space has so many bytes (FORMAT 8.5).
-pub fn with_space(a: Acceptance, space: usize) -> Acceptance
-    ensures { result ≡ spaced a space }
+pub fn with_space(asked: Result<Header, Refusal>, space: usize) -> Result<Header, Refusal>
+    ensures { result ≡ spaced asked space }
 {
-    match a {
-        Acceptance::Refused(r) => Acceptance::Refused(r),
-        Acceptance::Accepted(m, n) => {
-            if space < n as usize * FORMULA_SIZE {
-                return Acceptance::Refused(Refusal::WorkSpace);
-            }
-            Acceptance::Accepted(m, n)
-        }
+    let header = asked?;
+    if space < header.nodes as usize * FORMULA_SIZE {
+        return Err(Refusal::WorkSpace);
     }
+    Ok(header)
 }
 
 // One more test, 13: whether a result slice has at least so many bytes (FORMAT 8.5).
-pub fn with_slice(a: Acceptance, size: usize, least: usize) -> Acceptance
-    ensures { result ≡ sliced a size least }
+pub fn with_slice(
+    asked: Result<Header, Refusal>,
+    size: usize,
+    least: usize,
+) -> Result<Header, Refusal>
+    ensures { result ≡ sliced asked size least }
 {
-    match a {
-        Acceptance::Refused(r) => Acceptance::Refused(r),
-        Acceptance::Accepted(m, n) => {
-            if size < least {
-                return Acceptance::Refused(Refusal::ResultSlice);
-            }
-            Acceptance::Accepted(m, n)
-        }
+    let header = asked?;
+    if size < least {
+        return Err(Refusal::ResultSlice);
     }
+    Ok(header)
 }
 
 // The file, the node asked for and the work space: refusals 1 to 12 (FORMAT 8.5).
-pub fn admit(file: &[u8], node: usize, space: usize) -> Acceptance
+pub fn admit(file: &[u8], node: usize, space: usize) -> Result<Header, Refusal>
     ensures { result ≡ admitted file.now node space }
 {
     with_space(ask(file, node), space)

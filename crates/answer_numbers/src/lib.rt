@@ -11,149 +11,162 @@ ghost use Rattle.recover_answer.specs.Numbers.{recovery_number, recovery_value};
 ghost use Rattle.query_answer.specs.Numbers.{parsing_number, parsing_size};
 
 use apply_answer::Application;
-use edit_answer::Editing;
-use expression_file::Acceptance;
-use query_answer::Parsing;
-use recover_answer::Recovery;
-use typing_answer::Answer;
+use expression_file::Header;
+use refusal::Refusal;
 use verdict_answer::{Outcome, Typability};
 
 // 0, or the refusal's number.
-pub fn acceptance_number(acceptance: Acceptance) -> u8
+pub fn acceptance_number(acceptance: Result<Header, Refusal>) -> u8
     ensures { result ≡ acceptance_number acceptance }
 {
     match acceptance {
-        Acceptance::Accepted(_, _) => 0,
-        Acceptance::Refused(r) => r.number(),
+        Ok(_) => 0,
+        Err(r) => r.number(),
     }
 }
 
 // The same, with the counts m and n of an accepted file.
-pub fn write_acceptance(acceptance: Acceptance, relations: &mut u8, nodes: &mut u8) -> u8
+pub fn write_acceptance(
+    acceptance: Result<Header, Refusal>,
+    relations: &mut u8,
+    nodes: &mut u8,
+) -> u8
     ensures value { result ≡ acceptance_number acceptance }
     ensures relations_after { relations.new ≡ relations_or acceptance relations.old }
     ensures nodes_after { nodes.new ≡ nodes_or acceptance nodes.old }
 {
     match acceptance {
-        Acceptance::Accepted(m, n) => {
-            *relations = m;
-            *nodes = n;
+        Ok(header) => {
+            *relations = header.relations;
+            *nodes = header.nodes;
             0
         }
-        Acceptance::Refused(r) => r.number(),
+        Err(r) => r.number(),
     }
 }
 
 // 0 with the witness's length and the number of its memberships, 255 with the attribute that is said of an untypable
 // node, or the refusal's number.
-pub fn write_outcome(outcome: Outcome, value: &mut usize, memberships: &mut u8) -> u8
+pub fn write_outcome(
+    outcome: Result<Outcome, Refusal>,
+    value: &mut usize,
+    memberships: &mut u8,
+) -> u8
     ensures value { result ≡ outcome_number outcome }
     ensures value_after { value.new ≡ outcome_value outcome value.old }
     ensures memberships_after { memberships.new ≡ outcome_memberships outcome memberships.old }
 {
     match outcome {
-        Outcome::Typable(size, count) => {
+        Ok(Outcome::Typable(size, count)) => {
             *value = size;
             *memberships = count;
             0
         }
-        Outcome::Untypable(a) => {
+        Ok(Outcome::Untypable(a)) => {
             *value = a as usize;
             255 // Verdict: untypable
         }
-        Outcome::Refused(r) => r.number(),
+        Err(r) => r.number(),
     }
 }
 
 // 0 with the output record's length, 255 for untyped, or the refusal's number.
-pub fn write_answer(answer: Answer, value: &mut usize) -> u8
+pub fn write_answer(answer: Result<Option<usize>, Refusal>, value: &mut usize) -> u8
     ensures value { result ≡ answer_number answer }
     ensures value_after { value.new ≡ answer_value answer value.old }
 {
     match answer {
-        Answer::Typed(size) => {
+        Ok(Some(size)) => {
             *value = size;
             0
         }
-        Answer::Untyped => 255,
-        Answer::Refused(r) => r.number(),
+        Ok(None) => 255, // Typing: untyped
+        Err(r) => r.number(),
     }
 }
 
 // 0 with the lengths of the schema and of the output record, or the refusal's number.
-pub fn write_application(application: Application, size: &mut usize, width: &mut usize) -> u8
+pub fn write_application(
+    application: Result<Application, Refusal>,
+    size: &mut usize,
+    width: &mut usize,
+) -> u8
     ensures value { result ≡ application_number application }
     ensures size_after { size.new ≡ application_schema application size.old }
     ensures width_after { width.new ≡ application_output application width.old }
 {
     match application {
-        Application::Applied(s, o) => {
-            *size = s;
-            *width = o;
+        Ok(lengths) => {
+            *size = lengths.schema;
+            *width = lengths.output;
             0
         }
-        Application::Refused(r) => r.number(),
+        Err(r) => r.number(),
     }
 }
 
 // 0 with the instantiation's length, 255 for untyped, or the refusal's number.
-pub fn write_recovery(recovery: Recovery, value: &mut usize) -> u8
+pub fn write_recovery(recovery: Result<Option<usize>, Refusal>, value: &mut usize) -> u8
     ensures value { result ≡ recovery_number recovery }
     ensures value_after { value.new ≡ recovery_value recovery value.old }
 {
     match recovery {
-        Recovery::Recovered(size) => {
+        Ok(Some(size)) => {
             *value = size;
             0
         }
-        Recovery::Untyped => 255,
-        Recovery::Refused(r) => r.number(),
+        Ok(None) => 255, // Recover: untyped
+        Err(r) => r.number(),
     }
 }
 
 // 0 with the expression file's length, or the refusal's number.
-pub fn write_parsing(parsing: Parsing, size: &mut usize) -> u8
+pub fn write_parsing(parsing: Result<usize, Refusal>, size: &mut usize) -> u8
     ensures value { result ≡ parsing_number parsing }
     ensures size_after { size.new ≡ parsing_size parsing size.old }
 {
     match parsing {
-        Parsing::Written(length) => {
+        Ok(length) => {
             *size = length;
             0
         }
-        Parsing::Refused(r) => r.number(),
+        Err(r) => r.number(),
     }
 }
 
 // 0 with the edited file's length, or the refusal's number.
-pub fn write_editing(editing: Editing, size: &mut usize) -> u8
+pub fn write_editing(editing: Result<usize, Refusal>, size: &mut usize) -> u8
     ensures value { result ≡ editing_number editing }
     ensures size_after { size.new ≡ editing_size editing size.old }
 {
     match editing {
-        Editing::Written(written) => {
+        Ok(written) => {
             *size = written;
             0
         }
-        Editing::Refused(r) => r.number(),
+        Err(r) => r.number(),
     }
 }
 
 // 0 with the number of memberships, 255 with the attribute that is said of an untypable node, or the refusal's number.
-pub fn write_typability(typability: Typability, attribute: &mut u8, memberships: &mut u8) -> u8
+pub fn write_typability(
+    typability: Result<Typability, Refusal>,
+    attribute: &mut u8,
+    memberships: &mut u8,
+) -> u8
     ensures value { result ≡ typability_number typability }
     ensures attribute_after { attribute.new ≡ typability_attribute typability attribute.old }
     ensures memberships_after { memberships.new ≡ typability_memberships typability memberships.old }
 {
     match typability {
-        Typability::Typable(fewest) => {
+        Ok(Typability::Typable(fewest)) => {
             *memberships = fewest;
             0
         }
-        Typability::Untypable(a) => {
+        Ok(Typability::Untypable(a)) => {
             *attribute = a;
             255 // Preview: untypable
         }
-        Typability::Refused(r) => r.number(),
+        Err(r) => r.number(),
     }
 }

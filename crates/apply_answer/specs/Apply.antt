@@ -1,5 +1,5 @@
 -- Apply: schema and output record of an instantiation (FORMAT 7.10).
-use Rattle.std.specs.Prelude.{ℕ, not, List, length}
+use Rattle.std.specs.Prelude.{ℕ, not, List, length, Result, Err, Ok, Option, Some, None}
 use Rattle.bits.specs.Tab.{over}
 use Rattle.refusal.specs.Chain.{refuse}
 use Rattle.refusal.specs.declared.Refusal.{Refusal}
@@ -10,15 +10,18 @@ use Rattle.node_expression.specs.NodeExpression.{expression_at}
 use Rattle.stored_formula.specs.FormulaBytes.{formulas_of}
 use Rattle.type_record.specs.Record.{record_size, record_bytes, output_size}
 use Rattle.schema.specs.Schema.{schema_bytes, records_of, schema_size}
-use Rattle.schema.specs.declared.reading.Judgement.{Judgement}
 use Rattle.filled_schema.specs.FilledSchema.{table_filled}
 use Rattle.instantiation.specs.Instantiation.{Instantiation, instantiation_reading}
 use Rattle.table_types.specs.Output.{output_map, output_list}
 use Rattle.typing_answer.specs.Typing.{after_schema}
 use Rattle.special_maps.specs.Special.{maps_from}
 use Rattle.fitting.specs.Fit.{entries_fit, specials_fit}
+use Rattle.schema.specs.Judgement.{Judgement}
 use Rattle.apply_answer.specs.declared.Application.{Application}
-use Rattle.apply_answer.specs.declared.Application.TheVariants.{Applied, Refused}
+
+-- the lengths of the schema and of the output record
+abbrev pub Applied : ℕ → ℕ → Result Application Refusal
+Applied schema output = Ok (record { schema = schema; output = output })
 
 -- ---- an instantiation's table at a node with expression e of a file with m relations
 
@@ -37,8 +40,8 @@ abbrev pub output_bytes : Expression → List ℕ → List ℕ → List ℕ
 output_bytes e subsets entries = record_bytes (output_map e (maps_from subsets)) (output_list e entries)
 
 -- FORMAT 7.10: the answer over a table
-unfoldable pub table_applied : ℕ → Expression → List ℕ → List ℕ → Application
-table_applied m e subsets entries = after_fit m e subsets entries Refused (Applied (length (image_bytes m subsets entries)) (record_size (length (output_list e entries))))
+unfoldable pub table_applied : ℕ → Expression → List ℕ → List ℕ → Result Application Refusal
+table_applied m e subsets entries = after_fit m e subsets entries Err (Applied (length (image_bytes m subsets entries)) (record_size (length (output_list e entries))))
 
 -- FORMAT 7.10: the schema slice over a table
 unfoldable pub table_image : ℕ → Expression → List ℕ → List ℕ → List ℕ → List ℕ
@@ -51,8 +54,8 @@ table_output m e subsets entries out = after_fit m e subsets entries (λ r. out)
 -- ---- an instantiation as it was read: the refusal, or what its table gives
 
 -- FORMAT 7.10: the answer over an instantiation as it was read
-unfoldable pub read_applied : ℕ → Expression → Instantiation → Application
-read_applied m e i = after_schema i.judgement Refused (table_applied m e i.subsets i.entries)
+unfoldable pub read_applied : ℕ → Expression → Instantiation → Result Application Refusal
+read_applied m e i = after_schema i.judgement Err (table_applied m e i.subsets i.entries)
 
 -- FORMAT 7.10: the schema slice over an instantiation as it was read
 unfoldable pub read_image : ℕ → Expression → Instantiation → List ℕ → List ℕ
@@ -70,9 +73,9 @@ read_space file m n judgement work = after_schema judgement (λ r. work) (over (
 -- and then the instantiation
 
 -- FORMAT 7.10: the answer, for a work space, a schema slice and an output slice of so many bytes
-unfoldable pub apply_answer : List ℕ → ℕ → List ℕ → ℕ → ℕ → ℕ → Application
+unfoldable pub apply_answer : List ℕ → ℕ → List ℕ → ℕ → ℕ → ℕ → Result Application Refusal
 apply_answer file k bytes space size out_size =
-    after (sliced (sliced (admitted file k space) size schema_size) out_size output_size) Refused (λ m n. read_applied m (expression_at file k) (instantiation_reading bytes))
+    after (sliced (sliced (admitted file k space) size schema_size) out_size output_size) Err (λ m n. read_applied m (expression_at file k) (instantiation_reading bytes))
 
 -- FORMAT 7.10, 8.6: the work space afterwards
 unfoldable pub apply_space : List ℕ → ℕ → List ℕ → List ℕ → ℕ → ℕ → List ℕ

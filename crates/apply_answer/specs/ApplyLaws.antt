@@ -1,5 +1,5 @@
 -- Laws of Apply: what the code finds is what the definitions say, the results after each refusal, and after none.
-use Rattle.std.specs.Prelude.{ℕ, ◌+◌, ◌*◌, ◌%◌, ◌≤◌, ◌<◌, ◌≡◌, Bool, true, false, not, List, length, get_or, take}
+use Rattle.std.specs.Prelude.{ℕ, ◌+◌, ◌*◌, ◌%◌, ◌≤◌, ◌<◌, ◌≡◌, Bool, true, false, not, List, length, get_or, take, Result, Err, Ok}
 use Rattle.std.proofs.Math.Path.{refl}
 use Rattle.std.proofs.Common.{sym, ap, ap₂, ◌∙◌, arith}
 use Rattle.bits.specs.AllBelow.{all_below}
@@ -8,8 +8,6 @@ use Rattle.bits.specs.Word.{Bytes}
 use Rattle.refusal.specs.Chain.{refuse, refuse-stops, refuse-passes}
 use Rattle.refusal.specs.declared.Refusal.{Refusal}
 use Rattle.refusal.specs.declared.Refusal.TheVariants.{TypeVariable, SpecialSubset, EmptyImage}
-use Rattle.expression_file.specs.declared.files.Acceptance.{Acceptance}
-use Rattle.expression_file.specs.declared.files.Acceptance.TheVariants.{Accepted, Refused as FileRefused}
 use Rattle.admission.specs.Admission.{after, sliced, admitted, formula_size}
 use Rattle.admission.specs.AdmissionLaws.{sliced-passed, Admits, admitted-passed}
 use Rattle.algebra.specs.Expression.{Expression, Legal}
@@ -24,14 +22,12 @@ use Rattle.membership.specs.Entries.{subset_of}
 use Rattle.membership.specs.Holders.{ItemsFit}
 use Rattle.membership.specs.TableLaws.{items-stand}
 use Rattle.schema.specs.Schema.{schema_bytes, records_of, EntriesStand, WritesFrom, schema_size}
-use Rattle.schema.specs.declared.reading.Judgement.{Judgement}
-use Rattle.schema.specs.declared.reading.Judgement.TheVariants.{Read, Refused as ReadRefused}
 use Rattle.filled_schema.specs.FilledSchema.{table_filled}
 use Rattle.instantiation.specs.Instantiation.{Instantiation, instantiation_reading, reading_of}
 use Rattle.instantiation.specs.ReadLaws.{lists-read}
 use Rattle.instantiation.specs.EntriesLaws.{entries_below}
-use Rattle.instantiation.specs.TableLaws.{ReadInstantiation, instantiation-read, handed-on, subsets-size, subsets-none, subsets-small}
-use Rattle.instantiation.specs.declared.InstantiationReading.{InstantiationReading}
+use Rattle.instantiation.specs.TableLaws.{ReadInstantiation, instantiation-read, handed-on, subsets-size, subsets-none, subsets-small, refused-on}
+use Rattle.instantiation.specs.declared.InstantiationTable.{InstantiationTable}
 use Rattle.table_types.specs.Output.{output_map, output_list}
 use Rattle.typing_answer.specs.Typing.{after_schema}
 use Rattle.table_types.specs.OutputLaws.{map-even}
@@ -39,9 +35,11 @@ use Rattle.special_maps.specs.Special.{maps_from}
 use Rattle.special_maps.specs.SpecialLaws.{maps-length, maps-even}
 use Rattle.fitting.specs.StoredFit.{specials_allowed, stored_map, stored_list}
 use Rattle.fitting.specs.Fit.{entries_fit, specials_fit, entries-counted, entries-stored, specials-stored, map-stored, list-stored}
-use Rattle.apply_answer.specs.Apply.{after_fit, image_bytes, output_bytes, table_applied, table_image, table_output, read_applied, read_image, read_output, read_space, apply_answer, apply_space, apply_schema, apply_out}
+use Rattle.apply_answer.specs.Apply.{after_fit, image_bytes, output_bytes, table_applied, table_image, table_output, read_applied, read_image, read_output, read_space, apply_answer, apply_space, apply_schema, apply_out, Applied}
+use Rattle.expression_file.specs.declared.files.Header.{Header}
+use Rattle.expression_file.specs.ReadFile.{Accepted}
+use Rattle.schema.specs.Judgement.{Judgement, Read, Refused as ReadRefused}
 use Rattle.apply_answer.specs.declared.Application.{Application}
-use Rattle.apply_answer.specs.declared.Application.TheVariants.{Applied, Refused}
 
 -- the formula of node k stands in the work space
 pub record Filled (file : List ℕ) (m k : ℕ) (work : List ℕ) : Type 0 where
@@ -83,7 +81,7 @@ module _ (file : List ℕ) (m n : ℕ) (judgement : Judgement) (work : List ℕ)
 
 module _ (m : ℕ) (e : Expression) (subsets entries : List ℕ) where
   -- answer and slices are as the definitions over a table say
-  abbrev TableGives : List ℕ → List ℕ → Application → List ℕ → List ℕ → Type 0
+  abbrev TableGives : List ℕ → List ℕ → Result Application Refusal → List ℕ → List ℕ → Type 0
   TableGives schema out a image written =
       (table_applied m e subsets entries ≡ a)
       × ((table_image m e subsets entries schema ≡ image)
@@ -138,19 +136,19 @@ module _ (m : ℕ) (e : Expression) (subsets entries : List ℕ) where
       (over (image_bytes m subsets entries) schema) (over (output_bytes e subsets entries) out)
   unfolding table_applied table_image table_output
   table_fits schema out fit special filled = (
-    fit-goes Refused _ fit special filled,
+    fit-goes Err _ fit special filled,
     (fit-goes (λ r. schema) _ fit special filled, fit-goes (λ r. out) _ fit special filled),
   )
 
   -- the first fails
-  pub entries-refused : (schema out : List ℕ) → entries_fit m e entries ≡ false → TableGives schema out (Refused TypeVariable) schema out
+  pub entries-refused : (schema out : List ℕ) → entries_fit m e entries ≡ false → TableGives schema out (Err TypeVariable) schema out
   unfolding table_applied table_image table_output
-  entries-refused schema out fails = (fit-variable Refused _ fails, (fit-variable (λ r. schema) _ fails, fit-variable (λ r. out) _ fails))
+  entries-refused schema out fails = (fit-variable Err _ fails, (fit-variable (λ r. schema) _ fails, fit-variable (λ r. out) _ fails))
 
   -- the first holds and the second fails
-  pub specials-refused : (schema out : List ℕ) → entries_fit m e entries ≡ true → specials_fit m e subsets ≡ false → TableGives schema out (Refused SpecialSubset) schema out
+  pub specials-refused : (schema out : List ℕ) → entries_fit m e entries ≡ true → specials_fit m e subsets ≡ false → TableGives schema out (Err SpecialSubset) schema out
   unfolding table_applied table_image table_output
-  specials-refused schema out fit fails = (fit-special Refused _ fit fails, (fit-special (λ r. schema) _ fit fails, fit-special (λ r. out) _ fit fails))
+  specials-refused schema out fit fails = (fit-special Err _ fit fails, (fit-special (λ r. schema) _ fit fails, fit-special (λ r. out) _ fit fails))
 
   -- both hold and the third fails
   pub image-refused :
@@ -158,10 +156,10 @@ module _ (m : ℕ) (e : Expression) (subsets entries : List ℕ) where
       → entries_fit m e entries ≡ true
       → specials_fit m e subsets ≡ true
       → table_filled m (maps_from subsets) entries ≡ false
-      → TableGives schema out (Refused EmptyImage) schema out
+      → TableGives schema out (Err EmptyImage) schema out
   unfolding table_applied table_image table_output
   image-refused schema out fit special fails = (
-    fit-empty Refused _ fit special fails,
+    fit-empty Err _ fit special fails,
     (fit-empty (λ r. schema) _ fit special fails, fit-empty (λ r. out) _ fit special fails),
   )
 
@@ -169,7 +167,7 @@ module _ (m : ℕ) (e : Expression) (subsets entries : List ℕ) where
   pub applied-fits : (size width : ℕ) → table_applied m e subsets entries ≡ Applied size width → (entries_fit m e entries ≡ true) × (specials_fit m e subsets ≡ true) × (table_filled m (maps_from subsets) entries ≡ true)
   applied-fits size width said = go (entries_fit m e entries) refl (specials_fit m e subsets) refl (table_filled m (maps_from subsets) entries) refl
     where
-      never : (r : Refusal) → table_applied m e subsets entries ≡ Refused r → ⊥
+      never : (r : Refusal) → table_applied m e subsets entries ≡ Err r → ⊥
       never r refused = let both = sym refused ∙ said in let z : ◌≡◌ {A = ℕ} 0 1 = cc in omega arith
 
       go :
@@ -200,7 +198,7 @@ module _ (file : List ℕ) (m k : ℕ) (few : m ≤ 8) (legal : Legal m (express
         (t : Bool)
         → t ≡ false
         → t ≡ all_below count (λ i. type_variable (allowed_in (column_at work k 0)) (subset_of (get_or items i 0)))
-        → (Refused TypeVariable ≡ table_applied m (expression_at file k) subsets (take count items))
+        → (Err TypeVariable ≡ table_applied m (expression_at file k) subsets (take count items))
         × ((schema ≡ table_image m (expression_at file k) subsets (take count items) schema)
         × (out ≡ table_output m (expression_at file k) subsets (take count items) out))
     variable-refused t fails is =
@@ -213,7 +211,7 @@ module _ (file : List ℕ) (m k : ℕ) (few : m ≤ 8) (legal : Legal m (express
         → t ≡ all_below count (λ i. type_variable (allowed_in (column_at work k 0)) (subset_of (get_or items i 0)))
         → u ≡ false
         → u ≡ specials_allowed work k subsets
-        → (Refused SpecialSubset ≡ table_applied m (expression_at file k) subsets (take count items))
+        → (Err SpecialSubset ≡ table_applied m (expression_at file k) subsets (take count items))
         × ((schema ≡ table_image m (expression_at file k) subsets (take count items) schema)
         × (out ≡ table_output m (expression_at file k) subsets (take count items) out))
     special-refused t u holds is fails is' =
@@ -245,7 +243,7 @@ module _ (file : List ℕ) (m k : ℕ) (few : m ≤ 8) (legal : Legal m (express
           (v : Bool)
           → v ≡ false
           → v ≡ table_filled m maps (take count items)
-          → (Refused EmptyImage ≡ table_applied m (expression_at file k) subsets (take count items))
+          → (Err EmptyImage ≡ table_applied m (expression_at file k) subsets (take count items))
           × ((schema ≡ table_image m (expression_at file k) subsets (take count items) schema)
           × (out ≡ table_output m (expression_at file k) subsets (take count items) out))
       empty-refused v fails v-is =
@@ -277,27 +275,26 @@ module _ (file : List ℕ) (m k : ℕ) (few : m ≤ 8) (legal : Legal m (express
           )
 
 -- what is found in the bytes, by the reading that was handed on
-pub read-stopped : (bytes : List ℕ) (x : InstantiationReading) (r : Refusal) → x ≡ reading_of (instantiation_reading bytes) → x.judgement ≡ ReadRefused r → (instantiation_reading bytes).judgement ≡ ReadRefused r
-read-stopped bytes x r is said = sym (handed-on (instantiation_reading bytes) x is).judgement ∙ said
+pub read-stopped : (bytes : List ℕ) (r : Refusal) → Err r ≡ reading_of (instantiation_reading bytes) → (instantiation_reading bytes).judgement ≡ ReadRefused r
+read-stopped bytes r is = refused-on (instantiation_reading bytes) r is
 
 -- an instantiation that was read has such a table
-pub record SubsetsRead (bytes items : List ℕ) (x : InstantiationReading) : Type 0 where
+pub record SubsetsRead (bytes items : List ℕ) (x : InstantiationTable) : Type 0 where
   pub table : ReadSubsets x.subsets items x.count
   pub subsets : x.subsets ≡ (instantiation_reading bytes).subsets
   pub entries : take x.count items ≡ (instantiation_reading bytes).entries
   pub judged : (instantiation_reading bytes).judgement ≡ Read
 
 pub read-subsets :
-    (bytes items : List ℕ) (x : InstantiationReading)
+    (bytes items : List ℕ) (x : InstantiationTable)
     → Bytes bytes
-    → x ≡ reading_of (instantiation_reading bytes)
-    → EntriesStand x.judgement (instantiation_reading bytes).entries items
-    → x.judgement ≡ Read
+    → Ok x ≡ reading_of (instantiation_reading bytes)
+    → EntriesStand (instantiation_reading bytes).judgement (instantiation_reading bytes).entries items
     → SubsetsRead bytes items x
-read-subsets bytes items x below is stands read = made (instantiation-read bytes judged)
+read-subsets bytes items x below is stands = made (instantiation-read bytes judged)
   where
     judged : (instantiation_reading bytes).judgement ≡ Read
-    judged = sym (handed-on (instantiation_reading bytes) x is).judgement ∙ read
+    judged = (handed-on (instantiation_reading bytes) x is).judgement
 
     subsets : x.subsets ≡ (instantiation_reading bytes).subsets
     subsets = (handed-on (instantiation_reading bytes) x is).subsets
@@ -319,10 +316,10 @@ read-subsets bytes items x below is stands read = made (instantiation-read bytes
                 small = rw is-subsets (subsets-small bytes below);
                 none = rw is-subsets (subsets-none bytes);
                 few = omega arith;
-                fit = rw number (items-stand items (instantiation_reading bytes).entries (stands read) (rw is-entries (entries_below ls lists)));
+                fit = rw number (items-stand items (instantiation_reading bytes).entries (stands judged) (rw is-entries (entries_below ls lists)));
               };
           subsets = subsets;
-          entries = rw number (stands read);
+          entries = rw number (stands judged);
           judged = judged;
         }
 
@@ -341,13 +338,13 @@ filled-space file work filled m n k node enough is size =
 -- ---- as it was read
 
 module _ (file : List ℕ) (m n : ℕ) (e : Expression) (i : Instantiation) (work schema out : List ℕ) where
-  pub read-stops : (r : Refusal) → i.judgement ≡ ReadRefused r → (Refused r ≡ read_applied m e i) × ((work ≡ read_space file m n i.judgement work) × ((schema ≡ read_image m e i schema) × (out ≡ read_output m e i out)))
+  pub read-stops : (r : Refusal) → i.judgement ≡ ReadRefused r → (Err r ≡ read_applied m e i) × ((work ≡ read_space file m n i.judgement work) × ((schema ≡ read_image m e i schema) × (out ≡ read_output m e i out)))
   unfolding read_applied read_space read_image read_output
   read-stops r is = rw is (refl, (refl, (refl, refl)))
 
   pub read_goes :
       i.judgement ≡ Read
-      → (a : Application) (filled image written : List ℕ)
+      → (a : Result Application Refusal) (filled image written : List ℕ)
       → filled ≡ over (formulas_of file m n) work
       → a ≡ table_applied m e i.subsets i.entries
       → image ≡ table_image m e i.subsets i.entries schema
@@ -365,7 +362,7 @@ read-applied m e i size width said = go i.judgement refl said
     go :
         (j : Judgement)
         → i.judgement ≡ j
-        → after_schema j Refused (table_applied m e i.subsets i.entries) ≡ Applied size width
+        → after_schema j Err (table_applied m e i.subsets i.entries) ≡ Applied size width
         → (i.judgement ≡ Read) × (table_applied m e i.subsets i.entries ≡ Applied size width)
     go (ReadRefused r) is q = absurd (let z : ◌≡◌ {A = ℕ} 0 1 = cc in omega arith)
     go Read is q = (is, q)
@@ -381,21 +378,21 @@ apply-passed file k space size out_size e =
 
 module _ (file : List ℕ) (k : ℕ) (bytes work schema out : List ℕ) where
   -- answer and slices are as the definitions of Apply say
-  abbrev Results : Application → List ℕ → List ℕ → List ℕ → Type 0
+  abbrev Results : Result Application Refusal → List ℕ → List ℕ → List ℕ → Type 0
   Results a filled image written =
       (a ≡ apply_answer file k bytes (length work) (length schema) (length out))
       × ((filled ≡ apply_space file k bytes work (length schema) (length out))
       × ((image ≡ apply_schema file k bytes (length work) schema (length out))
       × (written ≡ apply_out file k bytes (length work) (length schema) out)))
 
-  pub apply-stops : (r : Refusal) → sliced (sliced (admitted file k (length work)) (length schema) schema_size) (length out) output_size ≡ FileRefused r → Results (Refused r) work schema out
+  pub apply-stops : (r : Refusal) → sliced (sliced (admitted file k (length work)) (length schema) schema_size) (length out) output_size ≡ Err r → Results (Err r) work schema out
   unfolding apply_answer apply_space apply_schema apply_out
   apply-stops r e = rw e (refl, (refl, (refl, refl)))
 
   pub apply-goes :
       (m n : ℕ)
       → sliced (sliced (admitted file k (length work)) (length schema) schema_size) (length out) output_size ≡ Accepted m n
-      → (a : Application) (filled image written : List ℕ)
+      → (a : Result Application Refusal) (filled image written : List ℕ)
       → a ≡ read_applied m (expression_at file k) (instantiation_reading bytes)
       → filled ≡ read_space file m n (instantiation_reading bytes).judgement work
       → image ≡ read_image m (expression_at file k) (instantiation_reading bytes) schema
@@ -416,12 +413,12 @@ unfolding apply_answer
 apply-applied file k bytes space size out_size s w said = go (sliced (sliced (admitted file k space) size schema_size) out_size output_size) refl said
   where
     go :
-        (a : Acceptance)
+        (a : Result Header Refusal)
         → sliced (sliced (admitted file k space) size schema_size) out_size output_size ≡ a
-        → after a Refused (λ m n. read_applied m (expression_at file k) (instantiation_reading bytes)) ≡ Applied s w
+        → after a Err (λ m n. read_applied m (expression_at file k) (instantiation_reading bytes)) ≡ Applied s w
         → (m : ℕ)
         × ((n : ℕ)
         × ((sliced (sliced (admitted file k space) size schema_size) out_size output_size ≡ Accepted m n)
         × (read_applied m (expression_at file k) (instantiation_reading bytes) ≡ Applied s w)))
-    go (FileRefused r) goes q = absurd (let z : ◌≡◌ {A = ℕ} 0 1 = cc in omega arith)
-    go (Accepted m n) goes q = (m, (n, (goes, q)))
+    go (Err r) goes q = absurd (let z : ◌≡◌ {A = ℕ} 0 1 = cc in omega arith)
+    go (Ok h) goes q = (h.relations, (h.nodes, (goes, q)))

@@ -1,20 +1,21 @@
 -- What the answer of Apply is in numbers, for callers in C (FORMAT 7.18).
-use Rattle.std.specs.Prelude.{ℕ}
+use Rattle.std.specs.Prelude.{ℕ, Result, Err, Ok}
 use Rattle.refusal.specs.Number.{number_of}
+use Rattle.refusal.specs.declared.Refusal.{Refusal}
 use Rattle.apply_answer.specs.declared.Application.{Application}
-use Rattle.apply_answer.specs.declared.Application.TheVariants.{Applied, Refused}
+use Rattle.apply_answer.specs.Apply.{Applied}
 
 -- FORMAT 7.18: 0, or the refusal's number
-abbrev pub application_number : Application → ℕ
-application_number (Applied size length) = 0
-application_number (Refused r) = number_of r
+abbrev pub application_number : Result Application Refusal → ℕ
+application_number (Ok a) = 0
+application_number (Err r) = number_of r
 
 -- FORMAT 7.18: the schema's length; after a refusal what stood there
-abbrev pub application_schema : Application → ℕ → ℕ
-application_schema (Applied size length) old = size
-application_schema (Refused r) old = old
+abbrev pub application_schema : Result Application Refusal → ℕ → ℕ
+application_schema (Ok a) old = a.schema
+application_schema (Err r) old = old
 
 -- FORMAT 7.18: the output record's length; after a refusal what stood there
-abbrev pub application_output : Application → ℕ → ℕ
-application_output (Applied size length) old = length
-application_output (Refused r) old = old
+abbrev pub application_output : Result Application Refusal → ℕ → ℕ
+application_output (Ok a) old = a.output
+application_output (Err r) old = old

@@ -1,11 +1,9 @@
 // What Apply answers and leaves in its slices, and the laws of it: no code.
 #![tactic(auto)]
 
-use refusal::Refusal;
-
-// The lengths of the schema and of the output record, or the first refusal.
+// The lengths of the schema and of the output record that Apply wrote.
 #[derive(Clone, Copy)]
-pub enum Application {
-    Applied(usize, usize),
-    Refused(Refusal),
+pub struct Application {
+    pub schema: usize,
+    pub output: usize,
 }

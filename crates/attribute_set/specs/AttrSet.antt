@@ -1,11 +1,9 @@
 -- What the functions on attribute sets give (FORMAT 1.5).
-use Rattle.std.specs.Prelude.{ℕ, ◌^◌, Bool, cond}
+use Rattle.std.specs.Prelude.{ℕ, ◌^◌, Bool, cond, Option, Some, None}
 use Rattle.std.specs.Int.Bits.{bit_or}
 use Rattle.bits.specs.Bit.{bit}
 use Rattle.bits.specs.Range.{in_range}
 use Rattle.attribute_set.specs.declared.AttrSet.{AttrSet}
-use Rattle.attribute_set.specs.declared.Built.{Built}
-use Rattle.attribute_set.specs.declared.Built.TheVariants.{Set, NoSet}
 
 -- FORMAT 2.1: the attributes 1 to 15
 unfoldable pub special : ℕ → Bool
@@ -28,8 +26,8 @@ unfoldable pub set_of : ℕ → AttrSet
 set_of bits = record { bits = bits }
 
 -- FORMAT 1.5: sixteen bits are a set where bit 0 is clear
-unfoldable pub from_bits : ℕ → Built
-from_bits bits = cond (bit bits 0) NoSet (Set (set_of bits))
+unfoldable pub from_bits : ℕ → Option AttrSet
+from_bits bits = cond (bit bits 0) None (Some (set_of bits))
 
 -- the set with attribute a as well; a number that is no special attribute adds nothing
 unfoldable pub with_attribute : AttrSet → ℕ → AttrSet

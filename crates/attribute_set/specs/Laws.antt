@@ -1,5 +1,5 @@
 -- The laws of attribute sets: what building, adding and testing do to each other, and that bit 0 stays clear.
-use Rattle.std.specs.Prelude.{ℕ, ◌^◌, ◌≤◌, ◌≡◌, refl, Bool, true, false, cond, ◌&&◌, ◌||◌, eqb}
+use Rattle.std.specs.Prelude.{ℕ, ◌^◌, ◌≤◌, ◌≡◌, refl, Bool, true, false, cond, ◌&&◌, ◌||◌, eqb, Some, None}
 use Rattle.std.proofs.Common.{ap, ◌∙◌, arith}
 use Rattle.std.proofs.Math.Bool.{or_comm}
 use Rattle.std.specs.Int.Bits.{bit_or}
@@ -7,7 +7,6 @@ use Rattle.bits.specs.Bit.{bit, bit-none, bit-or, bit-power}
 use Rattle.bits.specs.Booleans.{is_false}
 use Rattle.bits.specs.Range.{in-range, range-in}
 use Rattle.attribute_set.specs.declared.AttrSet.{AttrSet}
-use Rattle.attribute_set.specs.declared.Built.TheVariants.{Set, NoSet}
 use Rattle.attribute_set.specs.AttrSet.{special, has_attribute, empty_set, bits_of, set_of, from_bits, with_attribute}
 
 pub special-range : (a : ℕ) → special a ≡ true → (1 ≤ a) × (a ≤ 15)
@@ -68,19 +67,19 @@ unfolding Clear
 clear-lacks s h = h
 
 -- building refuses exactly where bit 0 stands, and else gives the set with these bits, bit 0 clear
-pub built-none : (bits : ℕ) → from_bits bits ≡ NoSet → bit bits 0 ≡ true
+pub built-none : (bits : ℕ) → from_bits bits ≡ None → bit bits 0 ≡ true
 unfolding from_bits
 built-none bits = go (bit bits 0)
   where
-    go : (t : Bool) → cond t NoSet (Set (set_of bits)) ≡ NoSet → t ≡ true
+    go : (t : Bool) → cond t None (Some (set_of bits)) ≡ None → t ≡ true
     go true e = refl
     go false e = absurd (let z : ◌≡◌ {A = ℕ} 0 1 = cc in omega arith)
 
-pub built-set : (bits : ℕ) (s : AttrSet) → from_bits bits ≡ Set s → (bit bits 0 ≡ false) × (s ≡ set_of bits)
+pub built-set : (bits : ℕ) (s : AttrSet) → from_bits bits ≡ Some s → (bit bits 0 ≡ false) × (s ≡ set_of bits)
 unfolding from_bits
 built-set bits s = go (bit bits 0)
   where
-    go : (t : Bool) → cond t NoSet (Set (set_of bits)) ≡ Set s → (t ≡ false) × (s ≡ set_of bits)
+    go : (t : Bool) → cond t None (Some (set_of bits)) ≡ Some s → (t ≡ false) × (s ≡ set_of bits)
     go true e = absurd (let z : ◌≡◌ {A = ℕ} 0 1 = cc in omega arith)
     go false e = (refl, cc)
 

@@ -18,13 +18,6 @@ pub struct AttrSet {
     bits: u16,
 }
 
-// What sixteen bits are: a set, or none, since bit 0 stands.
-#[derive(Clone, Copy)]
-pub enum Built {
-    Set(AttrSet),
-    NoSet,
-}
-
 impl AttrSet {
     pub const EMPTY: AttrSet = AttrSet { bits: 0 };
 
@@ -36,13 +29,13 @@ impl AttrSet {
     }
 
     // The set that has attribute i where bit i of `bits` stands, or no set if bit 0 does.
-    pub fn build(bits: u16) -> Built
+    pub fn build(bits: u16) -> Option<AttrSet>
         ensures { result ≡ from_bits bits }
     {
         if bits % 2 == 1 {
-            return Built::NoSet;
+            return None;
         }
-        Built::Set(AttrSet { bits })
+        Some(AttrSet { bits })
     }
 
     // The sixteen bits.

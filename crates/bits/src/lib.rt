@@ -9,10 +9,7 @@ ghost use Rattle.bits.specs.Word.{word};
 pub fn in_range(low: u8, high: u8, x: u8) -> bool
     ensures { result ≡ in_range low high x }
 {
-    if x < low {
-        return false;
-    }
-    x <= high
+    low <= x && x <= high
 }
 
 // The number of two bytes, low first, at a place.
@@ -20,5 +17,5 @@ pub fn word_at(bytes: &[u8], at: usize) -> u16
     requires { at + 2 ≤ length bytes.now }
     ensures { result ≡ word bytes.now at }
 {
-    bytes[at] as u16 + bytes[at + 1] as u16 * 256
+    u16::from_le_bytes([bytes[at], bytes[at + 1]])
 }

@@ -15,13 +15,11 @@ pub fn relation_column(count: usize, r: u8) -> [u8; 64]
 {
     let members = member_map(r);
     let mut column = [0u8; 64];
-    let mut j = 0u8;
-    while j < 32 {
+    for j in 0..32u8 {
         let i = j as usize;
         let allowed = subset_byte(count, j);
         column[i] = allowed;
         column[32 + i] = allowed & members[i];
-        j += 1;
     }
     column
 }
@@ -31,12 +29,10 @@ pub fn unary_column(u: Unary, operand: [u8; 64]) -> [u8; 64]
     ensures { result ≡ unary_column u operand }
 {
     let mut column = [0u8; 64];
-    let mut j = 0;
-    while j < 32 {
+    for j in 0..32 {
         let bytes = unary_bytes(u, operand[j], operand[32 + j]);
         column[j] = bytes.allowed;
         column[32 + j] = bytes.output;
-        j += 1;
     }
     column
 }
@@ -56,8 +52,7 @@ pub fn combined_column(c: Combination, left: [u8; 64], right: [u8; 64]) -> [u8; 
     ensures { result ≡ combined_column c left right }
 {
     let mut column = [0u8; 64];
-    let mut j = 0;
-    while j < 32 {
+    for j in 0..32 {
         let l = Bytes {
             allowed: left[j],
             output: left[32 + j],
@@ -69,7 +64,6 @@ pub fn combined_column(c: Combination, left: [u8; 64], right: [u8; 64]) -> [u8; 
         let bytes = combined_bytes(c, l, r);
         column[j] = bytes.allowed;
         column[32 + j] = bytes.output;
-        j += 1;
     }
     column
 }

@@ -9,9 +9,7 @@ pub fn copy_bytes(to: &mut [u8], at: usize, from: &[u8], n: usize)
     requires { (at + n ≤ length to.old) × (n ≤ length from.now) }
     ensures { to.new ≡ paste to.old at from.now n }
 {
-    let mut i = 0;
-    while i < n {
+    for i in 0..n {
         to[at + i] = from[i];
-        i += 1;
     }
 }

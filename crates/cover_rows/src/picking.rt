@@ -17,17 +17,16 @@ fn price(column: &[u8; 64], next: &[u8], need: u8, s: u8) -> u8
     }
 }
 
-// The lowest subset from `from` on and below the count that costs `target`, or the count.
+// The lowest subset from `from` on and below the count that costs `target`, or the count. It is no Option: both callers
+// know that there is one, and would have to take it out again.
 pub fn pick(column: &[u8; 64], next: &[u8], from: u16, count: u16, need: u8, target: u8) -> u16
     requires { (from ≤ count) × (count ≤ 256) × (need < length next.now) × CostsUpTo need next.now }
     ensures { result ≡ lowest_from (count - from) from (λ s. eqb (price_in column.now next.now need s) target) }
 {
-    let mut s = from;
-    while s < count {
+    for s in from..count {
         if price(column, next, need, s as u8) == target {
             return s;
         }
-        s += 1;
     }
-    s
+    count
 }

@@ -1,6 +1,6 @@
 // A row of costs, sixteen needs at a time: the loop over sixteen has no branch, so that the compiler makes one step of
 // it.
-ghost use Rattle.std.specs.Prelude.{◌≡◌, false, ℕ, ◌+◌, ◌*◌, ◌≤◌, ◌<◌, min, length, get_or, replicate};
+ghost use Rattle.std.specs.Prelude.{◌≡◌, false, ℕ, ◌+◌, ◌*◌, ◌≤◌, ◌<◌, min, get_or, replicate};
 ghost use Rattle.bits.specs.Written.{Written};
 ghost use Rattle.set_cover.specs.Least.{infinity};
 ghost use Rattle.cover_rows.specs.Rows.{Costs, cost_row};
@@ -10,17 +10,11 @@ ghost use Rattle.cover_rows.specs.Tried.{Reached, Before, NoneAllowed};
 use crate::low::low_entries;
 use column::allowed_in;
 
-fn lesser(a: u8, b: u8) -> u8
-    ensures { result ≡ min a b }
-{
-    if b < a { b } else { a }
-}
-
 // How many numbers are the first four relations of one of `count` subsets.
 fn low_parts(count: u16) -> u8
     ensures { result ≡ min 16 count }
 {
-    if count < 16 { count as u8 } else { 16 }
+    count.min(16) as u8
 }
 
 // Whether the column allows one of the subsets whose first four relations are `low`.
@@ -28,39 +22,33 @@ fn allows_low(column: &[u8; 64], low: u8, count: u16) -> bool
     requires { (low < 16) × (count ≤ 256) }
     ensures { result ≡ false → NoneAllowed column.now low count count }
 {
-    let mut s = low as u16;
-    while s < count {
+    for s in (low as u16..count).step_by(16) {
         if allowed_in(column, s as usize) {
             return true;
         }
-        s += 16;
     }
     false
 }
 
 // Sixteen entries are lowered to those of the table and so many members.
 fn lower_block(row: &mut [u8; 256], to: usize, table: &[u8; 256], from: usize, members: u8)
-    requires { (to ≤ 240) × (from ≤ 240) × (members ≤ 8) × (length row.old ≡ 256) × ((i : ℕ) → i < 16 → get_or table.now (from + i) 0 ≤ infinity) }
+    requires { (to ≤ 240) × (from ≤ 240) × (members ≤ 8) × ((i : ℕ) → i < 16 → get_or table.now (from + i) 0 ≤ infinity) }
     ensures { WrittenAt (lowered_entry row.old table.now to from members) to 16 row.old row.new }
 {
-    let mut n = 0usize;
-    while n < 16 {
-        row[to + n] = lesser(row[to + n], table[from + n] + members);
-        n += 1;
+    for n in 0..16 {
+        row[to + n] = row[to + n].min(table[from + n] + members);
     }
 }
 
 // The row after one subset: the table has what remains without its first four relations, `high` are the others.
 fn lower_row(row: &mut [u8; 256], table: &[u8; 256], high: u8, members: u8, blocks: u8)
-    requires { (blocks ≤ 16) × (high < 16) × (members ≤ 8) × (length row.old ≡ 256) × ((x : ℕ) → x < blocks * 16 → get_or table.now x 0 ≤ infinity) }
+    requires { (blocks ≤ 16) × (high < 16) × (members ≤ 8) × ((x : ℕ) → x < blocks * 16 → get_or table.now x 0 ≤ infinity) }
     ensures { Written (lowered_row row.old table.now high members) (blocks * 16) row.old row.new }
 {
     let kept = (15 - high) as usize * 16;
-    let mut h = 0u8;
-    while h < blocks {
+    for h in 0u8..blocks {
         let to = h as usize * 16;
         lower_block(row, to, table, to & kept, members);
-        h += 1;
     }
 }
 
@@ -75,20 +63,15 @@ fn try_low(
     blocks: u8,
     count: u16,
 )
-    requires low_bound { (low < 16) × (blocks ≤ 16) × (count ≤ 256) × Costs next.now × (length table.old ≡ 256) }
+    requires low_bound { (low < 16) × (blocks ≤ 16) × (count ≤ 256) × Costs next.now }
     requires reached { Reached column.now next.now (blocks * 16) count (Before low) row.old }
-    ensures reached_2 { Reached column.now next.now (blocks * 16) count (Before (low + 1)) row.new }
-    ensures table_len { length table.new ≡ 256 }
+    ensures { Reached column.now next.now (blocks * 16) count (Before (low + 1)) row.new }
 {
     low_entries(table, next, low, blocks);
-    let mut s = low as u16;
-    while s < count {
+    for s in (low as u16..count).step_by(16) {
         if allowed_in(column, s as usize) {
             let members = u8::count_ones(s as u8) as u8;
             lower_row(row, table, (s / 16) as u8, members, blocks);
-            s += 16;
-        } else {
-            s += 16;
         }
     }
 }
@@ -101,13 +84,9 @@ pub fn cost_row(row: &mut [u8; 256], column: &[u8; 64], next: &[u8; 256], blocks
 {
     let mut table = [0u8; 256];
     let lows = low_parts(count);
-    let mut low = 0u8;
-    while low < lows {
+    for low in 0u8..lows {
         if allows_low(column, low, count) {
             try_low(row, &mut table, column, next, low, blocks, count);
-            low += 1;
-        } else {
-            low += 1;
         }
     }
 }

@@ -16,10 +16,8 @@ pub fn same_bytes(a: &[u8], b: &[u8], n: usize) -> bool
     ensures { result ≡ alike n a.now b.now }
 {
     let mut differences = 0u16;
-    let mut i = 0;
-    while i < n {
+    for i in 0..n {
         differences += difference(a[i], b[i]);
-        i += 1;
     }
     differences == 0
 }

@@ -5,30 +5,25 @@ ghost use Rattle.std.specs.Prelude.{◌≡◌, ℕ, ◌≤◌, ◌<◌, length};
 ghost use Rattle.text.specs.Put.{Wrote};
 ghost use Rattle.expression_file.specs.Exchanged.{exchanged};
 ghost use Rattle.record.specs.RecordLaws.{Seeking};
-ghost use Rattle.expression_file.specs.declared.files.Acceptance.TheVariants.{Accepted};
+ghost use Rattle.expression_file.specs.ReadFile.{Accepted};
 ghost use Rattle.edit_answer.specs.Edit.{check_record, recorded, edit_sliced, edit_answer, edit_result};
 
 use admission::ask;
-use edit_answer::Editing;
-use expression_file::Acceptance;
-use node::{Check, check_nodes};
+use expression_file::Header;
+use node::check_nodes;
 use record::place_of;
 use refusal::Refusal;
 use text::write_bytes;
 
 // The check of a record as node `k` of a file with `m` relations (FORMAT 8.9): a node, and nothing after it.
-fn check_record(m: u8, k: u8, replacement: &[u8]) -> Check
+fn check_record(m: u8, k: u8, replacement: &[u8]) -> Result<usize, Refusal>
     ensures { result ≡ check_record m k replacement.now }
 {
-    match check_nodes(m, k, 1, replacement) {
-        Check::Refused(r) => Check::Refused(r),
-        Check::Legal(size) => {
-            if size < replacement.len() {
-                return Check::Refused(Refusal::NodesFollowed);
-            }
-            Check::Legal(size)
-        }
+    let size = check_nodes(m, k, 1, replacement)?;
+    if size < replacement.len() {
+        return Err(Refusal::NodesFollowed);
     }
+    Ok(size)
 }
 
 // Writes the edited file (FORMAT 1.8) from the front of the slice, and gives its length.
@@ -46,44 +41,37 @@ pub fn write_exchanged(file: &[u8], node: usize, replacement: &[u8], to: &mut [u
 }
 
 // One more test, 27: whether Edit's result slice has 322 bytes (FORMAT 8.5).
-fn with_edit_slice(a: Acceptance, size: usize) -> Acceptance
-    ensures { result ≡ edit_sliced a size }
+fn with_edit_slice(asked: Result<Header, Refusal>, size: usize) -> Result<Header, Refusal>
+    ensures { result ≡ edit_sliced asked size }
 {
-    match a {
-        Acceptance::Refused(r) => Acceptance::Refused(r),
-        Acceptance::Accepted(m, n) => {
-            if size < 322 {
-                return Acceptance::Refused(Refusal::EditSlice);
-            }
-            Acceptance::Accepted(m, n)
-        }
+    let header = asked?;
+    if size < 322 {
+        return Err(Refusal::EditSlice);
     }
+    Ok(header)
 }
 
 // One more test, the last: whether the record is a node in the place of this one (FORMAT 8.9).
-pub fn with_record(a: Acceptance, node: usize, replacement: &[u8]) -> Acceptance
-    requires { (m n : ℕ) → a ≡ Accepted m n → node < 64 }
-    ensures { result ≡ recorded a node replacement.now }
+pub fn with_record(
+    asked: Result<Header, Refusal>,
+    node: usize,
+    replacement: &[u8],
+) -> Result<Header, Refusal>
+    requires { (m n : ℕ) → asked ≡ Accepted m n → node < 64 }
+    ensures { result ≡ recorded asked node replacement.now }
 {
-    match a {
-        Acceptance::Refused(r) => Acceptance::Refused(r),
-        Acceptance::Accepted(m, n) => match check_record(m, node as u8, replacement) {
-            Check::Refused(r) => Acceptance::Refused(r),
-            Check::Legal(_) => Acceptance::Accepted(m, n),
-        },
-    }
+    let header = asked?;
+    check_record(header.relations, node as u8, replacement)?;
+    Ok(header)
 }
 
-// Edit (FORMAT 7.27): refusals 1 to 11, 27, and then the record (FORMAT 8.9).
-pub fn edit(file: &[u8], node: usize, replacement: &[u8], res: &mut [u8]) -> Editing
+// Edit (FORMAT 7.27): the length of the edited file, or the first refusal of 1 to 11, 27, and then of the record
+// (FORMAT 8.9).
+pub fn edit(file: &[u8], node: usize, replacement: &[u8], res: &mut [u8]) -> Result<usize, Refusal>
     ensures value { result ≡ edit_answer file.now node replacement.now (length res.old) }
     ensures res_after { res.new ≡ edit_result file.now node replacement.now res.old }
 {
     let found = ask(file, node);
-    match with_record(with_edit_slice(found, res.len()), node, replacement) {
-        Acceptance::Refused(r) => Editing::Refused(r),
-        Acceptance::Accepted(_, _) => {
-            Editing::Written(write_exchanged(file, node, replacement, res))
-        }
-    }
+    with_record(with_edit_slice(found, res.len()), node, replacement)?;
+    Ok(write_exchanged(file, node, replacement, res))
 }

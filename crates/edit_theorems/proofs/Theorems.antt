@@ -7,11 +7,11 @@
 --   edit_answer, edit_result   what Edit leaves, by its contract              (crate edit_answer, Edit)
 --   preview_answer, preview_space   what Preview leaves, by its contract      (crate preview_answer, Preview)
 --   verdict_answer, verdict_space   what Verdict leaves, by its contract      (crate verdict_answer, Verdict)
---   without_witness   what is left of Verdict's answer without the witness   (crate verdict_answer, Typability)
+--   answer_without_witness   what is left of Verdict's answer without the witness   (crate verdict_answer, Typability)
 --   formula_space     what Formula leaves, by its contract                   (crate stored_formula, Formula)
 --   FilledTyping     a filled assignment, and a type that the rules derive under it   (crate principal, Principal)
 --   expression_at     the expression of a node                               (crate node_expression, NodeExpression)
-use Rattle.std.specs.Prelude.{ℕ, ◌-◌, ◌≤◌, ◌<◌, ◌≡◌, refl, ◌↔◌, List, length, drop, replicate}
+use Rattle.std.specs.Prelude.{ℕ, ◌-◌, ◌≤◌, ◌<◌, ◌≡◌, refl, ◌↔◌, List, length, drop, replicate, Result, Err, Ok}
 use Rattle.std.proofs.Common.{sym, ap, ap₂, ◌∙◌, arith, drop_at}
 use Rattle.std.proofs.Math.Decide.{dec_lt}
 use Rattle.std.proofs.lemmas.List.{length-replicate}
@@ -20,12 +20,9 @@ use Rattle.types.specs.Memberships.{memberships, Within}
 use Rattle.principal.specs.Principal.{FilledTyping}
 use Rattle.refusal.specs.declared.Refusal.{Refusal}
 use Rattle.refusal.specs.declared.Refusal.TheVariants.{NodeNumber}
-use Rattle.node.specs.declared.nodes.Reading.TheVariants.{Read}
-use Rattle.node.specs.ReadNode.{node_of, read_node}
-use Rattle.expression_file.specs.declared.files.Acceptance.{Acceptance}
-use Rattle.expression_file.specs.declared.files.Acceptance.TheVariants.{Accepted, Refused as FileRefused}
-use Rattle.expression_file.specs.ReadFile.{PlacedNode, acceptance, node_at}
-use Rattle.expression_file.specs.Accepted.{accepted-file}
+use Rattle.node.specs.ReadNode.{node_of, read_node, Read}
+use Rattle.expression_file.specs.ReadFile.{PlacedNode, acceptance, node_at, Accepted}
+use Rattle.expression_file.specs.Accepted.{accepted-file, accepted-parts}
 use Rattle.expression_file.specs.Exchanged.{exchanged}
 use Rattle.expression_file.proofs.Exchanged.{exchanged-here, exchanged-other}
 use Rattle.admission.specs.Admission.{asked, admitted}
@@ -39,24 +36,24 @@ use Rattle.stored_formula.specs.FormulaLaws.{admitted-space}
 use Rattle.schema.specs.Schema.{schema_size, assignment_of}
 use Rattle.edit_answer.specs.Edit.{recorded, edit_sliced, edit_tests, edit_answer, edit_result}
 use Rattle.edit_answer.specs.EditLaws.{slice-refused, slice_passes, Exchanges, edit-passed, edit-stops, edit-passes, tests-are as edit-tests}
-use Rattle.edit_answer.specs.declared.Editing.TheVariants.{Written, Refused as EditRefused}
 use Rattle.preview_answer.specs.Preview.{preview_tests, preview_answer, preview_space}
 use Rattle.preview_answer.specs.PreviewLaws.{edited-accepted, edited-admits, preview-passed, preview-stops, preview-passes, tests-are as preview-tests}
 use Rattle.verdict_answer.specs.Verdict.{outcome_in, verdict_answer, verdict_space}
 use Rattle.verdict_answer.proofs.VerdictLaws.{verdict-passes}
-use Rattle.verdict_answer.specs.Typability.{without_witness}
+use Rattle.verdict_answer.specs.Typability.{without_witness, answer_without_witness}
 use Rattle.verdict_answer.proofs.WithoutWitness.{typability-given}
 use Rattle.verdict_answer.specs.declared.Outcome.{Outcome}
-use Rattle.verdict_answer.specs.declared.Outcome.TheVariants.{Typable as TypableBy, Untypable as UntypableBy, Refused as RefusedBy}
-use Rattle.verdict_answer.specs.declared.Typability.TheVariants.{Typable, Untypable, Refused}
+use Rattle.verdict_answer.specs.declared.Outcome.TheVariants.{Typable as TypableBy, Untypable as UntypableBy}
+use Rattle.verdict_answer.specs.declared.Typability.TheVariants.{Typable, Untypable}
 use Rattle.verdict_theorems.specs.WitnessLaws.{Witness}
 use Rattle.verdict_theorems.specs.Theorems.{verdict-untypable, verdict-witness, verdict-memberships, verdict-fewest}
 use Rattle.edit_theorems.specs.Theorems.{LongEnough, after_edit, last_node, written_part}
+use Rattle.expression_file.specs.declared.files.Header.{Header}
 
 -- ---- Edit
 
 -- Edit does not refuse
-module _ (file : List ℕ) (k : ℕ) (replacement result : List ℕ) (size : ℕ) (written : edit_answer file k replacement (length result) ≡ Written size) where
+module _ (file : List ℕ) (k : ℕ) (replacement result : List ℕ) (size : ℕ) (written : edit_answer file k replacement (length result) ≡ Ok size) where
   -- what holds then: the old file and the record
   record Edited : Type 0 where
     m : ℕ
@@ -68,15 +65,15 @@ module _ (file : List ℕ) (k : ℕ) (replacement result : List ℕ) (size : ℕ
   wrote : Edited
   wrote = go (edit_tests file k replacement (length result)) refl
     where
-      go : (a : Acceptance) → edit_tests file k replacement (length result) ≡ a → Edited
-      go (FileRefused r) is = absurd (let both = (edit-stops file k replacement result r is).0 ∙ written in let z : ◌≡◌ {A = ℕ} 0 1 = cc in omega arith)
-      go (Accepted m n) is =
+      go : (a : Result Header Refusal) → edit_tests file k replacement (length result) ≡ a → Edited
+      go (Err r) is = absurd (let both = (edit-stops file k replacement result r is).0 ∙ written in let z : ◌≡◌ {A = ℕ} 0 1 = cc in omega arith)
+      go (Ok h) is =
           let passes = edit-passes file k replacement result is in
           let whole = passes.0 ∙ written in
           let size_is : length (exchanged file k replacement) ≡ size = cc in
           record {
-            m = m;
-            n = n;
+            m = h.relations;
+            n = h.nodes;
             exchanges = (edit-passed file k replacement result is).0;
             part = rw (← size_is, ← passes.1) (take-over (exchanged file k replacement) result);
             rest = rw (← size_is, ← passes.1, over-with (exchanged file k replacement) result) (drop_at (exchanged file k replacement) (drop (length (exchanged file k replacement)) result) (length (exchanged file k replacement)) refl);
@@ -124,7 +121,7 @@ module _ (file : List ℕ) (k : ℕ) (replacement result : List ℕ) (size : ℕ
       let w = wrote in
       let e = w.exchanges in
       let counts = sym e.accepted ∙ accepted in
-      let relations : w.m ≡ m = cc in
+      let relations : w.m ≡ m = (accepted-parts counts).0 in
       let here = exchanged-here file w.m w.n e.accepted k e.node replacement (node_of replacement) e.reads in
       rw (← relations) (e.reads ∙ sym (ap (λ (f : List ℕ). Read (node_at f k) (length replacement)) w.part ∙ ap (λ (p : PlacedNode). Read p.node (length replacement)) here))
 
@@ -136,19 +133,19 @@ module _ (file : List ℕ) (k : ℕ) (replacement result : List ℕ) (size : ℕ
       rw w.part (ap (λ (p : PlacedNode). p.node) (exchanged-other file w.m w.n e.accepted k e.node replacement (node_of replacement) e.reads j other))
 
 -- a refusal changes nothing
-pub edit-refused : (file : List ℕ) (k : ℕ) (replacement result : List ℕ) (r : Refusal) → edit_answer file k replacement (length result) ≡ EditRefused r → edit_result file k replacement result ≡ result
+pub edit-refused : (file : List ℕ) (k : ℕ) (replacement result : List ℕ) (r : Refusal) → edit_answer file k replacement (length result) ≡ Err r → edit_result file k replacement result ≡ result
 edit-refused file k replacement result r said = go (edit_tests file k replacement (length result)) refl
   where
-    go : (a : Acceptance) → edit_tests file k replacement (length result) ≡ a → edit_result file k replacement result ≡ result
-    go (FileRefused q) is = sym (edit-stops file k replacement result q is).1
-    go (Accepted m n) is = absurd (let both = (edit-passes file k replacement result is).0 ∙ said in let z : ◌≡◌ {A = ℕ} 0 1 = cc in omega arith)
+    go : (a : Result Header Refusal) → edit_tests file k replacement (length result) ≡ a → edit_result file k replacement result ≡ result
+    go (Err q) is = sym (edit-stops file k replacement result q is).1
+    go (Ok h) is = absurd (let both = (edit-passes file k replacement result is).0 ∙ said in let z : ◌≡◌ {A = ℕ} 0 1 = cc in omega arith)
 
-pub preview-refused : (file : List ℕ) (k : ℕ) (replacement work : List ℕ) (r : Refusal) → preview_answer file k replacement (length work) ≡ Refused r → preview_space file k replacement work ≡ work
+pub preview-refused : (file : List ℕ) (k : ℕ) (replacement work : List ℕ) (r : Refusal) → preview_answer file k replacement (length work) ≡ Err r → preview_space file k replacement work ≡ work
 preview-refused file k replacement work r said = go (preview_tests file k replacement (length work)) refl
   where
-    go : (a : Acceptance) → preview_tests file k replacement (length work) ≡ a → preview_space file k replacement work ≡ work
-    go (FileRefused q) is = sym (preview-stops file k replacement work q is).1
-    go (Accepted m n) is = absurd (typability-given m (allowed_bit m (expression_at (exchanged file k replacement) (n - 1))) r ((preview-passes file k replacement work is).0 ∙ said))
+    go : (a : Result Header Refusal) → preview_tests file k replacement (length work) ≡ a → preview_space file k replacement work ≡ work
+    go (Err q) is = sym (preview-stops file k replacement work q is).1
+    go (Ok h) is = absurd (typability-given h.relations (allowed_bit h.relations (expression_at (exchanged file k replacement) (h.nodes - 1))) r ((preview-passes file k replacement work is).0 ∙ said))
 
 -- ---- Preview is Verdict after Edit
 
@@ -161,14 +158,14 @@ module _ (file : List ℕ) (k : ℕ) (replacement work result schema : List ℕ)
   same_tests : preview_tests file k replacement (length work) ≡ edit_tests file k replacement (length result)
   same_tests =
       sym (preview-tests file k replacement work (admitted file k (length work)) _ refl refl)
-      ∙ ap (λ (a : Acceptance). recorded a k replacement) (go (asked file k) refl)
+      ∙ ap (λ (a : Result Header Refusal). recorded a k replacement) (go (asked file k) refl)
       ∙ edit-tests file k replacement result (asked file k) (edit_sliced (asked file k) (length result)) _ refl refl refl
     where
-      go : (a : Acceptance) → asked file k ≡ a → admitted file k (length work) ≡ edit_sliced (asked file k) (length result)
-      go (FileRefused r) is = admitted-refused file k (length work) is ∙ sym (slice-refused (asked file k) (length result) is)
-      go (Accepted m n) is =
+      go : (a : Result Header Refusal) → asked file k ≡ a → admitted file k (length work) ≡ edit_sliced (asked file k) (length result)
+      go (Err r) is = admitted-refused file k (length work) is ∙ sym (slice-refused (asked file k) (length result) is)
+      go (Ok h) is =
           let found = asked-passed file k is in
-          admitted-passes file k (length work) (record { accepted = found.0; node = found.1; work_space = long.work_space m n found.0 })
+          admitted-passes file k (length work) (record { accepted = found.0; node = found.1; work_space = long.work_space h.relations h.nodes found.0 })
           ∙ sym (slice_passes (asked file k) (length result) is long.result_slice)
 
   -- none of them refuses: the last node of what Edit wrote is node n - 1 of the edited file, which Verdict admits
@@ -183,7 +180,7 @@ module _ (file : List ℕ) (k : ℕ) (replacement work result schema : List ℕ)
     last-admitted = admitted-passes (exchanged file k replacement) (n - 1) (length work) (edited-admits work exchanges (long.work_space m n exchanges.accepted))
 
     last-verdict :
-        (verdict_answer (exchanged file k replacement) (last_node (exchanged file k replacement)) (length work) (length schema) ≡ outcome_in m (allowed_bit m (expression_at (exchanged file k replacement) (n - 1))))
+        (verdict_answer (exchanged file k replacement) (last_node (exchanged file k replacement)) (length work) (length schema) ≡ Ok (outcome_in m (allowed_bit m (expression_at (exchanged file k replacement) (n - 1)))))
         × (verdict_space (exchanged file k replacement) (last_node (exchanged file k replacement)) work (length schema) ≡ over (formulas_of (exchanged file k replacement) m n) work)
     last-verdict =
         let gives = verdict-passes (exchanged file k replacement) (n - 1) work schema m n (sliced-passes (admitted (exchanged file k replacement) (n - 1) (length work)) (length schema) schema_size last-admitted long.schema_slice) in
@@ -191,32 +188,32 @@ module _ (file : List ℕ) (k : ℕ) (replacement work result schema : List ℕ)
 
   -- the answer, and the work space, are those of Verdict on the file that Edit writes, at its last node; the refusals
   -- are Edit's
-  pub preview-verdict : preview_answer file k replacement (length work) ≡ after_edit (edit_answer file k replacement (length result)) Refused (λ size. without_witness (verdict_answer (edited size) (last_node (edited size)) (length work) (length schema)))
+  pub preview-verdict : preview_answer file k replacement (length work) ≡ after_edit (edit_answer file k replacement (length result)) Err (λ size. answer_without_witness (verdict_answer (edited size) (last_node (edited size)) (length work) (length schema)))
   preview-verdict = go (edit_tests file k replacement (length result)) refl
     where
       go :
-          (a : Acceptance)
+          (a : Result Header Refusal)
           → edit_tests file k replacement (length result) ≡ a
           → preview_answer file k replacement (length work)
-          ≡ after_edit (edit_answer file k replacement (length result)) Refused (λ size. without_witness (verdict_answer (edited size) (last_node (edited size)) (length work) (length schema)))
-      go (FileRefused r) is =
+          ≡ after_edit (edit_answer file k replacement (length result)) Err (λ size. answer_without_witness (verdict_answer (edited size) (last_node (edited size)) (length work) (length schema)))
+      go (Err r) is =
           rw (← (edit-stops file k replacement result r is).0) (sym (preview-stops file k replacement work r (same_tests ∙ is)).0)
-      go (Accepted m n) is =
+      go (Ok h) is =
           let said = (edit-passes file k replacement result is).0 in
           let part = edit-writes file k replacement result (length (exchanged file k replacement)) (sym said) in
-          rw (← said, part) (sym (preview-passes file k replacement work (same_tests ∙ is)).0 ∙ sym (ap without_witness (last-verdict is).0))
+          rw (← said, part) (sym (preview-passes file k replacement work (same_tests ∙ is)).0 ∙ sym (ap answer_without_witness (last-verdict is).0))
 
   pub preview-space : preview_space file k replacement work ≡ after_edit (edit_answer file k replacement (length result)) (λ r. work) (λ size. verdict_space (edited size) (last_node (edited size)) work (length schema))
   preview-space = go (edit_tests file k replacement (length result)) refl
     where
       go :
-          (a : Acceptance)
+          (a : Result Header Refusal)
           → edit_tests file k replacement (length result) ≡ a
           → preview_space file k replacement work
           ≡ after_edit (edit_answer file k replacement (length result)) (λ r. work) (λ size. verdict_space (edited size) (last_node (edited size)) work (length schema))
-      go (FileRefused r) is =
+      go (Err r) is =
           rw (← (edit-stops file k replacement result r is).0) (sym (preview-stops file k replacement work r (same_tests ∙ is)).1)
-      go (Accepted m n) is =
+      go (Ok h) is =
           let said = (edit-passes file k replacement result is).0 in
           let part = edit-writes file k replacement result (length (exchanged file k replacement)) (sym said) in
           rw (← said, part) (sym (preview-passes file k replacement work (same_tests ∙ is)).1 ∙ sym (last-verdict is).1)
@@ -226,29 +223,29 @@ module _ (file : List ℕ) (k : ℕ) (replacement work result schema : List ℕ)
   preview-formulas = go (edit_tests file k replacement (length result)) refl
     where
       go :
-          (a : Acceptance)
+          (a : Result Header Refusal)
           → edit_tests file k replacement (length result) ≡ a
           → preview_space file k replacement work ≡ after_edit (edit_answer file k replacement (length result)) (λ r. work) (λ size. formula_space (edited size) work)
-      go (FileRefused r) is =
+      go (Err r) is =
           rw (← (edit-stops file k replacement result r is).0) (sym (preview-stops file k replacement work r (same_tests ∙ is)).1)
-      go (Accepted m n) is =
+      go (Ok h) is =
           let said = (edit-passes file k replacement result is).0 in
           let part = edit-writes file k replacement result (length (exchanged file k replacement)) (sym said) in
-          rw (← said, part) (sym (preview-passes file k replacement work (same_tests ∙ is)).1 ∙ admitted-space (exchanged file k replacement) (n - 1) work m n (last-admitted is))
+          rw (← said, part) (sym (preview-passes file k replacement work (same_tests ∙ is)).1 ∙ admitted-space (exchanged file k replacement) (h.nodes - 1) work h.relations h.nodes (last-admitted is))
 
   -- Preview refuses exactly what Edit refuses, with the same number
-  pub preview-refuses : (r : Refusal) → (preview_answer file k replacement (length work) ≡ Refused r) ↔ (edit_answer file k replacement (length result) ≡ EditRefused r)
+  pub preview-refuses : (r : Refusal) → (preview_answer file k replacement (length work) ≡ Err r) ↔ (edit_answer file k replacement (length result) ≡ Err r)
   preview-refuses r = go (edit_tests file k replacement (length result)) refl
     where
-      go : (a : Acceptance) → edit_tests file k replacement (length result) ≡ a → (preview_answer file k replacement (length work) ≡ Refused r) ↔ (edit_answer file k replacement (length result) ≡ EditRefused r)
-      go (FileRefused q) is =
+      go : (a : Result Header Refusal) → edit_tests file k replacement (length result) ≡ a → (preview_answer file k replacement (length work) ≡ Err r) ↔ (edit_answer file k replacement (length result) ≡ Err r)
+      go (Err q) is =
           let previewed = (preview-stops file k replacement work q (same_tests ∙ is)).0 in
           let edited = (edit-stops file k replacement result q is).0 in (
-            (λ said. let same : q ≡ r = cc in sym edited ∙ ap EditRefused same),
-            (λ said. let same : q ≡ r = cc in sym previewed ∙ ap Refused same),
+            (λ said. let same : q ≡ r = cc in sym edited ∙ ap Err same),
+            (λ said. let same : q ≡ r = cc in sym previewed ∙ ap Err same),
           )
-      go (Accepted m n) is = (
-        (λ said. absurd (typability-given m (allowed_bit m (expression_at (exchanged file k replacement) (n - 1))) r ((preview-passes file k replacement work (same_tests ∙ is)).0 ∙ said))),
+      go (Ok h) is = (
+        (λ said. absurd (typability-given h.relations (allowed_bit h.relations (expression_at (exchanged file k replacement) (h.nodes - 1))) r ((preview-passes file k replacement work (same_tests ∙ is)).0 ∙ said))),
         (λ said. absurd (let both = (edit-passes file k replacement result is).0 ∙ said in let z : ◌≡◌ {A = ℕ} 0 1 = cc in omega arith)),
       )
 
@@ -260,19 +257,20 @@ module _ (file : List ℕ) (m n : ℕ) (accepted : acceptance file ≡ Accepted 
     edited : acceptance (exchanged file k replacement) ≡ Accepted m n
     last : n - 1 < n
     schema : List ℕ
-    answer : preview_answer file k replacement (length work) ≡ without_witness (verdict_answer (exchanged file k replacement) (n - 1) (length work) (length schema))
-    given : (r : Refusal) → verdict_answer (exchanged file k replacement) (n - 1) (length work) (length schema) ≡ RefusedBy r → ⊥
+    answer : preview_answer file k replacement (length work) ≡ answer_without_witness (verdict_answer (exchanged file k replacement) (n - 1) (length work) (length schema))
+    given : (r : Refusal) → verdict_answer (exchanged file k replacement) (n - 1) (length work) (length schema) ≡ Err r → ⊥
 
-  said : ((r : Refusal) → preview_answer file k replacement (length work) ≡ Refused r → ⊥) → Said
+  said : ((r : Refusal) → preview_answer file k replacement (length work) ≡ Err r → ⊥) → Said
   said other = go (preview_tests file k replacement (length work)) refl
     where
-      go : (a : Acceptance) → preview_tests file k replacement (length work) ≡ a → Said
-      go (FileRefused r) is = absurd (other r (sym (preview-stops file k replacement work r is).0))
-      go (Accepted m' n') is =
+      go : (a : Result Header Refusal) → preview_tests file k replacement (length work) ≡ a → Said
+      go (Err r) is = absurd (other r (sym (preview-stops file k replacement work r is).0))
+      go (Ok h) is =
           let passed = preview-passed file k replacement work is in
           let counts = sym passed.0.accepted ∙ accepted in
-          let relations : m' ≡ m = cc in
-          let nodes : n' ≡ n = cc in
+          let parts = accepted-parts counts in
+          let relations : h.relations ≡ m = parts.0 in
+          let nodes : h.nodes ≡ n = parts.1 in
           let here : preview_tests file k replacement (length work) ≡ Accepted m n = is ∙ ap₂ Accepted relations nodes in
           let own = preview-passed file k replacement work here in
           let admits = edited-admits work own.0 own.1 in
@@ -280,54 +278,54 @@ module _ (file : List ℕ) (m n : ℕ) (accepted : acceptance file ≡ Accepted 
           let size = length-replicate {A = ℕ} schema_size 0 in
           let slice = sliced-passes (admitted (exchanged file k replacement) (n - 1) (length work)) (length schema) schema_size (admitted-passes (exchanged file k replacement) (n - 1) (length work) admits) (omega arith) in
           let outcome = (verdict-passes (exchanged file k replacement) (n - 1) work schema m n slice).0 in
-          let answer = sym (preview-passes file k replacement work here).0 ∙ ap without_witness outcome in
+          let answer = sym (preview-passes file k replacement work here).0 ∙ ap answer_without_witness outcome in
           record {
             edited = admits.accepted;
             last = admits.node;
             schema = schema;
             answer = answer;
-            given = λ r refused. other r (answer ∙ ap without_witness refused);
+            given = λ r refused. other r (answer ∙ ap answer_without_witness refused);
           }
 
   -- untypable is said exactly where no filled assignment types the edited file's last node
   pub preview-untypable :
-      ((r : Refusal) → preview_answer file k replacement (length work) ≡ Refused r → ⊥)
-      → ((a : ℕ) × (preview_answer file k replacement (length work) ≡ Untypable a)) ↔ (FilledTyping m (expression_at (exchanged file k replacement) (n - 1)) → ⊥)
+      ((r : Refusal) → preview_answer file k replacement (length work) ≡ Err r → ⊥)
+      → ((a : ℕ) × (preview_answer file k replacement (length work) ≡ Ok (Untypable a))) ↔ (FilledTyping m (expression_at (exchanged file k replacement) (n - 1)) → ⊥)
   preview-untypable other = let s = said other in go s (verdict-untypable (exchanged file k replacement) m n s.edited (n - 1) s.last work s.schema s.given)
     where
-      untypable-by : (o : Outcome) (a : ℕ) → without_witness o ≡ Untypable a → o ≡ UntypableBy a
-      untypable-by (TypableBy size count) a e = absurd (let z : ◌≡◌ {A = ℕ} 0 1 = cc in omega arith)
-      untypable-by (UntypableBy b) a e = let same : b ≡ a = cc in ap UntypableBy same
-      untypable-by (RefusedBy r) a e = absurd (let z : ◌≡◌ {A = ℕ} 0 1 = cc in omega arith)
+      untypable-by : (o : Result Outcome Refusal) (a : ℕ) → answer_without_witness o ≡ Ok (Untypable a) → o ≡ Ok (UntypableBy a)
+      untypable-by (Ok (TypableBy size count)) a e = absurd (let z : ◌≡◌ {A = ℕ} 0 1 = cc in omega arith)
+      untypable-by (Ok (UntypableBy b)) a e = let same : b ≡ a = cc in ap (λ (x : ℕ). Ok (UntypableBy x)) same
+      untypable-by (Err r) a e = absurd (let z : ◌≡◌ {A = ℕ} 0 1 = cc in omega arith)
 
       go :
           (s : Said)
-          → (((a : ℕ) × (verdict_answer (exchanged file k replacement) (n - 1) (length work) (length s.schema) ≡ UntypableBy a)) ↔ (FilledTyping m (expression_at (exchanged file k replacement) (n - 1)) → ⊥))
-          → ((a : ℕ) × (preview_answer file k replacement (length work) ≡ Untypable a)) ↔ (FilledTyping m (expression_at (exchanged file k replacement) (n - 1)) → ⊥)
+          → (((a : ℕ) × (verdict_answer (exchanged file k replacement) (n - 1) (length work) (length s.schema) ≡ Ok (UntypableBy a))) ↔ (FilledTyping m (expression_at (exchanged file k replacement) (n - 1)) → ⊥))
+          → ((a : ℕ) × (preview_answer file k replacement (length work) ≡ Ok (Untypable a))) ↔ (FilledTyping m (expression_at (exchanged file k replacement) (n - 1)) → ⊥)
       go s right = (
         (λ u. right.0 (u.0, untypable-by _ u.0 (sym s.answer ∙ u.1))),
-        (λ none. let u = right.1 none in (u.0, s.answer ∙ ap without_witness u.1)),
+        (λ none. let u = right.1 none in (u.0, s.answer ∙ ap answer_without_witness u.1)),
       )
 
   -- ---- typable: the number of memberships
 
-  module _ (count : ℕ) (typable : preview_answer file k replacement (length work) ≡ Typable count) where
-    not-refused : (r : Refusal) → preview_answer file k replacement (length work) ≡ Refused r → ⊥
+  module _ (count : ℕ) (typable : preview_answer file k replacement (length work) ≡ Ok (Typable count)) where
+    not-refused : (r : Refusal) → preview_answer file k replacement (length work) ≡ Err r → ⊥
     not-refused r refused = let both = sym typable ∙ refused in let z : ◌≡◌ {A = ℕ} 0 1 = cc in omega arith
 
     -- Verdict gives a witness, and the same number
     record Witnessed : Type 0 where
       own : Said
       size : ℕ
-      answered : verdict_answer (exchanged file k replacement) (n - 1) (length work) (length own.schema) ≡ TypableBy size count
+      answered : verdict_answer (exchanged file k replacement) (n - 1) (length work) (length own.schema) ≡ Ok (TypableBy size count)
 
     witnessed : Witnessed
     witnessed = go (said not-refused)
       where
-        typable-by : (o : Outcome) → without_witness o ≡ Typable count → (size : ℕ) × (o ≡ TypableBy size count)
-        typable-by (TypableBy size c) e = let same : c ≡ count = cc in (size, ap (TypableBy size) same)
-        typable-by (UntypableBy a) e = absurd (let z : ◌≡◌ {A = ℕ} 0 1 = cc in omega arith)
-        typable-by (RefusedBy r) e = absurd (let z : ◌≡◌ {A = ℕ} 0 1 = cc in omega arith)
+        typable-by : (o : Result Outcome Refusal) → answer_without_witness o ≡ Ok (Typable count) → (size : ℕ) × (o ≡ Ok (TypableBy size count))
+        typable-by (Ok (TypableBy size c)) e = let same : c ≡ count = cc in (size, ap (λ (x : ℕ). Ok (TypableBy size x)) same)
+        typable-by (Ok (UntypableBy a)) e = absurd (let z : ◌≡◌ {A = ℕ} 0 1 = cc in omega arith)
+        typable-by (Err r) e = absurd (let z : ◌≡◌ {A = ℕ} 0 1 = cc in omega arith)
 
         go : Said → Witnessed
         go s = let by = typable-by _ (sym s.answer ∙ typable) in record { own = s; size = by.0; answered = by.1 }

@@ -11,16 +11,13 @@
 --   formula_space     what Formula leaves, by its contract                   (crate stored_formula, Formula)
 --   FilledTyping     a filled assignment, and a type that the rules derive under it   (crate principal, Principal)
 --   expression_at     the expression of a node                               (crate node_expression, NodeExpression)
-use Rattle.std.specs.Prelude.{ℕ, ◌-◌, ◌*◌, ◌≤◌, ◌≡◌, List, length, get_or, take}
+use Rattle.std.specs.Prelude.{ℕ, ◌-◌, ◌*◌, ◌≤◌, ◌≡◌, List, length, get_or, take, Result, Ok, Err}
 use Rattle.refusal.specs.declared.Refusal.{Refusal}
-use Rattle.expression_file.specs.declared.files.Acceptance.TheVariants.{Accepted}
-use Rattle.expression_file.specs.ReadFile.{acceptance}
+use Rattle.expression_file.specs.ReadFile.{acceptance, Accepted}
 use Rattle.expression_file.specs.Walk.{longest_file}
 use Rattle.admission.specs.Admission.{formula_size}
 use Rattle.schema.specs.Schema.{schema_size}
 use Rattle.edit_answer.specs.Edit.{edit_result}
-use Rattle.edit_answer.specs.declared.Editing.{Editing}
-use Rattle.edit_answer.specs.declared.Editing.TheVariants.{Written, Refused as EditRefused}
 
 -- ---- Edit
 
@@ -35,9 +32,9 @@ abbrev pub last_node : List ℕ → ℕ
 last_node file = get_or file 1 0 - 1
 
 -- what comes after Edit: the refusal, or what comes with the file that it wrote
-abbrev pub after_edit : {A : Type 0} → Editing → (Refusal → A) → (ℕ → A) → A
-after_edit (EditRefused r) stop go = stop r
-after_edit (Written size) stop go = go size
+abbrev pub after_edit : {A : Type 0} → Result ℕ Refusal → (Refusal → A) → (ℕ → A) → A
+after_edit (Err r) stop go = stop r
+after_edit (Ok size) stop go = go size
 
 -- no lent slice is too short: the work space (12), Edit's result slice (27), Verdict's schema slice (13)
 pub record LongEnough (file work result schema : List ℕ) : Type 0 where

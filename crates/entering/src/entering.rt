@@ -16,16 +16,12 @@ fn mark(list: &[u8], count: usize, subset: u8, items: &mut [u32], old: usize) ->
     ensures unchanged { entries subset (tab count (λ x. word list.now (x * 2 + 1))) (take old items.new) ≡ entries subset (tab count (λ x. word list.now (x * 2 + 1))) (take old items.old) }
     ensures table_in { result ≡ true → TableIn (entries subset (tab count (λ x. word list.now (x * 2 + 1))) (take old items.old)) items.new old }
 {
-    let mut i = 0;
     let mut j = 0;
-    while i < count {
+    for i in 0..count {
         let a = bits::word_at(list, i * 2 + 1) as u32;
-        let marked = mark_one(items, j, old, a, subset);
-        let place = marked.place;
-        if !marked.found {
+        let Ok(place) = mark_one(items, j, old, a, subset) else {
             return false;
-        }
-        i += 1;
+        };
         j = place + 1;
     }
     true
@@ -36,14 +32,12 @@ fn copy_entries(source: &[u32], count: usize, items: &mut [u32]) -> usize
     requires { (count ≤ length source.now) × CopyFits count 0 items.old }
     ensures { TableIn (take count source.now) items.new result }
 {
-    if count < 256 {
-        return copy_run(source, 0, count, items, 0);
-    }
-    copy_run(source, 0, 256, items, 0)
+    copy_run(source, 0, count.min(256), items, 0)
 }
 
 // Enters the attributes of the list for the relations in the subset, and gives the number of the entries. Where one of
-// them has no entry, all are merged in the second slice, which is free afterwards, and copied back.
+// them has no entry, all are merged in the second slice, which is free afterwards, and copied back. The table is a slice
+// with its number of entries beside it, as it grows into the room after them.
 pub fn enter(
     list: &[u8],
     count: usize,

@@ -6,14 +6,13 @@ ghost use Rattle.membership.specs.Entries.{entry, ListFits, enter as entries};
 ghost use Rattle.entry_runs.specs.Runs.{Copying};
 ghost use Rattle.entering.specs.Merging.{Enters, Merge, Merged};
 
-use entry_runs::{copy_run, enter_one};
+use entry_runs::{Reached, copy_run, enter_one};
 
-// How far a merge has come: listed attributes and earlier entries that are used up, and entries that are written.
+// How far a merge has come: listed attributes that are used up, and earlier entries and entries that are written.
 #[derive(Clone, Copy)]
 pub struct Merging {
     pub listed: usize,
-    pub copied: usize,
-    pub entered: usize,
+    pub reached: Reached,
 }
 
 // Merges while there are both listed attributes and earlier entries.
@@ -27,28 +26,36 @@ fn merge(
 ) -> Merging
     requires enters { Enters list.now count earlier.now old }
     requires in_bounds { count + old ≤ length items.old }
-    ensures merge { Merge subset (tab count (λ x. word list.now (x * 2 + 1))) (take old earlier.now) items.old items.new result.listed result.copied result.entered }
-    ensures fact { (count ≤ result.listed) ⊎ (old ≤ result.copied) }
+    ensures merge { Merge subset (tab count (λ x. word list.now (x * 2 + 1))) (take old earlier.now) items.old items.new result.listed result.reached.copied result.reached.entered }
+    ensures fact { (count ≤ result.listed) ⊎ (old ≤ result.reached.copied) }
 {
-    let mut i = 0;
-    let mut j = 0;
-    let mut k = 0;
-    while i < count && j < old {
+    let mut reached = Reached {
+        copied: 0,
+        entered: 0,
+    };
+    for i in 0..count {
+        if old <= reached.copied {
+            return Merging { listed: i, reached };
+        }
         let a = bits::word_at(list, i * 2 + 1) as u32;
-        let reached = enter_one(a, subset, earlier, j, old, items, k);
-        j = reached.copied;
-        k = reached.entered;
-        i += 1;
+        reached = enter_one(
+            a,
+            subset,
+            earlier,
+            reached.copied,
+            old,
+            items,
+            reached.entered,
+        );
     }
     Merging {
-        listed: i,
-        copied: j,
-        entered: k,
+        listed: count,
+        reached,
     }
 }
 
 // Writes new entries for the listed attributes from number `from` on to the places from `at` on, and gives the place
-// after them.
+// after them. The place k runs beside i, from another start: it is no other way of counting i.
 fn append_listed(
     list: &[u8],
     from: usize,
@@ -61,11 +68,9 @@ fn append_listed(
     requires count_bound { (count ≤ 255) × (at + (count - from) ≤ length items.old) }
     ensures { Copying (tab count (λ x. entry (word list.now (x * 2 + 1)) subset)) from at items.old items.new count result }
 {
-    let mut i = from;
     let mut k = at;
-    while i < count {
+    for i in from..count {
         items[k] = bits::word_at(list, i * 2 + 1) as u32 * 256 + subset as u32;
-        i += 1;
         k += 1;
     }
     k
@@ -85,6 +90,7 @@ pub fn merge_into(
     ensures { Merged (entries subset (tab count (λ x. word list.now (x * 2 + 1))) (take old earlier.now)) items.new result }
 {
     let merged = merge(list, count, subset, earlier, old, items);
-    let end = append_listed(list, merged.listed, count, subset, items, merged.entered);
-    copy_run(earlier, merged.copied, old, items, end)
+    let reached = merged.reached;
+    let end = append_listed(list, merged.listed, count, subset, items, reached.entered);
+    copy_run(earlier, reached.copied, old, items, end)
 }

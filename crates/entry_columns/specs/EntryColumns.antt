@@ -1,7 +1,7 @@
 -- Columns: the subsets of eight entries as eight bytes of a number, one for each relation, and a
 -- relation's word from these bytes.
 use Rattle.std.specs.Prelude.{ℕ, ◌+◌, ◌-◌, ◌*◌, ◌/◌, ◌%◌, ◌^◌, ◌≤◌, ◌<◌, min, ◌≡◌, refl, Bool, true, false, cond, not, ◌&&◌, ◌||◌, List, ◌⊎◌, ltb, eqb, length, get_or, set, take}
-use Rattle.std.proofs.Common.{sym, ap, ap₂, ◌∙◌, true≢false, inl, inr, eq-or-lt_of_le, mod-lt, arith, ltb-true, ltb-false, eqb-true, lt-ltb, le-ltb, lit<, length-set, pow_mono, get_or-take, get_or-set_same, get_or-set_other, length-take-le}
+use Rattle.std.proofs.Common.{sym, ap, ap₂, ◌∙◌, true≢false, inl, inr, eq-or-lt_of_le, mod-lt, arith, ltb-true, ltb-false, eqb-true, lt-ltb, le-ltb, lit<, length-set, pow_mono, get_or-take, get_or-set_same, get_or-set_other, length-take-le, take-take}
 use Rattle.std.proofs.Math.Bool.{or-false}
 use Rattle.std.proofs.Math.Decide.{dec_lt}
 use Rattle.std.proofs.Math.Nat.{mul-mod_left}
@@ -148,6 +148,10 @@ module _ (list : List ℕ) (s from n : ℕ) (fits : from + n ≤ length list) wh
           let small : b < 256 = rw is (mod-lt (get_or list (from + (at - 1)) 0 / 2 ^ s) (lit< tt)) in
           let power = pow_mono {i = 8} {j = k} (omega arith) in
           rw (le-ltb k 8 (omega arith), bit-above b k (omega arith)) (or-false (bit x (k - 8)) ∙ so.bits (k - 8) (omega arith) ∙ ap (stacked list s from n) place)
+
+-- what stands after the last element that is read changes nothing
+pub stacking-whole : (list : List ℕ) (made s from n x : ℕ) → from + n ≤ made → Stacking (take made list) s from n 0 x → Stacking list s from n 0 x
+stacking-whole list made s from n x fits so = record { bits = λ k h. rw (← take-take (from + n) made list fits) (so.bits k h) }
 
 -- ---- groups of eight entries
 

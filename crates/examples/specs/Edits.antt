@@ -1,6 +1,6 @@
 -- Edits (FORMAT 10.16): each of a table gives the edited file and the verdict of its last node, or the refusal of its
 -- record: one computed test, and one theorem over Edit and Preview.
-use Rattle.std.specs.Prelude.{ℕ, zero, suc, ◌-◌, ◌*◌, ◌≤◌, ◌<◌, ◌≡◌, refl, Bool, true, false, ◌&&◌, T, eqb, ltb, length, get_or}
+use Rattle.std.specs.Prelude.{ℕ, zero, suc, ◌-◌, ◌*◌, ◌≤◌, ◌<◌, ◌≡◌, refl, Bool, true, false, ◌&&◌, T, eqb, ltb, length, get_or, Result, Ok, Err}
 use Rattle.std.proofs.Math.Path.{sym, ap}
 use Rattle.std.proofs.Common.{◌∙◌, arith, eqb→eq, ltb→lt}
 use mathlib.Core.List.{List, [], ◌∷◌}
@@ -17,11 +17,8 @@ use Rattle.refusal.specs.Number.{number_of, number-once}
 use Rattle.refusal.specs.declared.Refusal.{Refusal}
 use Rattle.refusal.specs.declared.Refusal.TheVariants.{NodeTruncated, NodeMap, OperatorCode, RelationNumber, Operand, Attribute, NodesFollowed}
 use Rattle.node.specs.Operators.{binary_of, set_op_of}
-use Rattle.node.specs.declared.checking.Check.{Check}
-use Rattle.node.specs.declared.checking.Check.TheVariants.{Legal, Refused as CheckRefused}
 use Rattle.node.specs.ReadNode.{size_of, check_fields, check_node, node_of, read_node}
-use Rattle.expression_file.specs.declared.files.Acceptance.TheVariants.{Accepted}
-use Rattle.expression_file.specs.ReadFile.{acceptance, parse, header, read_nodes, placed_at, placed_nodes, start_at}
+use Rattle.expression_file.specs.ReadFile.{acceptance, parse, header, read_nodes, placed_at, placed_nodes, start_at, Accepted}
 use Rattle.expression_file.specs.Walk.{longest_file}
 use Rattle.expression_file.specs.Exchanged.{exchanged}
 use Rattle.admission.specs.Admission.{asked, admitted, formula_size}
@@ -35,9 +32,7 @@ use Rattle.verdict_answer.specs.First.{lowest_with, fewest_in, blocked_by}
 use Rattle.verdict_answer.specs.Verdict.{untypable_in, outcome_in}
 use Rattle.verdict_answer.specs.Typability.{without_witness}
 use Rattle.verdict_answer.specs.declared.Typability.{Typability}
-use Rattle.verdict_answer.specs.declared.Typability.TheVariants.{Typable, Untypable, Refused as PreviewRefused}
-use Rattle.edit_answer.specs.declared.Editing.{Editing}
-use Rattle.edit_answer.specs.declared.Editing.TheVariants.{Written, Refused as EditRefused}
+use Rattle.verdict_answer.specs.declared.Typability.TheVariants.{Typable, Untypable}
 use Rattle.edit_answer.specs.Edit.{check_record, edit_sliced, edit_answer, edit_result}
 use Rattle.edit_answer.specs.EditLaws.{slice_passes, record-refuses, record-accepted, edit-passes}
 use Rattle.preview_answer.specs.Preview.{preview_answer, preview_space}
@@ -82,17 +77,17 @@ edits =
 
 -- ---- what holds of one
 
-abbrev pub edit_said : EditOutcome → Editing
-edit_said (edited_to edited t) = Written (length edited)
-edit_said (record_refused r) = EditRefused r
+abbrev pub edit_said : EditOutcome → Result ℕ Refusal
+edit_said (edited_to edited t) = Ok (length edited)
+edit_said (record_refused r) = Err r
 
 abbrev pub edit_wrote : EditOutcome → List ℕ → List ℕ
 edit_wrote (edited_to edited t) result = over edited result
 edit_wrote (record_refused r) result = result
 
-abbrev pub preview_said : EditOutcome → Typability
-preview_said (edited_to edited t) = t
-preview_said (record_refused r) = PreviewRefused r
+abbrev pub preview_said : EditOutcome → Result Typability Refusal
+preview_said (edited_to edited t) = Ok t
+preview_said (record_refused r) = Err r
 
 abbrev pub preview_filled : EditOutcome → ℕ → ℕ → List ℕ → List ℕ
 preview_filled (edited_to edited t) m n work = over (formulas_of edited m n) work
@@ -111,20 +106,17 @@ same_verdict : Typability → Typability → Bool
 same_verdict (Typable c) (Typable d) = eqb c d
 same_verdict (Untypable a) (Untypable b) = eqb a b
 same_verdict (Typable c) (Untypable b) = false
-same_verdict (Typable c) (PreviewRefused r) = false
 same_verdict (Untypable a) (Typable d) = false
-same_verdict (Untypable a) (PreviewRefused r) = false
-same_verdict (PreviewRefused r) t = false
 
 -- the verdict of the last node of a case's edited file
 abbrev last_verdict : EditCase → Typability
 last_verdict x = without_witness (outcome_in x.of.relations (allowed_bit x.of.relations (expression_at (exchanged x.of.file x.node x.replacement) (x.of.nodes - 1))))
 
-record_passes : EditCase → Check → EditOutcome → Bool
-record_passes x (Legal size) (edited_to edited t) = same (exchanged x.of.file x.node x.replacement) edited && same_verdict (last_verdict x) t
-record_passes x (Legal size) (record_refused r) = false
-record_passes x (CheckRefused q) (edited_to edited t) = false
-record_passes x (CheckRefused q) (record_refused r) = eqb (number_of q) (number_of r)
+record_passes : EditCase → Result ℕ Refusal → EditOutcome → Bool
+record_passes x (Ok size) (edited_to edited t) = same (exchanged x.of.file x.node x.replacement) edited && same_verdict (last_verdict x) t
+record_passes x (Ok size) (record_refused r) = false
+record_passes x (Err q) (edited_to edited t) = false
+record_passes x (Err q) (record_refused r) = eqb (number_of q) (number_of r)
 
 passes : EditCase → Bool
 passes x =
@@ -143,10 +135,7 @@ unfolding same_verdict
 verdict-is (Typable c) (Typable d) t = ap Typable (eqb→eq c d t)
 verdict-is (Untypable a) (Untypable b) t = ap Untypable (eqb→eq a b t)
 verdict-is (Typable c) (Untypable b) t = absurd t
-verdict-is (Typable c) (PreviewRefused r) t = absurd t
 verdict-is (Untypable a) (Typable d) t = absurd t
-verdict-is (Untypable a) (PreviewRefused r) t = absurd t
-verdict-is (PreviewRefused r) u t = absurd t
 
 module _
     (x : EditCase) (result work : List ℕ) (room : longest_file ≤ length result)
@@ -163,36 +152,36 @@ module _
     by-record :
         (y : EditOutcome)
         → x.result ≡ y
-        → (c : Check)
+        → (c : Result ℕ Refusal)
         → check_record x.of.relations x.node x.replacement ≡ c
         → T (record_passes x c y)
         → EditHolds x result work
     unfolding record_passes
-    by-record (edited_to edited t) is (Legal size) check pass =
+    by-record (edited_to edited t) is (Ok size) check pass =
         let whole = exchanged x.of.file x.node x.replacement in
         let file-is = same-is whole edited (left (same whole edited) (same_verdict (last_verdict x) t) pass) in
         let verdict = verdict-is (last_verdict x) t (right (same whole edited) (same_verdict (last_verdict x) t) pass) in
         let edits = edit-passes x.of.file x.node x.replacement result (record-accepted x.of.file x.node x.replacement result sliced check) in
         let previews = preview-passes x.of.file x.node x.replacement work (preview-accepted x.of.file x.node x.replacement work admits check) in
         record {
-          answer = sym edits.0 ∙ ap (λ (l : List ℕ). Written (length l)) file-is ∙ ap edit_said (sym is);
+          answer = sym edits.0 ∙ ap (λ (l : List ℕ). Ok (length l)) file-is ∙ ap edit_said (sym is);
           slice = sym edits.1 ∙ ap (λ (l : List ℕ). over l result) file-is ∙ ap (λ (y : EditOutcome). edit_wrote y result) (sym is);
-          previewed = sym previews.0 ∙ verdict ∙ ap preview_said (sym is);
+          previewed = sym previews.0 ∙ ap Ok verdict ∙ ap preview_said (sym is);
           space =
               sym previews.1
               ∙ ap (λ (l : List ℕ). over (formulas_of l x.of.relations x.of.nodes) work) file-is
               ∙ ap (λ (y : EditOutcome). preview_filled y x.of.relations x.of.nodes work) (sym is);
         }
-    by-record (edited_to edited t) is (CheckRefused q) check pass = absurd pass
-    by-record (record_refused r) is (Legal size) check pass = absurd pass
-    by-record (record_refused r) is (CheckRefused q) check pass =
+    by-record (edited_to edited t) is (Err q) check pass = absurd pass
+    by-record (record_refused r) is (Ok size) check pass = absurd pass
+    by-record (record_refused r) is (Err q) check pass =
         let named = number-once q r (eqb→eq (number_of q) (number_of r) pass) in
         let edits = record-refuses x.of.file x.node x.replacement result sliced q check in
         let previews = preview-refuses x.of.file x.node x.replacement work admits q check in
         record {
-          answer = sym edits.0 ∙ ap EditRefused named ∙ ap edit_said (sym is);
+          answer = sym edits.0 ∙ ap Err named ∙ ap edit_said (sym is);
           slice = sym edits.1 ∙ ap (λ (y : EditOutcome). edit_wrote y result) (sym is);
-          previewed = sym previews.0 ∙ ap PreviewRefused named ∙ ap preview_said (sym is);
+          previewed = sym previews.0 ∙ ap Err named ∙ ap preview_said (sym is);
           space = sym previews.1 ∙ ap (λ (y : EditOutcome). preview_filled y x.of.relations x.of.nodes work) (sym is);
         }
 

@@ -1,5 +1,5 @@
 -- Each case of the table holds: one computed test, and one theorem that turns it into the facts of a case.
-use Rattle.std.specs.Prelude.{ℕ, zero, suc, ◌+◌, ◌-◌, ◌*◌, ◌^◌, ◌≤◌, ◌<◌, ◌≡◌, refl, Bool, true, false, cond, ◌&&◌, List, [], ◌∷◌, T, eqb, ltb, length, get_or}
+use Rattle.std.specs.Prelude.{ℕ, zero, suc, ◌+◌, ◌-◌, ◌*◌, ◌^◌, ◌≤◌, ◌<◌, ◌≡◌, refl, Bool, true, false, cond, ◌&&◌, List, [], ◌∷◌, T, eqb, ltb, length, get_or, Result, Err, Option, Ok}
 use Rattle.std.proofs.Common.{sym, ap, ap₂, ◌∙◌, le_refl, arith, eqb→eq, ltb→lt}
 use Rattle.bits.specs.Bit.{bit}
 use Rattle.bits.specs.Lowest.{lowest_from}
@@ -16,11 +16,9 @@ use Rattle.refusal.specs.declared.Refusal.{Refusal}
 use Rattle.refusal.specs.declared.Refusal.TheVariants.{EmptyImage}
 use Rattle.node.specs.Operators.{binary_of, set_op_of}
 use Rattle.node.specs.ReadNode.{size_of, check_fields, check_node, node_of, read_node}
-use Rattle.expression_file.specs.ReadFile.{acceptance, parse, header, read_nodes, placed_at, placed_nodes as node_entries}
+use Rattle.expression_file.specs.ReadFile.{acceptance, parse, header, read_nodes, placed_at, placed_nodes as node_entries, Accepted}
 use Rattle.admission.specs.Admission.{asked, sliced, admitted, formula_size}
 use Rattle.admission.specs.AdmissionLaws.{sliced-passes, asked-passes, admitted-passes}
-use Rattle.expression_file.specs.declared.files.Acceptance.{Acceptance}
-use Rattle.expression_file.specs.declared.files.Acceptance.TheVariants.{Accepted, Refused}
 use Rattle.algebra.specs.Expression.{Expression}
 use Rattle.bits.specs.Truth.{is_true, left, right}
 use Rattle.node_expression.specs.NodeExpression.{expression_at, earlier}
@@ -39,20 +37,14 @@ use Rattle.type_record.specs.RecordBytes.{record-length}
 use Rattle.membership.specs.Entries.{enter}
 use Rattle.special_maps.specs.Special.{map_of, maps_from}
 use Rattle.schema.specs.Schema.{read_records, schema_bytes, entries_of, maps_of, records_of, refused_schema, schema_reading, schema_size}
-use Rattle.schema.specs.declared.reading.Judgement.{Judgement}
-use Rattle.schema.specs.declared.reading.Judgement.TheVariants.{Read, Refused as SchemaRefused}
 use Rattle.filled_schema.specs.FilledSchema.{table_filled, filled_reading}
 use Rattle.table_types.specs.Output.{typed_in, output_map, output_list}
-use Rattle.typing_answer.specs.Typing.{typed_answer, table_answer, typed_out, table_out, typing_answer, typing_out}
+use Rattle.typing_answer.specs.Typing.{typed_answer, table_answer, typed_out, table_out, typing_answer, typing_out, Typed, Untyped}
 use Rattle.typing_answer.proofs.TypingLaws.{schema-stops, schema-goes, typing-goes}
-use Rattle.typing_answer.specs.declared.Answer.{Answer}
-use Rattle.typing_answer.specs.declared.Answer.TheVariants.{Typed, Untyped, Refused as TypingRefused}
 use Rattle.instantiation.specs.Instantiation.{read_lists, entries_in, subsets_of, refused_instantiation, instantiation_reading}
 use Rattle.fitting.specs.Fit.{entries_fit, specials_fit}
-use Rattle.apply_answer.specs.Apply.{table_applied, table_image, table_output, image_bytes, output_bytes, apply_answer, apply_space, apply_schema, apply_out}
+use Rattle.apply_answer.specs.Apply.{table_applied, table_image, table_output, image_bytes, output_bytes, apply_answer, apply_space, apply_schema, apply_out, Applied}
 use Rattle.apply_answer.specs.ApplyLaws.{table_fits, image-refused, read_goes, apply-goes}
-use Rattle.apply_answer.specs.declared.Application.{Application as ApplyAnswer}
-use Rattle.apply_answer.specs.declared.Application.TheVariants.{Applied, Refused as ApplyRefused}
 use Rattle.attribute_set.specs.AttrSet.{with_attribute}
 use Rattle.attribute_set.specs.Listed.{with_attributes}
 use Rattle.expression_file.specs.Walk.{longest_file}
@@ -60,12 +52,14 @@ use Rattle.expression_file.specs.WrittenFile.{nodes_bytes, file_of}
 use Rattle.query_language.specs.Parsed.{and_then, provided}
 use Rattle.query_language.specs.Parse.{is_digit, number_of as number_value, number_at, ended_number, items_with, items_within, items_at, list_at, set_at, renaming_at, projecting_out_at, prefix_at}
 use Rattle.query_language.specs.Parse.{sign_of, sign_at, relation_at, pair_with, prefixed_with, operand_with, operand_within, operand_at, parse_query}
-use Rattle.query_answer.specs.declared.Parsing.TheVariants.{Written as FileWritten}
 use Rattle.query_answer.specs.QueryNodes.{nodes_from, query_file}
 use Rattle.query_answer.specs.Faults.{attribute_faults, faults_of}
 use Rattle.query_answer.specs.ParseQuery.{Judgement as QueryJudgement, refused as query_refused, accepted as query_accepted, judged, judgement, parse_answer, parse_file}
 use Rattle.query_answer.specs.ParseLaws.{answer-accepted, judge-any}
 use Rattle.examples.specs.Cases.{Column, TypingResult, typed_as, untyped, refused_with, Typing, ApplyResult, applied_as, left_empty, Application, Case, table}
+use Rattle.expression_file.specs.declared.files.Header.{Header}
+use Rattle.schema.specs.Judgement.{Judgement, Read, Refused as SchemaRefused}
+use Rattle.apply_answer.specs.declared.Application.{Application as Lengths}
 
 -- ---- what is compared
 
@@ -94,14 +88,14 @@ AllHold m e (c ∷ cs) = ColumnHolds m e c × AllHold m e cs
 -- what Verdict does on the last node, in slices that are long enough: the answer, with the length of the witness and
 -- its memberships or with the attribute, and the schema slice with the witness or as it was
 pub record VerdictHolds (x : Case) (work schema : List ℕ) : Type 0 where
-  pub answer : verdict_answer x.file (x.nodes - 1) (length work) (length schema) ≡ outcome (ltb x.untypable 16) x.untypable x.witness x.memberships
+  pub answer : verdict_answer x.file (x.nodes - 1) (length work) (length schema) ≡ Ok (outcome (ltb x.untypable 16) x.untypable x.witness x.memberships)
   pub slice : verdict_schema x.file (x.nodes - 1) (length work) schema ≡ cond (ltb x.untypable 16) schema (over x.witness schema)
 
 -- Typing's answer, and its slice with the output record or as it was
-abbrev pub typing_said : TypingResult → Answer
+abbrev pub typing_said : TypingResult → Result (Option ℕ) Refusal
 typing_said (typed_as output) = Typed (length output)
 typing_said untyped = Untyped
-typing_said (refused_with r) = TypingRefused r
+typing_said (refused_with r) = Err r
 
 abbrev pub typing_wrote : TypingResult → List ℕ → List ℕ
 typing_wrote (typed_as output) out = over output out
@@ -119,9 +113,9 @@ TypingsHold x [] out = Unit
 TypingsHold x (y ∷ ys) out = TypingHolds x y out × TypingsHold x ys out
 
 -- Apply's answer, and its two slices
-abbrev pub apply_said : ApplyResult → ApplyAnswer
+abbrev pub apply_said : ApplyResult → Result Lengths Refusal
 apply_said (applied_as schema output) = Applied (length schema) (length output)
-apply_said left_empty = ApplyRefused EmptyImage
+apply_said left_empty = Err EmptyImage
 
 abbrev pub image_written : ApplyResult → List ℕ → List ℕ
 image_written (applied_as schema output) slice = over schema slice
@@ -146,7 +140,7 @@ AppliesHold x (y ∷ ys) work schema out = ApplyHolds x y work schema out × App
 -- what parsing does with a text over the relations of the case, in a slice that is long enough: the answer, and the
 -- slice with the case's file
 pub record TextHolds (x : Case) (text : List ℕ) (slice : List ℕ) : Type 0 where
-  pub answer : parse_answer x.relations text (length slice) ≡ FileWritten (length x.file)
+  pub answer : parse_answer x.relations text (length slice) ≡ Ok (length x.file)
   pub file : parse_file x.relations text slice ≡ over x.file slice
 
 -- each of the texts is parsed to the file
@@ -178,9 +172,9 @@ same (x ∷ xs) [] = false
 same (x ∷ xs) (y ∷ ys) = eqb x y && same xs ys
 
 -- the file is accepted with these counts
-unfoldable pub accepts : Acceptance → ℕ → ℕ → Bool
-accepts (Accepted m n) m' n' = eqb m m' && eqb n n'
-accepts (Refused r) m' n' = false
+unfoldable pub accepts : Result Header Refusal → ℕ → ℕ → Bool
+accepts (Ok h) m' n' = eqb h.relations m' && eqb h.nodes n'
+accepts (Err r) m' n' = false
 
 -- a query is parsed to this file
 judged_passes : ℕ → List ℕ → QueryJudgement → Bool
@@ -287,10 +281,10 @@ same-is [] (y ∷ ys) t = absurd t
 same-is (x ∷ xs) [] t = absurd t
 same-is (x ∷ xs) (y ∷ ys) t = ap₂ ◌∷◌ (eqb→eq x y (left (eqb x y) (same xs ys) t)) (same-is xs ys (right (eqb x y) (same xs ys) t))
 
-pub accepts-is : (a : Acceptance) (m n : ℕ) → T (accepts a m n) → a ≡ Accepted m n
+pub accepts-is : (a : Result Header Refusal) (m n : ℕ) → T (accepts a m n) → a ≡ Accepted m n
 unfolding accepts
-accepts-is (Accepted m' n') m n t = ap₂ Accepted (eqb→eq m' m (left (eqb m' m) (eqb n' n) t)) (eqb→eq n' n (right (eqb m' m) (eqb n' n) t))
-accepts-is (Refused r) m n t = absurd t
+accepts-is (Ok h) m n t = ap₂ Accepted (eqb→eq h.relations m (left (eqb h.relations m) (eqb h.nodes n) t)) (eqb→eq h.nodes n (right (eqb h.relations m) (eqb h.nodes n) t))
+accepts-is (Err r) m n t = absurd t
 
 text-holds : (x : Case) (text slice : List ℕ) → longest_file ≤ length slice → (j : QueryJudgement) → judgement x.relations text longest_file ≡ j → T (judged_passes x.relations x.file j) → TextHolds x text slice
 unfolding judged_passes
@@ -298,7 +292,7 @@ text-holds x text slice room (query_refused r) e t = absurd t
 text-holds x text slice room (query_accepted q) e t =
     let is = same-is (query_file x.relations q) x.file t in
     let given = answer-accepted x.relations text slice q (judge-any x.relations text (length slice) longest_file room (le_refl longest_file) ∙ e) in
-    record { answer = sym given.answer ∙ ap (λ (file : List ℕ). FileWritten (length file)) is; file = sym given.slice ∙ ap (λ (file : List ℕ). over file slice) is }
+    record { answer = sym given.answer ∙ ap (λ (file : List ℕ). Ok (length file)) is; file = sym given.slice ∙ ap (λ (file : List ℕ). over file slice) is }
 
 texts-hold : (x : Case) (ts : List (List ℕ)) (slice : List ℕ) → longest_file ≤ length slice → T (texts_pass x.relations x.file ts) → TextsHold x ts slice
 unfolding texts_pass
@@ -357,14 +351,14 @@ verdict-holds x accepted untypable t some work schema space slice =
     let number = cost_in x.relations (allowed_of x) in
     let is = witness-is (ltb x.untypable 16) x.untypable own x.witness number x.memberships schema t in
     record {
-      answer = sym results.0 ∙ ap (λ (a : ℕ). outcome (ltb a 16) a own number) untypable ∙ is.0;
+      answer = sym results.0 ∙ ap Ok (ap (λ (a : ℕ). outcome (ltb a 16) a own number) untypable ∙ is.0);
       slice = sym results.1.1 ∙ ap (λ (a : ℕ). cond (ltb a 16) schema (over own schema)) untypable ∙ is.1;
     }
 
 output-is :
     (t : Bool) (y : TypingResult) (e : Expression) (special entries out : List ℕ)
     → T (output_passes t y (record_bytes (output_map e special) (output_list e entries)))
-    → (typed_answer t e entries ≡ typing_said y)
+    → (Ok (typed_answer t e entries) ≡ typing_said y)
     × (typed_out t e special entries out ≡ typing_wrote y out)
 unfolding output_passes
 output-is true (typed_as o) e special entries out t =
@@ -376,11 +370,11 @@ output-is false (typed_as o) e special entries out t = absurd t
 output-is false untyped e special entries out t = (refl, refl)
 output-is false (refused_with r) e special entries out t = absurd t
 
-refusal_is : (y : TypingResult) (r : Refusal) (out : List ℕ) → T (refusal_passes y r) → (TypingRefused r ≡ typing_said y) × (out ≡ typing_wrote y out)
+refusal_is : (y : TypingResult) (r : Refusal) (out : List ℕ) → T (refusal_passes y r) → (Err r ≡ typing_said y) × (out ≡ typing_wrote y out)
 unfolding refusal_passes
 refusal_is (typed_as o) r out t = absurd t
 refusal_is untyped r out t = absurd t
-refusal_is (refused_with r') r out t = (ap TypingRefused (number-once r r' (eqb→eq (number_of r) (number_of r') t)), refl)
+refusal_is (refused_with r') r out t = (ap Err (number-once r r' (eqb→eq (number_of r) (number_of r') t)), refl)
 
 typing-holds :
     (x : Case) (y : Typing) (out : List ℕ)

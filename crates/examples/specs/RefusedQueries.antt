@@ -1,5 +1,5 @@
 -- Each refused query of the table (FORMAT 10.14) has its refusal: one computed test, and one theorem.
-use Rattle.std.specs.Prelude.{ℕ, zero, suc, ◌≤◌, ◌<◌, ◌≡◌, refl, Bool, true, false, ◌&&◌, List, [], ◌∷◌, T, eqb, length, get_or}
+use Rattle.std.specs.Prelude.{ℕ, zero, suc, ◌≤◌, ◌<◌, ◌≡◌, refl, Bool, true, false, ◌&&◌, List, [], ◌∷◌, T, eqb, length, get_or, Err}
 use Rattle.std.proofs.Common.{sym, ap, ◌∙◌, le_refl, arith, eqb→eq}
 use Rattle.bits.specs.Range.{in_range}
 use Rattle.bits.specs.Truth.{left, right}
@@ -12,7 +12,6 @@ use Rattle.expression_file.specs.Walk.{longest_file}
 use Rattle.query_language.specs.Parsed.{and_then, provided}
 use Rattle.query_language.specs.Parse.{is_digit, number_of as number_value, number_at, ended_number, items_with, items_within, items_at, list_at, set_at, renaming_at, projecting_out_at, prefix_at}
 use Rattle.query_language.specs.Parse.{sign_of, sign_at, relation_at, pair_with, prefixed_with, operand_with, operand_within, operand_at, parse_query}
-use Rattle.query_answer.specs.declared.Parsing.TheVariants.{Refused}
 use Rattle.query_answer.specs.Faults.{attribute_faults, faults_of}
 use Rattle.query_answer.specs.ParseQuery.{Judgement, refused, accepted, judged, judgement, parse_answer, parse_file}
 use Rattle.query_answer.specs.ParseLaws.{answer-refused, judge-any}
@@ -20,7 +19,7 @@ use Rattle.examples.specs.Cases.{RefusedText, refused_texts}
 
 -- the text is refused so, and the slice stays
 pub record Refuses (x : RefusedText) (slice : List ℕ) : Type 0 where
-  pub answer : parse_answer x.relations x.text (length slice) ≡ Refused x.refusal
+  pub answer : parse_answer x.relations x.text (length slice) ≡ Err x.refusal
   pub file : parse_file x.relations x.text slice ≡ slice
 
 -- ---- the test
@@ -41,7 +40,7 @@ refuses x slice room (accepted q) e t = absurd t
 refuses x slice room (refused s) e t =
     let same = number-once s x.refusal (eqb→eq (number_of s) (number_of x.refusal) t) in
     let given = answer-refused x.relations x.text slice s (judge-any x.relations x.text (length slice) longest_file room (le_refl longest_file) ∙ e) in
-    record { answer = sym given.answer ∙ ap Refused same; file = sym given.slice }
+    record { answer = sym given.answer ∙ ap Err same; file = sym given.slice }
 
 -- one that is none, for a place past the table
 abbrev pub no_text : RefusedText

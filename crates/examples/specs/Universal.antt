@@ -1,7 +1,7 @@
 -- E7 (FORMAT 10.7) and E8 (FORMAT 10.8) for every schema. The rules give E7 no type under a filled assignment, and
 -- Typing answers untyped under every schema that is not refused; they give E8 the empty type under every assignment,
 -- and Typing answers so.
-use Rattle.std.specs.Prelude.{ℕ, ◌≤◌, ◌≡◌, refl, Bool, true, false, not, ◌&&◌, List, [], ◌∷◌, length}
+use Rattle.std.specs.Prelude.{ℕ, ◌≤◌, ◌≡◌, refl, Bool, true, false, not, ◌&&◌, List, [], ◌∷◌, length, Ok}
 use Rattle.std.proofs.Common.{sym, ap, ap₂, ◌∙◌, lit<, lit≤}
 use Rattle.std.proofs.Math.Path.{fun_ext}
 use Rattle.std.proofs.Math.Bool.{and-false}
@@ -21,10 +21,9 @@ use Rattle.types.specs.Types.{Attrs, Assignment, Filled, column}
 use Rattle.refusal.specs.Chain.{refuse}
 use Rattle.node.specs.Operators.{binary_of, set_op_of}
 use Rattle.node.specs.ReadNode.{size_of, check_fields, check_node, node_of, read_node}
-use Rattle.expression_file.specs.ReadFile.{acceptance, parse, header, read_nodes, placed_at, placed_nodes as node_entries}
+use Rattle.expression_file.specs.ReadFile.{acceptance, parse, header, read_nodes, placed_at, placed_nodes as node_entries, Accepted}
 use Rattle.admission.specs.Admission.{asked}
 use Rattle.admission.specs.AdmissionLaws.{sliced-passes, asked-passes}
-use Rattle.expression_file.specs.declared.files.Acceptance.TheVariants.{Accepted}
 use Rattle.algebra.specs.Expression.{Expression, Legal, relation, binary, product, with_set, projection}
 use Rattle.algebra.specs.Rules.{Typed, relations, projections}
 use Rattle.algebra.specs.Cell.{plain, ok}
@@ -33,16 +32,15 @@ use Rattle.node_expression.specs.NodeExpression.{expression_at, expression-legal
 use Rattle.type_record.specs.Record.{record_size, record_bytes, output_size}
 use Rattle.schema.specs.Schema.{assignment_of, entries_of, maps_of}
 use Rattle.schema.specs.RecordsLaws.{records-read}
-use Rattle.schema.specs.declared.reading.Judgement.TheVariants.{Read}
 use Rattle.filled_schema.specs.FilledSchema.{filled_reading}
 use Rattle.filled_schema.specs.FilledRecords.{table_filled_lem}
 use Rattle.filled_schema.specs.FilledLaws.{filled-schema}
 use Rattle.table_types.specs.Output.{typed_in, output_map, output_list}
-use Rattle.typing_answer.specs.Typing.{typing_answer, typing_out}
+use Rattle.typing_answer.specs.Typing.{typing_answer, typing_out, Typed as TypedAnswer, Untyped}
 use Rattle.typing_answer.proofs.TypingLaws.{answer_typed, answer-untyped, out-typed, out-untyped, typing-records}
-use Rattle.typing_answer.specs.declared.Answer.TheVariants.{Typed as TypedAnswer, Untyped}
 use Rattle.typing_theorems.specs.TableTyped.{table-rules}
 use Rattle.examples.specs.Cases.{e7, e8}
+use Rattle.schema.specs.Judgement.{Read}
 
 -- ---- E7
 
@@ -83,7 +81,7 @@ e7-typing schema out below read slice =
     let none = is_false (typed_in (expression_at e7.file 1) (maps_of found.0) (entries_of found.0))
     (λ typed. e7-rules (assignment_of found.0) ((table_filled_lem 1 (lit≤ tt) found.0 records.0 records.1).0 found.1.1) _
     (table-rules 1 (lit≤ tt) (expression_at e7.file 1) e7-legal found.0 records.1 records.0 typed)) in (
-      results.0 ∙ answer-untyped (expression_at e7.file 1) (maps_of found.0) (entries_of found.0) none,
+      results.0 ∙ ap Ok (answer-untyped (expression_at e7.file 1) (maps_of found.0) (entries_of found.0) none),
       results.1 ∙ out-untyped (expression_at e7.file 1) (maps_of found.0) (entries_of found.0) out none,
     )
 
@@ -149,7 +147,7 @@ e8-typing schema out read slice =
     let results = typing-records e8.file 1 schema out 1 2 ts.0 (sliced-passes (asked e8.file 1) (length out) output_size (asked-passes e8.file 1 e8-accepted (lit< tt)) slice) ts.1.0.read ts.1.0.few ts.1.1 in
     let typed = always-typed (maps_of ts.0) (entries_of ts.0) in (
       results.0
-          ∙ rw e8-expression (answer_typed emptied (maps_of ts.0) (entries_of ts.0) typed)
+          ∙ ap Ok (rw e8-expression (answer_typed emptied (maps_of ts.0) (entries_of ts.0) typed))
           ∙ ap TypedAnswer (ap (λ (l : List ℕ). record_size (length l)) (listed-nothing (entries_of ts.0)) ∙ empty-size),
       results.1
           ∙ rw e8-expression (out-typed emptied (maps_of ts.0) (entries_of ts.0) out typed)

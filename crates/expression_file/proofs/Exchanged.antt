@@ -8,10 +8,8 @@ use native.Mathlib.Omega.{arith}
 use Rattle.std.proofs.Math.ListN.{length, get_or, drop}
 use Rattle.std.proofs.Math.Seq.{get_or-set_same, get_or-set_other}
 use Rattle.node.specs.declared.nodes.Node.{Node}
-use Rattle.node.specs.declared.nodes.Reading.TheVariants.{Read}
-use Rattle.node.specs.ReadNode.{read_node}
-use Rattle.expression_file.specs.declared.files.Acceptance.TheVariants.{Accepted}
-use Rattle.expression_file.specs.ReadFile.{PlacedNode, read_nodes, header, acceptance, placed_nodes, placed_at, total, start_at}
+use Rattle.node.specs.ReadNode.{read_node, Read}
+use Rattle.expression_file.specs.ReadFile.{PlacedNode, read_nodes, header, acceptance, placed_nodes, placed_at, total, start_at, Accepted}
 use Rattle.expression_file.specs.Accepted.{accepted-file, FileRead, read-file}
 use Rattle.expression_file.specs.Enough.{header-enough}
 use Rattle.expression_file.specs.Walk.{no_node, total-more}

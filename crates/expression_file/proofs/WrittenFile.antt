@@ -10,8 +10,7 @@ use Rattle.bits.specs.Range.{range-in}
 use Rattle.refusal.specs.Chain.{refuse-passes}
 use Rattle.node.specs.declared.nodes.Node.{Node}
 use Rattle.node.specs.declared.nodes.Node.TheVariants.{Relation}
-use Rattle.expression_file.specs.declared.files.Acceptance.TheVariants.{Accepted}
-use Rattle.expression_file.specs.ReadFile.{PlacedNode, header, acceptance, placed_at, node_at}
+use Rattle.expression_file.specs.ReadFile.{PlacedNode, header, acceptance, placed_at, node_at, Accepted}
 use Rattle.expression_file.specs.Accepted.{FileRead, read-file}
 use Rattle.expression_file.specs.WrittenFile.{FileNodes, file_of, nodes-read, nodes_bytes, placed_of}
 

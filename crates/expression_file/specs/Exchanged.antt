@@ -8,8 +8,7 @@ use native.Mathlib.Omega.{arith}
 use Rattle.std.proofs.Math.ListN.{length, drop}
 use Rattle.refusal.specs.Several.{several_read as nodes_read}
 use Rattle.node.specs.declared.nodes.Node.{Node}
-use Rattle.node.specs.declared.nodes.Reading.TheVariants.{Read}
-use Rattle.node.specs.ReadNode.{read_node}
+use Rattle.node.specs.ReadNode.{read_node, Read}
 use Rattle.node.proofs.Enough.{node-part}
 use Rattle.expression_file.specs.ReadFile.{PlacedNode, read_nodes, size_at, total, start_at}
 use Rattle.expression_file.specs.Accepted.{first-node, front-node}

@@ -5,10 +5,8 @@ use Rattle.std.proofs.Common.{sym, ap, subst, ◌∙◌, le_refl, add-one, arith
 use Rattle.std.proofs.Math.Nat.{sub-zero, sub_self}
 use Rattle.bits.specs.Part.{part-from, At, at_head}
 use Rattle.node.specs.declared.nodes.Node.TheVariants.{Relation}
-use Rattle.node.specs.declared.nodes.Reading.TheVariants.{Read}
-use Rattle.expression_file.specs.declared.files.Acceptance.TheVariants.{Accepted}
-use Rattle.node.specs.ReadNode.{size_of, legal, Checked, node_of, read_node}
-use Rattle.expression_file.specs.ReadFile.{PlacedNode, read_nodes, acceptance, placed_nodes, placed_at, node_at, size_at, total, start_at}
+use Rattle.node.specs.ReadNode.{size_of, legal, Checked, node_of, read_node, Read}
+use Rattle.expression_file.specs.ReadFile.{PlacedNode, read_nodes, acceptance, placed_nodes, placed_at, node_at, size_at, total, start_at, Accepted}
 use Rattle.node.specs.Legal.{LegalNode}
 use Rattle.node.specs.Reading.{checked-some, read-checked, node-legal}
 use Rattle.expression_file.specs.Accepted.{FirstNode, first-node, accepted-file}

@@ -2,56 +2,52 @@
 ghost use Rattle.std.specs.Prelude.{◌≡◌, ◌≤◌, length, drop};
 ghost use Rattle.expression_file.specs.ReadFile.{header, answer, collect, read_nodes, acceptance};
 
-use node::{Check, check_nodes};
+use node::check_nodes;
 use refusal::Refusal;
 
-// The counts m and n of a file in which nothing is refused, or the first refusal.
+// The two counts of a file (FORMAT 1.1).
 #[derive(Clone, Copy)]
-pub enum Acceptance {
-    Accepted(u8, u8),
-    Refused(Refusal),
+pub struct Header {
+    // m
+    pub relations: u8,
+    // n
+    pub nodes: u8,
 }
 
 // The two counts alone: refusals 1 to 3.
-fn read_header(file: &[u8]) -> Acceptance
+fn read_header(file: &[u8]) -> Result<Header, Refusal>
     ensures { result ≡ header file.now }
 {
     if file.len() < 2 {
-        return Acceptance::Refused(Refusal::HeaderTruncated);
+        return Err(Refusal::HeaderTruncated);
     }
-    let m = file[0];
-    if !bits::in_range(1, 8, m) {
-        return Acceptance::Refused(Refusal::RelationCount);
+    let relations = file[0];
+    if !bits::in_range(1, 8, relations) {
+        return Err(Refusal::RelationCount);
     }
-    let n = file[1];
-    if !bits::in_range(1, 64, n) {
-        return Acceptance::Refused(Refusal::NodeCount);
+    let nodes = file[1];
+    if !bits::in_range(1, 64, nodes) {
+        return Err(Refusal::NodeCount);
     }
-    Acceptance::Accepted(m, n)
+    Ok(Header { relations, nodes })
 }
 
 // The nodes after the counts, and that nothing follows them: refusals 4 to 10.
-fn accept_nodes(file: &[u8], m: u8, n: u8) -> Acceptance
+fn accept_nodes(file: &[u8], header: Header) -> Result<Header, Refusal>
     requires { 2 ≤ length file.now }
-    ensures { result ≡ answer (collect m n (read_nodes m n 0 (drop 2 file.now))) }
+    ensures { result ≡ answer (collect header.relations header.nodes (read_nodes header.relations header.nodes 0 (drop 2 file.now))) }
 {
-    match check_nodes(m, 0, n, &file[2..]) {
-        Check::Refused(r) => Acceptance::Refused(r),
-        Check::Legal(size) => {
-            if 2 + size < file.len() {
-                return Acceptance::Refused(Refusal::NodesFollowed);
-            }
-            Acceptance::Accepted(m, n)
-        }
+    let size = check_nodes(header.relations, 0, header.nodes, &file[2..])?;
+    if 2 + size < file.len() {
+        return Err(Refusal::NodesFollowed);
     }
+    Ok(header)
 }
 
 // Accept (FORMAT 7.3): the file's own bytes, refusals 1 to 10.
-pub fn accept(file: &[u8]) -> Acceptance
+pub fn accept(file: &[u8]) -> Result<Header, Refusal>
     ensures { result ≡ acceptance file.now }
 {
-    match read_header(file) {
-        Acceptance::Accepted(m, n) => accept_nodes(file, m, n),
-        Acceptance::Refused(r) => Acceptance::Refused(r),
-    }
+    let header = read_header(file)?;
+    accept_nodes(file, header)
 }

@@ -3,4 +3,4 @@
 
 mod files;
 
-pub use files::{Acceptance, accept};
+pub use files::{Header, accept};

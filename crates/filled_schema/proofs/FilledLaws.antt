@@ -10,10 +10,10 @@ use Rattle.type_record.specs.Record.{TypeRecord}
 use Rattle.schema.specs.Schema.{Schema, no_record, entries_of, maps_of, schema_reading}
 use Rattle.schema.specs.RecordsLaws.{AllRecords, records-read}
 use Rattle.schema.specs.TableLaws.{ReadSchema, refused-judged}
-use Rattle.schema.specs.declared.reading.Judgement.TheVariants.{Read, Refused}
 use Rattle.filled_schema.specs.FilledSchema.{table_filled, filled_reading}
 use Rattle.filled_schema.specs.FilledRecords.{none-empty, some-empty}
 use Rattle.filled_schema.specs.FilledLaws.{read-empty, read-filled, read_filled, records-filled}
+use Rattle.schema.specs.Judgement.{Read, Refused}
 
 -- 25 is said exactly where one of the records is empty
 pub empty-record :

@@ -9,9 +9,8 @@ use Rattle.refusal.specs.Several.{several_read as records_read}
 use Rattle.type_record.specs.Record.{TypeRecord}
 use Rattle.schema.specs.Schema.{Schema, read_records, entries_of, maps_of, refused_schema, schema_reading}
 use Rattle.schema.specs.TableLaws.{ReadSchema, refused-not, schema-read, read-schema, read-entries}
-use Rattle.schema.specs.declared.reading.Judgement.{Judgement}
-use Rattle.schema.specs.declared.reading.Judgement.TheVariants.{Read, Refused}
 use Rattle.filled_schema.specs.FilledSchema.{table_filled, unless_empty, filled_reading}
+use Rattle.schema.specs.Judgement.{Judgement, Read, Refused}
 
 module _ (m : ℕ) (bytes : List ℕ) where
   -- the reading without 25

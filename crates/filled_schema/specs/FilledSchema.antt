@@ -5,8 +5,7 @@ use Rattle.bits.specs.AllBelow.{all_below}
 use Rattle.bits.specs.Bit.{bit}
 use Rattle.refusal.specs.declared.Refusal.TheVariants.{EmptyRecord}
 use Rattle.schema.specs.Schema.{Schema, refused_schema, schema_reading}
-use Rattle.schema.specs.declared.reading.Judgement.{Judgement}
-use Rattle.schema.specs.declared.reading.Judgement.TheVariants.{Read, Refused}
+use Rattle.schema.specs.Judgement.{Judgement, Read, Refused}
 
 -- relation r, which is one of eight, has one of the entries
 abbrev pub holds_some : ℕ → List ℕ → Bool

@@ -5,8 +5,7 @@ ghost use Rattle.std.specs.Prelude.{◌≡◌, ◌+◌, ◌*◌, ◌≤◌, ◌<
 ghost use Rattle.bits.specs.Tab.{over};
 ghost use Rattle.attribute_set.specs.AttrSet.{has_attribute};
 ghost use Rattle.node.specs.Legal.{LegalNode};
-ghost use Rattle.expression_file.specs.ReadFile.{size_at, acceptance};
-ghost use Rattle.expression_file.specs.declared.files.Acceptance.TheVariants.{Accepted};
+ghost use Rattle.expression_file.specs.ReadFile.{size_at};
 ghost use Rattle.column.specs.Steps.{combination_of, set_step};
 ghost use Rattle.column.specs.Column.{combined_column, unary_column};
 ghost use Rattle.stored_formula.specs.ColumnPlace.{column_at};
@@ -17,6 +16,7 @@ ghost use Rattle.expression_file.specs.Walk.{Here};
 ghost use Rattle.stored_formula.specs.FilledNodes.{FilledTo};
 ghost use Rattle.admission.specs.Admission.{formula_size};
 
+use accepted_file::AcceptedFile;
 use attribute_set::AttrSet;
 use column::relation_column;
 use node::{BinaryOp, Node, SetOp};
@@ -91,29 +91,26 @@ fn fill_formula(node: Node, m: u8, k: u8, work: &mut [u8])
 }
 
 // Reads node k at byte `at` of the file, fills its formula, and gives the byte after it.
-fn fill_node(file: &[u8], m: u8, k: u8, at: usize, work: &mut [u8]) -> usize
-    requires here { Here file.now m k at }
+fn fill_node(file: &AcceptedFile<'_>, k: u8, at: usize, work: &mut [u8]) -> usize
+    requires here { Here file.now.bytes.now file.now.header.relations k at }
     requires formula_size_in_bounds { k * formula_size + formula_size ≤ length work.old }
-    requires filled_to { FilledTo file.now m (k * formula_size) work.old work.old }
-    ensures value { result ≡ at + size_at file.now k }
-    ensures filled_to_2 { FilledTo file.now m (k * formula_size + formula_size) work.old work.new }
+    requires filled_to { FilledTo file.now.bytes.now file.now.header.relations (k * formula_size) work.old work.old }
+    ensures value { result ≡ at + size_at file.now.bytes.now k }
+    ensures filled_to_2 { FilledTo file.now.bytes.now file.now.header.relations (k * formula_size + formula_size) work.old work.new }
 {
-    let decoding = decode(&file[at..]);
+    let decoding = decode(&file.bytes[at..]);
     let node = decoding.node;
-    fill_formula(node, m, k, work);
+    fill_formula(node, file.header.relations, k, work);
     at + decoding.size
 }
 
 // The formulas of all nodes of an accepted file (FORMAT 7.2), for operations that have read it.
-pub fn fill(file: &[u8], m: u8, n: u8, work: &mut [u8])
-    requires file_value { acceptance file.now ≡ Accepted m n }
-    requires formula_size_in_bounds { n * formula_size ≤ length work.old }
-    ensures { work.new ≡ over (formulas_of file.now m n) work.old }
+pub fn fill(file: &AcceptedFile<'_>, work: &mut [u8])
+    requires formula_size_in_bounds { file.now.header.nodes * formula_size ≤ length work.old }
+    ensures { work.new ≡ over (formulas_of file.now.bytes.now file.now.header.relations file.now.header.nodes) work.old }
 {
     let mut at = 2;
-    let mut k = 0;
-    while k < n {
-        at = fill_node(file, m, k, at, work);
-        k += 1;
+    for k in 0..file.header.nodes {
+        at = fill_node(file, k, at, work);
     }
 }

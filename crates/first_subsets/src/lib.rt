@@ -6,40 +6,39 @@ mod all_subsets;
 mod list;
 mod members;
 
-ghost use Rattle.std.specs.Prelude.{◌≡◌, true, ◌+◌, ◌*◌, ◌≤◌, length};
-ghost use Rattle.verdict_answer.specs.First.{allowed_at, first_in, subsets_by};
+ghost use Rattle.std.specs.Prelude.{◌≡◌, true, ◌<◌, MatchResult};
+ghost use Rattle.verdict_answer.specs.First.{allowed_at, first_in, blocked_in, subsets_by};
 ghost use Rattle.first_subsets.specs.SubsetList.{fewest_first, starts_in};
-ghost use Rattle.admission.specs.Admission.{formula_size};
 
 use crate::all_subsets::FEWEST_FIRST;
 use crate::list::{STARTS, fewest_allowed};
+use admission::FORMULA_SIZE;
 pub use members::{count_memberships, uncovered_relations};
-use stored_columns::read_column;
-use verdict_answer::Subsets;
+use stored_columns::column_of;
 
-// The first allowed subsets of a node whose formula stands in the work space.
-fn first_in_columns(work: &[u8], node: u8, list: &[u8], starts: &[u16]) -> Subsets
-    requires formula_size_in_bounds { node * formula_size + formula_size ≤ length work.now }
-    requires list_value { (fewest_first list.now ≡ true) × (starts_in list.now starts.now ≡ true) }
-    ensures { result ≡ subsets_by (first_in (allowed_at work.now node)) }
+// The first allowed subset of each special attribute in a formula, 0 for attribute 0; or the lowest special attribute
+// whose column allows nothing.
+fn first_in_columns(
+    formula: &[u8; FORMULA_SIZE],
+    list: &[u8],
+    starts: &[u16],
+) -> Result<[u8; 16], u8>
+    requires { (fewest_first list.now ≡ true) × (starts_in list.now starts.now ≡ true) }
+    ensures { MatchResult result (λ chosen. record { blocked = 16; chosen = chosen } ≡ subsets_by (first_in (allowed_at formula.now 0))) (λ blocked. (blocked < 16) × (blocked ≡ blocked_in (allowed_at formula.now 0))) }
 {
     let mut chosen = [0u8; 16];
-    let mut i = 1u8;
-    while i < 16 {
-        let s = fewest_allowed(read_column(work, node, i), list, starts);
-        if s == 256 {
-            return Subsets { blocked: i, chosen };
-        }
-        chosen[i as usize] = s as u8;
-        i += 1;
+    for i in 1u8..16 {
+        let Some(s) = fewest_allowed(column_of(formula, i), list, starts) else {
+            return Err(i);
+        };
+        chosen[i as usize] = s;
     }
-    Subsets { blocked: i, chosen }
+    Ok(chosen)
 }
 
 // The same, with the list of all subsets.
-pub fn first_subsets(work: &[u8], node: u8) -> Subsets
-    requires { node * formula_size + formula_size ≤ length work.now }
-    ensures { result ≡ subsets_by (first_in (allowed_at work.now node)) }
+pub fn first_subsets(formula: &[u8; FORMULA_SIZE]) -> Result<[u8; 16], u8>
+    ensures { MatchResult result (λ chosen. record { blocked = 16; chosen = chosen } ≡ subsets_by (first_in (allowed_at formula.now 0))) (λ blocked. (blocked < 16) × (blocked ≡ blocked_in (allowed_at formula.now 0))) }
 {
-    first_in_columns(work, node, &FEWEST_FIRST, &STARTS)
+    first_in_columns(formula, &FEWEST_FIRST, &STARTS)
 }

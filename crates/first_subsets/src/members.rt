@@ -1,21 +1,15 @@
 // Members of subsets: the fewest in a column, all together, and the relations that are in none.
-ghost use Rattle.std.specs.Prelude.{◌≡◌, ◌≤◌, min, length, drop};
+ghost use Rattle.std.specs.Prelude.{◌≡◌, ◌≤◌, length, drop};
 ghost use Rattle.set_cover.specs.Choice.{uncovered};
 ghost use Rattle.verdict_answer.specs.FirstChoice.{memberships_of};
 ghost use Rattle.first_subsets.specs.ByteMembers.{fewest_in_byte, NoneFewer};
-
-fn lesser(a: u8, b: u8) -> u8
-    ensures { result ≡ min a b }
-{
-    if a < b { a } else { b }
-}
 
 // The fewest members of a subset of three relations whose bit stands in the byte; 9 if none stands. Of the eight bits
 // 7f has those of subsets with at most two members, 17 those with at most one, and 01 the empty one's.
 fn fewest_in_byte(byte: u8) -> u8
     ensures { result ≡ fewest_in_byte byte }
 {
-    9 - lesser(byte, 1) * 6 - lesser(byte & 0x7f, 1) - lesser(byte & 0x17, 1) - byte % 2
+    9 - byte.min(1) * 6 - (byte & 0x7f).min(1) - (byte & 0x17).min(1) - byte % 2
 }
 
 // A number of members, at most 9: no subset that the column allows has fewer. By all bytes.
@@ -24,11 +18,9 @@ fn fewest_in_bytes(column: &[u8]) -> u8
     ensures { NoneFewer column.now result }
 {
     let mut fewest = 9u8;
-    let mut i = 0u8;
-    while i < 32 {
+    for i in 0u8..32 {
         let here = fewest_in_byte(column[i as usize]);
-        fewest = lesser(fewest, u8::count_ones(i) as u8 + here);
-        i += 1;
+        fewest = fewest.min(u8::count_ones(i) as u8 + here);
     }
     fewest
 }
@@ -46,29 +38,23 @@ pub fn fewest_members(column: &[u8]) -> u8
 }
 
 // How many memberships the subsets of 16 attributes have.
-pub fn count_memberships(subsets: &[u8]) -> u8
-    requires { length subsets.now ≡ 16 }
+pub fn count_memberships(subsets: &[u8; 16]) -> u8
     ensures { result ≡ memberships_of subsets.now }
 {
     let mut count = 0u8;
-    let mut i = 0usize;
-    while i < 16 {
-        count += u8::count_ones(subsets[i]) as u8;
-        i += 1;
+    for s in subsets {
+        count += u8::count_ones(*s) as u8;
     }
     count
 }
 
 // The relations of `all` that are in none of the subsets of attributes 1 to 15.
-pub fn uncovered_relations(subsets: &[u8], all: u8) -> u8
-    requires { length subsets.now ≡ 16 }
+pub fn uncovered_relations(subsets: &[u8; 16], all: u8) -> u8
     ensures { result ≡ uncovered all (drop 1 subsets.now) }
 {
     let mut need = all;
-    let mut i = 1usize;
-    while i < 16 {
+    for i in 1..16 {
         need = need & !subsets[i];
-        i += 1;
     }
     need
 }

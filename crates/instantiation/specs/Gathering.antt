@@ -1,11 +1,10 @@
 -- What the code gathers on its way: the entries of an instantiation's lists in the order of the bytes, before they are
 -- judged together and sorted.
-use Rattle.std.specs.Prelude.{ℕ, ◌+◌, ◌*◌, ◌≤◌, ◌<◌, List, [], ◌∷◌, ◌++◌, map, length, take}
+use Rattle.std.specs.Prelude.{ℕ, ◌+◌, ◌*◌, ◌≤◌, ◌<◌, List, [], ◌∷◌, ◌++◌, map, length, take, Result, Ok, Err}
 use Rattle.membership.specs.Entries.{entry, ListFits, TableIn}
-use Rattle.instantiation.specs.declared.ListsReading.{ListsReading}
-use Rattle.instantiation.specs.declared.ListsReading.TheVariants.{Listed as ListsListed, Refused as ListsRefused}
 use Rattle.instantiation.specs.Instantiation.{Lists}
 use Rattle.refusal.specs.Several.{several_refused as lists_refused, several_read as lists_read}
+use Rattle.refusal.specs.declared.Refusal.{Refusal}
 
 -- the entries of these lists in the order of the bytes, under the subsets s, s + 1, ..
 abbrev pub listed_from : ℕ → List (List ℕ) → List ℕ
@@ -13,9 +12,9 @@ listed_from s [] = []
 listed_from s (l ∷ ls) = map (λ a. entry a s) l ++ listed_from (s + 1) ls
 
 -- the lists before they are judged together: the first refusal, or the number of their entries, at most 256
-abbrev pub gathered : Lists → ListsReading
-gathered (lists_refused r) = ListsRefused r
-gathered (lists_read ls) = ListsListed (length (take 256 (listed_from 0 ls)))
+abbrev pub gathered : Lists → Result ℕ Refusal
+gathered (lists_refused r) = Err r
+gathered (lists_read ls) = Ok (length (take 256 (listed_from 0 ls)))
 
 -- and so many entries stand at the front of the slice, one for each two of so many bytes at most
 abbrev pub GatheredIn : ℕ → Lists → List ℕ → Type 0

@@ -1,20 +1,17 @@
 -- Instantiations (FORMAT 6.1, 6.2, 8.4).
-use Rattle.std.specs.Prelude.{ℕ, zero, suc, ◌+◌, ◌-◌, ◌*◌, ◌/◌, ◌%◌, ◌≤◌, ◌≡◌, Bool, true, false, cond, not, List, [], ◌∷◌, ◌++◌, eqb, ltb, length, get_or, drop}
+use Rattle.std.specs.Prelude.{ℕ, zero, suc, ◌+◌, ◌-◌, ◌*◌, ◌/◌, ◌%◌, ◌≤◌, ◌≡◌, Bool, true, false, cond, not, List, [], ◌∷◌, ◌++◌, eqb, ltb, length, get_or, drop, Result, Ok, Err}
 use Rattle.bits.specs.Bit.{bit}
 use Rattle.bits.specs.Pack.{pack}
 use Rattle.bits.specs.Tab.{tab}
 use Rattle.refusal.specs.declared.Refusal.{Refusal}
 use Rattle.refusal.specs.declared.Refusal.TheVariants.{InputTruncated, InputFollowed, TooManyAttributes, RepeatedAttribute}
 use Rattle.refusal.specs.Several.{Several, several_refused as lists_refused, several_read as lists_read, precede, at_end}
-use Rattle.type_record.specs.declared.lists.ListReading.{ListReading}
-use Rattle.type_record.specs.declared.lists.ListReading.TheVariants.{Listed, Refused as ListRefused}
 use Rattle.type_record.specs.Lists.{read_list, listed, list_bytes}
 use Rattle.membership.specs.Entries.{attribute_of, subset_of, enter}
 use Rattle.membership.specs.Holders.{ItemsFit}
-use Rattle.schema.specs.declared.reading.Judgement.{Judgement}
-use Rattle.schema.specs.declared.reading.Judgement.TheVariants.{Read, Refused}
-use Rattle.instantiation.specs.declared.InstantiationReading.{InstantiationReading}
+use Rattle.instantiation.specs.declared.InstantiationTable.{InstantiationTable}
 use Rattle.instantiation.specs.Seen.{nothing_seen, repeated_in}
+use Rattle.schema.specs.Judgement.{Judgement, Read, Refused}
 
 -- FORMAT 9.11: the bytes of the longest instantiation, and the least length of a slice for one
 abbrev pub instantiation_size : ℕ
@@ -31,9 +28,9 @@ abbrev pub Lists : Type 0
 Lists = Several (List ℕ)
 
 -- what a list's reading gives, with the reading of what follows it
-abbrev pub follow : ListReading → List ℕ → (List ℕ → Lists) → Lists
-follow (ListRefused r) bytes rest = lists_refused r
-follow (Listed n) bytes rest = precede (listed n bytes) (rest (drop (n * 2 + 1) bytes))
+abbrev pub follow : Result ℕ Refusal → List ℕ → (List ℕ → Lists) → Lists
+follow (Err r) bytes rest = lists_refused r
+follow (Ok n) bytes rest = precede (listed n bytes) (rest (drop (n * 2 + 1) bytes))
 
 -- FORMAT 6.1, 8.4: the lists of so many subsets from s on, in the order of the bytes, and then 17
 unfoldable pub read_lists : List ℕ → ℕ → ℕ → List ℕ → Lists
@@ -87,8 +84,13 @@ instantiation_reading bytes =
     cond (ltb (length bytes) 47) (refused_instantiation InputTruncated) (tabled (read_lists bytes 256 0 (drop 47 bytes)) bytes)
 
 -- the same as it is handed on, with the number of the entries
-unfoldable pub reading_of : Instantiation → InstantiationReading
-reading_of i = record { judgement = i.judgement; subsets = i.subsets; count = length i.entries }
+abbrev pub handed : Judgement → Instantiation → Result InstantiationTable Refusal
+handed Read i = Ok (record { subsets = i.subsets; count = length i.entries })
+handed (Refused r) i = Err r
+
+-- the same by its judgement
+unfoldable pub reading_of : Instantiation → Result InstantiationTable Refusal
+reading_of i = handed i.judgement i
 
 -- ---- writing
 

@@ -1,15 +1,14 @@
 -- Lists read one after the other: what they are, which bits stand, and their bytes.
-use Rattle.std.specs.Prelude.{ℕ, zero, suc, ◌+◌, ◌*◌, ◌≤◌, ◌<◌, ◌≡◌, refl, Bool, true, false, not, List, [], ◌∷◌, ◌++◌, eqb, length, get_or, drop}
+use Rattle.std.specs.Prelude.{ℕ, zero, suc, ◌+◌, ◌*◌, ◌≤◌, ◌<◌, ◌≡◌, refl, Bool, true, false, not, List, [], ◌∷◌, ◌++◌, eqb, length, get_or, drop, Result, Ok, Err}
 use Rattle.std.proofs.Common.{sym, ap, ap₂, subst, ◌∙◌, add-zero, arith, ne_eqb, lit<, take-append-drop, get_or-drop, drop_at}
 use Rattle.bits.specs.Word.{Bytes}
-use Rattle.type_record.specs.declared.lists.ListReading.{ListReading}
-use Rattle.type_record.specs.declared.lists.ListReading.TheVariants.{Listed, Refused as ListRefused}
 use Rattle.type_record.specs.Lists.{read_list, listed, list_bytes}
 use Rattle.type_record.specs.ListBytes.{IsList, bytes-length, list_read, list-some, list_written, written_listed, written-list}
 use Rattle.instantiation.specs.Instantiation.{Lists, standing, follow, read_lists, lists_bytes}
 use Rattle.instantiation.specs.ReadStep.{read-clear, read-stands}
 use Rattle.refusal.specs.Several.{several_refused as lists_refused, several_read as lists_read, precede, at_end}
 use Rattle.refusal.specs.declared.Refusal.TheVariants.{InputFollowed}
+use Rattle.refusal.specs.declared.Refusal.{Refusal}
 
 -- the list is not empty
 abbrev pub some : List ℕ → Bool
@@ -98,9 +97,9 @@ first whole left s bytes ls bytes_below e = go (standing whole s) refl
     preceded l after (lists_refused r) is stands split below rest h = absurd (let z : ◌≡◌ {A = ℕ} 0 1 = cc in omega arith)
     preceded l after (lists_read us) is stands split below rest h = record { list = l; after = after; others = us; is = is; stands = stands; split = split; below = below; rest = rest; are = cc }
 
-    followed : (r : ListReading) → read_list bytes ≡ r → standing whole s ≡ true → follow r bytes (read_lists whole left (s + 1)) ≡ lists_read ls → First whole left s bytes ls
-    followed (ListRefused r) reading stands h = absurd (let z : ◌≡◌ {A = ℕ} 0 1 = cc in omega arith)
-    followed (Listed n) reading stands h =
+    followed : (r : Result ℕ Refusal) → read_list bytes ≡ r → standing whole s ≡ true → follow r bytes (read_lists whole left (s + 1)) ≡ lists_read ls → First whole left s bytes ls
+    followed (Err r) reading stands h = absurd (let z : ◌≡◌ {A = ℕ} 0 1 = cc in omega arith)
+    followed (Ok n) reading stands h =
         preceded (listed n bytes) (drop (n * 2 + 1) bytes) (read_lists whole left (s + 1) (drop (n * 2 + 1) bytes))
         (list_read bytes n bytes_below reading)
         (stands ∙ sym (some_is (listed n bytes) (list-some bytes n bytes_below reading)))
@@ -142,5 +141,5 @@ written_from whole (l ∷ ls) s all stands =
         let inside : 1 ≤ length (a ∷ k) = omega arith in
         let after = drop_at (list_bytes (a ∷ k)) (lists_bytes ls) (length (a ∷ k) * 2 + 1) (bytes-length (a ∷ k) inside) in
         read-stands whole (length ls) s (list_bytes (a ∷ k) ++ lists_bytes ls) (bit_is ∙ some_is (a ∷ k) inside)
-        ∙ ap (λ (r : ListReading). follow r (list_bytes (a ∷ k) ++ lists_bytes ls) (read_lists whole (length ls) (s + 1))) (written-list (a ∷ k) (lists_bytes ls) inside is.rising)
+        ∙ ap (λ (r : Result ℕ Refusal). follow r (list_bytes (a ∷ k) ++ lists_bytes ls) (read_lists whole (length ls) (s + 1))) (written-list (a ∷ k) (lists_bytes ls) inside is.rising)
         ∙ ap₂ precede (written_listed (a ∷ k) (lists_bytes ls) inside) (ap (read_lists whole (length ls) (s + 1)) after ∙ rest)

@@ -1,6 +1,6 @@
 -- The reading of an instantiation's lists, resumed at subset s and byte `at`: after one more list, where bits are
 -- clear, at a refusal and at the end.
-use Rattle.std.specs.Prelude.{ℕ, suc, ◌+◌, ◌-◌, ◌*◌, ◌/◌, ◌%◌, ◌^◌, ◌≤◌, ◌<◌, ◌≡◌, refl, true, false, List, [], ◌∷◌, ◌++◌, length, get_or, take, drop}
+use Rattle.std.specs.Prelude.{ℕ, suc, ◌+◌, ◌-◌, ◌*◌, ◌/◌, ◌%◌, ◌^◌, ◌≤◌, ◌<◌, ◌≡◌, refl, true, false, List, [], ◌∷◌, ◌++◌, length, get_or, take, drop, Result, Ok, Err}
 use Rattle.std.proofs.Common.{sym, ap, ◌∙◌, length-append, length-drop, drop_of_length-le, pow_pos, pow_mono, drop-drop, drop-cons, get_or-drop}
 use Rattle.std.proofs.Math.Nat.{lt-div-mul-add}
 use native.Mathlib.Omega.{arith}
@@ -11,8 +11,6 @@ use Rattle.bits.specs.Word.{word, Bytes}
 use Rattle.refusal.specs.declared.Refusal.{Refusal}
 use Rattle.refusal.specs.declared.Refusal.TheVariants.{InputFollowed}
 use Rattle.refusal.specs.Several.{several_refused as lists_refused, several_read as lists_read, precede, at_end, precede_all, precede-more, precede-refused, precede-none}
-use Rattle.type_record.specs.declared.lists.ListReading.{ListReading}
-use Rattle.type_record.specs.declared.lists.ListReading.TheVariants.{Listed, Refused as ListRefused}
 use Rattle.type_record.specs.Lists.{read_list, listed}
 use Rattle.type_record.specs.ListLaws.{HoldsList, list-holds, listed-tab}
 use Rattle.membership.specs.Entries.{ListFits}
@@ -66,20 +64,20 @@ module _ {bytes : List ℕ} {at s : ℕ} (w : Walk bytes at s) where
   -- ---- a list
 
   -- the list at `at` as the code reads it
-  abbrev pub Reads : ListReading → Type 0
+  abbrev pub Reads : Result ℕ Refusal → Type 0
   Reads x = read_list (take (length bytes - at) (drop at bytes)) ≡ x
 
-  pub one_more : (x : ListReading) → s < 256 → standing bytes s ≡ true → Reads x →
+  pub one_more : (x : Result ℕ Refusal) → s < 256 → standing bytes s ≡ true → Reads x →
       read_lists bytes (256 - s) s (drop at bytes) ≡ follow x (drop at bytes) (read_lists bytes (256 - (s + 1)) (s + 1))
   one_more x more stands e =
       let left : 256 - s ≡ suc (256 - (s + 1)) = omega arith in
       let reading : read_list (drop at bytes) ≡ x = rw part-from at e in
       rw (left, ← reading) (read-stands bytes (256 - (s + 1)) s (drop at bytes) stands)
 
-  pub walk_refused : {x : Refusal} → s < 256 → standing bytes s ≡ true → Reads (ListRefused x) → read_lists bytes 256 0 (drop 47 bytes) ≡ lists_refused x
-  walk_refused {x} more stands e = w.rest ∙ ap (precede_all w.done) (one_more (ListRefused x) more stands e) ∙ precede-refused w.done x
+  pub walk_refused : {x : Refusal} → s < 256 → standing bytes s ≡ true → Reads (Err x) → read_lists bytes 256 0 (drop 47 bytes) ≡ lists_refused x
+  walk_refused {x} more stands e = w.rest ∙ ap (precede_all w.done) (one_more (Err x) more stands e) ∙ precede-refused w.done x
 
-  module _ {n : ℕ} (below : Bytes bytes) (e : Reads (Listed n)) where
+  module _ {n : ℕ} (below : Bytes bytes) (e : Reads (Ok n)) where
     after : Bytes (drop at bytes)
     after i = rw get_or-drop (below (at + i))
 
@@ -112,7 +110,7 @@ module _ {bytes : List ℕ} {at s : ℕ} (w : Walk bytes at s) where
           inside = list_inside.1;
           rest =
               w.rest
-              ∙ ap (precede_all w.done) (one_more (Listed n) more stands e)
+              ∙ ap (precede_all w.done) (one_more (Ok n) more stands e)
               ∙ precede-more w.done (listed n (drop at bytes)) (read_lists bytes (256 - (s + 1)) (s + 1) (drop (n * 2 + 1) (drop at bytes)))
               ∙ rw (drop-drop (n * 2 + 1) at bytes);
         }

@@ -1,6 +1,6 @@
 -- Laws of an instantiation that was read: its lists, and the table that is made of them.
-use Rattle.std.specs.Prelude.{ℕ, zero, suc, ◌+◌, ◌-◌, ◌*◌, ◌≤◌, ◌<◌, ◌≡◌, refl, Bool, List, [], ◌∷◌, eqb, ltb, length, get_or, drop}
-use Rattle.std.proofs.Common.{sym, ap, subst, arith, le-ltb, ltb-false, lit≤}
+use Rattle.std.specs.Prelude.{ℕ, zero, suc, ◌+◌, ◌-◌, ◌*◌, ◌≤◌, ◌<◌, ◌≡◌, refl, Bool, List, [], ◌∷◌, eqb, ltb, length, get_or, drop, Result, Ok, Err}
+use Rattle.std.proofs.Common.{sym, ap, subst, arith, le-ltb, ltb-false, lit≤, ◌∙◌}
 use Rattle.std.proofs.Math.Bool.{true, false, cond}
 use Rattle.std.proofs.Math.Decide.{dec_lt}
 use Rattle.std.proofs.Math.Dec.{lit<}
@@ -11,15 +11,13 @@ use Rattle.refusal.specs.Number.{number_of}
 use Rattle.refusal.specs.declared.Refusal.{Refusal}
 use Rattle.refusal.specs.declared.Refusal.TheVariants.{InputTruncated, RepeatedAttribute, TooManyAttributes}
 use Rattle.refusal.specs.Several.{several_refused as lists_refused, several_read as lists_read, precede}
-use Rattle.type_record.specs.declared.lists.ListReading.{ListReading}
-use Rattle.type_record.specs.declared.lists.ListReading.TheVariants.{Listed, Refused as ListRefused}
 use Rattle.type_record.specs.Lists.{read_list, listed}
 use Rattle.type_record.specs.ListLaws.{list-number}
-use Rattle.schema.specs.declared.reading.Judgement.TheVariants.{Read, Refused}
 use Rattle.instantiation.specs.Seen.{nothing_seen, repeated_in}
-use Rattle.instantiation.specs.Instantiation.{Instantiation, Lists, standing, follow, read_lists, entries_in, all_listed, subsets_of, refused_instantiation, tabled, instantiation_reading, reading_of}
-use Rattle.instantiation.specs.declared.InstantiationReading.{InstantiationReading}
+use Rattle.instantiation.specs.Instantiation.{Instantiation, Lists, standing, follow, read_lists, entries_in, all_listed, subsets_of, refused_instantiation, tabled, instantiation_reading, reading_of, handed}
+use Rattle.instantiation.specs.declared.InstantiationTable.{InstantiationTable}
 use Rattle.instantiation.specs.ReadStep.{read-clear, read-stands}
+use Rattle.schema.specs.Judgement.{Read, Refused, Judgement}
 
 -- an instantiation that was read from these bytes, with its lists
 pub record ReadInstantiation (bytes : List ℕ) (i : Instantiation) (ls : List (List ℕ)) : Type 0 where
@@ -117,9 +115,9 @@ lists-early whole zero s [] = tt
 lists-early whole zero s (b ∷ bs) = lit≤ tt
 lists-early whole (suc left) s bytes = go (standing whole s) refl (λ after. lists-early whole left (s + 1) after)
   where
-    followed : (r : ListReading) → read_list bytes ≡ r → ((after : List ℕ) → Early (read_lists whole left (s + 1) after)) → Early (follow r bytes (read_lists whole left (s + 1)))
-    followed (ListRefused r) reading rest = let most = list-number bytes r reading in omega arith
-    followed (Listed n) reading rest = preceded-early (listed n bytes) (read_lists whole left (s + 1) (drop (n * 2 + 1) bytes)) (rest (drop (n * 2 + 1) bytes))
+    followed : (r : Result ℕ Refusal) → read_list bytes ≡ r → ((after : List ℕ) → Early (read_lists whole left (s + 1) after)) → Early (follow r bytes (read_lists whole left (s + 1)))
+    followed (Err r) reading rest = let most = list-number bytes r reading in omega arith
+    followed (Ok n) reading rest = preceded-early (listed n bytes) (read_lists whole left (s + 1) (drop (n * 2 + 1) bytes)) (rest (drop (n * 2 + 1) bytes))
 
     go : (b : Bool) → standing whole s ≡ b → ((after : List ℕ) → Early (read_lists whole left (s + 1) after)) → Early (read_lists whole (suc left) s bytes)
     go true stands rest = subst Early (sym (read-stands whole left s bytes stands)) (followed (read_list bytes) refl rest)
@@ -165,19 +163,33 @@ pub read-entries : (bytes : List ℕ) (i : Instantiation) (ls : List (List ℕ))
 read-entries bytes i ls r = ap (λ (x : Instantiation). x.entries) r.is
 
 -- what is handed on of a reading
-pub record Handed (i : Instantiation) (x : InstantiationReading) : Type 0 where
-  pub judgement : x.judgement ≡ i.judgement
+pub record Handed (i : Instantiation) (x : InstantiationTable) : Type 0 where
+  pub judgement : i.judgement ≡ Read
   pub subsets : x.subsets ≡ i.subsets
   pub count : x.count ≡ length i.entries
 
-pub handed-on : (i : Instantiation) (x : InstantiationReading) → x ≡ reading_of i → Handed i x
+pub handed-on : (i : Instantiation) (x : InstantiationTable) → Ok x ≡ reading_of i → Handed i x
 unfolding reading_of
-handed-on i x is =
-    record {
-      judgement = ap (λ (y : InstantiationReading). y.judgement) is;
-      subsets = ap (λ (y : InstantiationReading). y.subsets) is;
-      count = ap (λ (y : InstantiationReading). y.count) is;
-    }
+handed-on i x = go i.judgement refl
+  where
+    go : (j : Judgement) → i.judgement ≡ j → Ok x ≡ handed j i → Handed i x
+    go Read read is =
+        let same : x ≡ record { subsets = i.subsets; count = length i.entries } = cc in
+        record {
+          judgement = read;
+          subsets = ap (λ (y : InstantiationTable). y.subsets) same;
+          count = ap (λ (y : InstantiationTable). y.count) same;
+        }
+    go (Refused r) read is = absurd (let z : ◌≡◌ {A = ℕ} 0 1 = cc in omega arith)
+
+-- and of a refused one
+pub refused-on : (i : Instantiation) (r : Refusal) → Err r ≡ reading_of i → i.judgement ≡ Refused r
+unfolding reading_of
+refused-on i r = go i.judgement refl
+  where
+    go : (j : Judgement) → i.judgement ≡ j → Err r ≡ handed j i → i.judgement ≡ Refused r
+    go Read read is = absurd (let z : ◌≡◌ {A = ℕ} 0 1 = cc in omega arith)
+    go (Refused q) read is = let same : q ≡ r = cc in read ∙ ap Refused same
 
 -- ---- the subsets of special attributes
 

@@ -1,5 +1,5 @@
 -- The reading of an instantiation once its lists are read: 17, 19, 18 (FORMAT 8.4).
-use Rattle.std.specs.Prelude.{ℕ, ◌*◌, ◌≤◌, ◌<◌, ◌≡◌, refl, Bool, true, drop, replicate}
+use Rattle.std.specs.Prelude.{ℕ, ◌*◌, ◌≤◌, ◌<◌, ◌≡◌, refl, Bool, true, drop, replicate, Result, Ok, Err}
 use Rattle.std.proofs.Math.Path.{sym, ap, ap₂, subst}
 use Rattle.std.proofs.Common.{◌∙◌}
 use Rattle.std.proofs.Math.Bool.{false}
@@ -20,46 +20,38 @@ use Rattle.entry_sorting.specs.Order.{ascending}
 use Rattle.entry_sorting.specs.Passes.{front-fit}
 use Rattle.entry_sorting.specs.Sorting.{by_attribute}
 use Rattle.schema.specs.Schema.{EntriesStand}
-use Rattle.schema.specs.declared.reading.Judgement.TheVariants.{Read, Refused}
-use Rattle.instantiation.specs.declared.InstantiationReading.{InstantiationReading}
-use Rattle.instantiation.specs.declared.ListsReading.{ListsReading}
-use Rattle.instantiation.specs.declared.ListsReading.TheVariants.{Listed as ListsListed, Refused as ListsRefused}
 use Rattle.instantiation.specs.Instantiation.{Instantiation, Lists, read_lists, entries_in, all_listed, subsets_of, refused_instantiation, instantiation_reading, reading_of}
 use Rattle.instantiation.specs.Gathering.{listed_from, gathered, GatheredIn}
 use Rattle.instantiation.specs.ReadLaws.{IsLists, lists-read}
 use Rattle.instantiation.specs.Seen.{nothing_seen, repeated_in}
 use Rattle.instantiation.specs.SortedLists.{listed_below, rising-apart, falling-repeated, sorted-lists, sorted-length}
+use Rattle.schema.specs.Judgement.{Read, Refused}
 
 -- ---- a refusal
 
--- what is handed on, by its fields
-pub refused-fields : (r : Refusal) → record { judgement = Refused r; subsets = replicate 16 0; count = 0 } ≡ reading_of (refused_instantiation r)
+-- what is handed on
+pub refused-fields : (r : Refusal) → Err r ≡ reading_of (refused_instantiation r)
 unfolding reading_of refused_instantiation
-refused-fields r = ap (λ (s : List ℕ). record { judgement = Refused r; subsets = s; count = 0 }) (sym (tab-same 16 0))
+refused-fields r = refl
 
 -- what is handed on, and nothing is said of the entries
 pub refused-reading :
-    (bytes items : List ℕ) (size : ℕ) {x : InstantiationReading} (r : Refusal)
-    → x ≡ reading_of (refused_instantiation r)
+    (bytes items : List ℕ) (r : Refusal)
     → refused_instantiation r ≡ instantiation_reading bytes
-    → (x ≡ reading_of (instantiation_reading bytes))
-    × (EntriesStand x.judgement (instantiation_reading bytes).entries items × (x.count ≤ size))
+    → (Err r ≡ reading_of (instantiation_reading bytes))
+    × EntriesStand (instantiation_reading bytes).judgement (instantiation_reading bytes).entries items
 unfolding reading_of refused_instantiation
-refused-reading bytes items size {x} r is same = (
-  is ∙ ap reading_of same,
-  (
-    (λ said. absurd (let other = ap (λ (y : InstantiationReading). y.judgement) is in
-        let z : ◌≡◌ {A = ℕ} 0 1 = cc in omega arith)),
-    rw is (omega arith),
-  ),
+refused-reading bytes items r same = (
+  ap reading_of same,
+  λ said. absurd (let other = ap (λ (i : Instantiation). i.judgement) same ∙ said in let z : ◌≡◌ {A = ℕ} 0 1 = cc in omega arith),
 )
 
 pub reading-short : (bytes : List ℕ) → length bytes < 47 → refused_instantiation InputTruncated ≡ instantiation_reading bytes
 unfolding instantiation_reading
 reading-short bytes short = sym (rw (lt-ltb (length bytes) 47 short))
 
-pub lists-refused : (bytes : List ℕ) {x : ListsReading} {r : Refusal} → 47 ≤ length bytes →
-    x ≡ gathered (read_lists bytes 256 0 (drop 47 bytes)) → x ≡ ListsRefused r → refused_instantiation r ≡ instantiation_reading bytes
+pub lists-refused : (bytes : List ℕ) {x : Result ℕ Refusal} {r : Refusal} → 47 ≤ length bytes →
+    x ≡ gathered (read_lists bytes 256 0 (drop 47 bytes)) → x ≡ Err r → refused_instantiation r ≡ instantiation_reading bytes
 unfolding instantiation_reading
 lists-refused bytes {x} {r} enough is e = go (read_lists bytes 256 0 (drop 47 bytes)) refl
   where
@@ -82,12 +74,12 @@ pub record Found (bytes items : List ℕ) (k : ℕ) : Type 0 where
   short : k * 2 ≤ length bytes
 
 pub lists-found :
-    (bytes items : List ℕ) {k : ℕ} {x : ListsReading}
+    (bytes items : List ℕ) {k : ℕ} {x : Result ℕ Refusal}
     → 47 ≤ length bytes
     → Bytes bytes
     → x ≡ gathered (read_lists bytes 256 0 (drop 47 bytes))
     → GatheredIn (length bytes) (read_lists bytes 256 0 (drop 47 bytes)) items
-    → x ≡ ListsListed k
+    → x ≡ Ok k
     → Found bytes items k
 lists-found bytes items {k} long below is stand e = go (read_lists bytes 256 0 (drop 47 bytes)) refl stand
   where
@@ -172,12 +164,12 @@ module _ {bytes items : List ℕ} {k : ℕ} (f : Found bytes items k) where
         pub lists-read-all :
             {subsets : List ℕ}
             → subsets ≡ subsets_of bytes
-            → (record { judgement = Read; subsets = subsets; count = k } ≡ reading_of (instantiation_reading bytes))
-            × EntriesStand Read (instantiation_reading bytes).entries sorted
+            → (Ok (record { subsets = subsets; count = k }) ≡ reading_of (instantiation_reading bytes))
+            × EntriesStand (instantiation_reading bytes).judgement (instantiation_reading bytes).entries sorted
         unfolding reading_of
         lists-read-all subsets-are =
             let stands = subst (λ (n : ℕ). take n sorted ≡ entries_in f.lists) count entries in (
-              ap₂ (λ (l : List ℕ) (n : ℕ). record { judgement = Read; subsets = l; count = n }) subsets-are count
+              ap₂ (λ (l : List ℕ) (n : ℕ). Ok (record { subsets = l; count = n })) subsets-are count
                   ∙ ap reading_of reading,
               λ said. subst (λ (i : Instantiation). take (length i.entries) sorted ≡ i.entries) reading stands,
             )

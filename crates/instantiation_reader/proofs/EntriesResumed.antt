@@ -11,16 +11,15 @@ use Rattle.bits.specs.Word.{word, Bytes}
 use Rattle.refusal.specs.declared.Refusal.{Refusal}
 use Rattle.refusal.specs.declared.Refusal.TheVariants.{InputFollowed}
 use Rattle.refusal.specs.Several.{several_refused as lists_refused, several_read as lists_read}
-use Rattle.type_record.specs.declared.lists.ListReading.TheVariants.{Listed, Refused as ListRefused}
 use Rattle.type_record.specs.Lists.{listed}
 use Rattle.membership.specs.Entries.{entry, TableIn, RoomFor}
 use Rattle.membership.specs.TableLaws.{table_none, table-few, table-reaches}
-use Rattle.instantiation.specs.declared.ListsReading.TheVariants.{Listed as ListsListed, Refused as ListsRefused}
 use Rattle.instantiation.specs.Instantiation.{Lists, standing, read_lists}
 use Rattle.instantiation.specs.Gathering.{listed_from, gathered, GatheredIn, Appends}
 use Rattle.instantiation_reader.proofs.AppendedEntries.{append-table, append-few}
 use Rattle.instantiation.specs.OneMoreList.{entries-more}
 use Rattle.instantiation.specs.ListsResumed.{Walk, walk_start, rest-clear, walk-clear, Reads, walk_refused, list_inside, list-fits, attributes-are, walk-next, walk-followed, walk_end}
+use Rattle.std.specs.Prelude.{Ok, Err}
 
 pub record Resumed (bytes before items : List ℕ) (k at s : ℕ) : Type 0 where
   pub walk : Walk bytes at s
@@ -33,14 +32,14 @@ pub resumed-start : (bytes items : List ℕ) → 47 ≤ length bytes → Resumed
 resumed-start bytes items enough = record { walk = walk_start bytes enough; size = refl; short = omega arith; table = table_none items }
 
 -- what is refused, and what is read
-refused-is : (size : ℕ) (items : List ℕ) {r : Refusal} (ls : Lists) → ls ≡ lists_refused r → (ListsRefused r ≡ gathered ls) × GatheredIn size ls items
-refused-is size items {r} ls e = subst (λ (l : Lists). (ListsRefused r ≡ gathered l) × GatheredIn size l items) (sym e) (refl, tt)
+refused-is : (size : ℕ) (items : List ℕ) {r : Refusal} (ls : Lists) → ls ≡ lists_refused r → (Err r ≡ gathered ls) × GatheredIn size ls items
+refused-is size items {r} ls e = subst (λ (l : Lists). (Err r ≡ gathered l) × GatheredIn size l items) (sym e) (refl, tt)
 
 read_is : (size : ℕ) {items : List ℕ} {k : ℕ} (done : List (List ℕ)) (ls : Lists) → ls ≡ lists_read done →
-    TableIn (listed_from 0 done) items k → k * 2 ≤ size → (ListsListed k ≡ gathered ls) × GatheredIn size ls items
+    TableIn (listed_from 0 done) items k → k * 2 ≤ size → (Ok k ≡ gathered ls) × GatheredIn size ls items
 read_is size {items} {k} done ls e t short =
-    subst (λ (l : Lists). (ListsListed k ≡ gathered l) × GatheredIn size l items) (sym e) (
-      ap ListsListed t.count-is,
+    subst (λ (l : Lists). (Ok k ≡ gathered l) × GatheredIn size l items) (sym e) (
+      ap Ok t.count-is,
       (subst (TableIn (listed_from 0 done) items) t.count-is t, subst (λ (n : ℕ). n * 2 ≤ size) t.count-is short),
     )
 
@@ -62,12 +61,12 @@ module _ {bytes before items : List ℕ} {k at s : ℕ} (h : Resumed bytes befor
       {x : Refusal}
       → s < 256
       → standing bytes s ≡ true
-      → Reads h.walk (ListRefused x)
-      → (ListsRefused x ≡ gathered (read_lists bytes 256 0 (drop 47 bytes)))
+      → Reads h.walk (Err x)
+      → (Err x ≡ gathered (read_lists bytes 256 0 (drop 47 bytes)))
       × GatheredIn (length bytes) (read_lists bytes 256 0 (drop 47 bytes)) items
   resumed-refused more stands e = refused-is (length bytes) items (read_lists bytes 256 0 (drop 47 bytes)) (walk_refused h.walk more stands e)
 
-  module _ {n : ℕ} (below : Bytes bytes) (e : Reads h.walk (Listed n)) where
+  module _ {n : ℕ} (below : Bytes bytes) (e : Reads h.walk (Ok n)) where
     -- there is room for its entries
     pub resumed-appends : RoomFor (length bytes) before → Appends (take (length bytes - at) (drop at bytes)) n items k
     resumed-appends room =
@@ -112,12 +111,12 @@ module _ {bytes before items : List ℕ} {k at s : ℕ} (h : Resumed bytes befor
   -- ---- after all 256 subsets
 
   pub resumed-followed : 256 ≤ s → at < length bytes →
-      (ListsRefused InputFollowed ≡ gathered (read_lists bytes 256 0 (drop 47 bytes)))
+      (Err InputFollowed ≡ gathered (read_lists bytes 256 0 (drop 47 bytes)))
       × GatheredIn (length bytes) (read_lists bytes 256 0 (drop 47 bytes)) items
   resumed-followed last more = refused-is (length bytes) items (read_lists bytes 256 0 (drop 47 bytes)) (walk-followed h.walk last more)
 
   pub resumed-end : 256 ≤ s → length bytes ≤ at →
-      (ListsListed k ≡ gathered (read_lists bytes 256 0 (drop 47 bytes)))
+      (Ok k ≡ gathered (read_lists bytes 256 0 (drop 47 bytes)))
       × GatheredIn (length bytes) (read_lists bytes 256 0 (drop 47 bytes)) items
   resumed-end last none =
       let short = h.short in

@@ -1,5 +1,5 @@
 // Writing an instantiation from the membership table (FORMAT 6.1).
-ghost use Rattle.std.specs.Prelude.{◌≡◌, length, get_or, take, ◌+◌, ◌≤◌};
+ghost use Rattle.std.specs.Prelude.{◌≡◌, length, get_or, ◌+◌, ◌≤◌};
 ghost use Rattle.bits.specs.Tab.{tab, over};
 ghost use Rattle.instantiation.specs.Instantiation.{lists_of, instantiation_bytes, WritesFrom, instantiation_size};
 
@@ -22,17 +22,16 @@ fn write_special(out: &mut [u8], subsets: &[u8])
 pub fn write_instantiation(
     out: &mut [u8],
     subsets: &[u8],
-    items: &[u32],
-    count: usize,
+    entries: &[u32],
     spare: &mut [u32],
 ) -> usize
-    requires writes_from { WritesFrom subsets.now items.now count }
-    requires instantiation_size_in_bounds { (instantiation_size ≤ length out.old) × (count ≤ length spare.old) }
-    ensures value { result ≡ length (instantiation_bytes subsets.now (lists_of (take count items.now))) }
-    ensures out_after { out.new ≡ over (instantiation_bytes subsets.now (lists_of (take count items.now))) out.old }
+    requires writes_from { WritesFrom subsets.now entries.now (length entries.now) }
+    requires instantiation_size_in_bounds { (instantiation_size ≤ length out.old) × (length entries.now ≤ length spare.old) }
+    ensures value { result ≡ length (instantiation_bytes subsets.now (lists_of entries.now)) }
+    ensures out_after { out.new ≡ over (instantiation_bytes subsets.now (lists_of entries.now)) out.old }
 {
-    sort_by_subset(items, count, spare);
+    sort_by_subset(entries, spare);
     write_special(out, subsets);
-    write_map(&mut out[15..], items, count);
-    47 + write_lists(&mut out[47..], spare, count)
+    write_map(&mut out[15..], entries);
+    47 + write_lists(&mut out[47..], &spare[..entries.len()])
 }

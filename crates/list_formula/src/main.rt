@@ -1,7 +1,6 @@
 // Reads an expression file from standard input and prints its last node (FORMAT 7.14).
 #![tactic(auto)]
 
-use listing::Listed;
 use standard_input::read_full;
 use std::io;
 
@@ -10,8 +9,8 @@ fn print_listing(rt: &impl Print, file: &[u8]) -> io::Result<()> {
     let mut work = [0u8; 65536];
     let mut text = [0u8; 32768];
     match listing::write_listing(file, &mut work, &mut text) {
-        Listed::Text(n) => rt.write_all(&text[..n]),
-        Listed::Refused(_) => Ok(()),
+        Ok(n) => rt.write_all(&text[..n]),
+        Err(_) => Ok(()),
     }
 }
 

@@ -4,7 +4,6 @@
 
 ghost use Rattle.std.specs.Prelude.{◌≤◌, length};
 
-use listing::Listed;
 use std::env::{Env, FillError};
 use std::io;
 
@@ -17,73 +16,50 @@ fn print_listing(rt: &impl Print, m: u8, query: &[u8]) -> io::Result<()> {
     let mut work = [0u8; 65536];
     let mut text = [0u8; 32768];
     match query_listing::write_query_listing(m, query, &mut work, &mut text) {
-        Listed::Text(n) => rt.write_all(&text[..n]),
-        Listed::Refused(_) => Ok(()),
+        Ok(n) => rt.write_all(&text[..n]),
+        Err(_) => Ok(()),
     }
 }
 
-// A number with one more digit; 256 where it is over 255, or the byte is no digit.
-fn with_digit(value: usize, b: u8) -> usize
-    requires { value ≤ 256 }
-    ensures { result ≤ 256 }
-{
-    if b < b'0' {
-        return 256;
+// A number with one more digit, if the byte is one, and the number at most 255.
+fn with_digit(value: u8, b: u8) -> Option<u8> {
+    if !b.is_ascii_digit() {
+        return None;
     }
-    if b'9' < b {
-        return 256;
-    }
-    let next = value * 10 + ((b - b'0') as usize);
-    if 255 < next {
-        return 256;
-    }
-    next
+    value.checked_mul(10)?.checked_add(b - b'0')
 }
 
-// The number that these digits are, or 256 where they are none of 0 to 255.
-fn relations_of(digits: &[u8]) -> usize
-    ensures { result ≤ 256 }
-{
-    if digits.len() < 1 {
-        return 256;
+// The number that these digits are, if they are one of 0 to 255. The library's `parse` takes a sign before them too.
+fn relations_of(digits: &[u8]) -> Option<u8> {
+    if digits.is_empty() {
+        return None;
     }
     let mut value = 0;
-    let mut i = 0;
-    while i < digits.len() {
-        value = with_digit(value, digits[i]);
-        i += 1;
+    for digit in digits {
+        value = with_digit(value, *digit)?;
     }
-    value
+    Some(value)
 }
 
 // Whether there is an argument i. One that the byte does not hold is there too.
 fn has_argument(rt: &impl Env, i: usize) -> bool {
     let mut byte = [0u8; 1];
-    match rt.arg(i, &mut byte) {
-        Err(FillError::NotPresent) => false,
-        Err(FillError::TooLong) => true,
-        Ok(_) => true,
-    }
+    !matches!(rt.arg(i, &mut byte), Err(FillError::NotPresent))
 }
 
 // The first argument's digits; one of over three bytes is no number of one byte, and counts as empty.
 fn read_digits(rt: &impl Env, digits: &mut [u8]) -> usize
     ensures { result ≤ length digits.new }
 {
-    match rt.arg(1, digits) {
-        Ok(n) => n,
-        Err(_) => 0,
-    }
+    rt.arg(1, digits).unwrap_or(0)
 }
 
 // The argument as far as it fits into the slice: one byte more than a query has makes it too long (FORMAT 11.5).
 fn read_text(rt: &impl Env, text: &mut [u8]) -> usize
     ensures { result ≤ length text.new }
 {
-    match rt.arg(2, text) {
-        Ok(n) => n,
-        Err(_) => text.len(),
-    }
+    let most = text.len();
+    rt.arg(2, text).unwrap_or(most)
 }
 
 fn main(rt: HostRuntime) -> io::Result<()> {
@@ -92,11 +68,10 @@ fn main(rt: HostRuntime) -> io::Result<()> {
     }
     let mut digits = [0u8; 3];
     let n = read_digits(&rt, &mut digits);
-    let m = relations_of(&digits[..n]);
-    if 255 < m {
+    let Some(m) = relations_of(&digits[..n]) else {
         return print_usage(&rt);
-    }
+    };
     let mut text = [0u8; 513];
     let size = read_text(&rt, &mut text);
-    print_listing(&rt, m as u8, &text[..size])
+    print_listing(&rt, m, &text[..size])
 }

@@ -1,5 +1,5 @@
 -- Laws of the listing: what was written is the text, and the answer in each case.
-use Rattle.std.specs.Prelude.{ℕ, ◌-◌, ◌≤◌, ◌<◌, ◌≡◌, refl, false, List, [], ◌∷◌, ◌++◌, ltb, length, take, drop}
+use Rattle.std.specs.Prelude.{ℕ, ◌-◌, ◌≤◌, ◌<◌, ◌≡◌, refl, false, List, [], ◌∷◌, ◌++◌, ltb, length, take, drop, Result, Ok, Err}
 use Rattle.std.proofs.Math.Path.{sym, ap}
 use Rattle.std.proofs.Common.{◌∙◌, arith, length-append}
 use borrow.Author.Tests.{lt-ltb, le-ltb}
@@ -9,9 +9,7 @@ use Rattle.refusal.specs.Number.{number_of}
 use Rattle.refusal.specs.declared.Refusal.{Refusal}
 use Rattle.refusal.specs.declared.Refusal.TheVariants.{WorkSpace, ResultSlice}
 use Rattle.attribute_set.specs.declared.AttrSet.{AttrSet}
-use Rattle.expression_file.specs.declared.files.Acceptance.{Acceptance}
-use Rattle.expression_file.specs.declared.files.Acceptance.TheVariants.{Accepted, Refused as FileRefused}
-use Rattle.expression_file.specs.ReadFile.{acceptance, node_at}
+use Rattle.expression_file.specs.ReadFile.{acceptance, node_at, Accepted}
 use Rattle.expression_file.specs.Accepted.{accepted-file}
 use Rattle.node_expression.specs.NodeExpression.{expression_at, expression-legal}
 use Rattle.stored_formula.specs.ColumnPlace.{column_at}
@@ -21,8 +19,6 @@ use Rattle.stored_formula.specs.FormulaLaws.{answer-refused, answer-filled, answ
 use Rattle.stored_formula.specs.FormulaBytesLaws.{stored-column}
 use Rattle.verdict_answer.specs.First.{allowed_at}
 use Rattle.verdict_answer.specs.Formed.{Formed, stored-formed}
-use Rattle.listing.specs.declared.Listed.{Listed}
-use Rattle.listing.specs.declared.Listed.TheVariants.{Text, Refused}
 use Rattle.text.specs.Characters.{decimal, newline}
 use Rattle.listing_lines.specs.Text.{text_of}
 use Rattle.listing_lines.specs.TextLaws.{text-accepted, text-refused}
@@ -31,18 +27,19 @@ use Rattle.text.specs.Put.{Wrote, wrote_as, wrote-front}
 use Rattle.listing_lines.specs.Lines.{lines_text}
 use Rattle.listing_entries.specs.Naming.{Named}
 use Rattle.listing_lines.specs.LineLaws.{lines_are}
+use Rattle.expression_file.specs.declared.files.Header.{Header}
 
 -- ---- the file, from Formula's answer
 
 -- the work space is never too short
-pub refused-file : (file : List ℕ) (size : ℕ) (r : Refusal) → 65536 ≤ size → formula_answer file size ≡ FileRefused r → acceptance file ≡ FileRefused r
+pub refused-file : (file : List ℕ) (size : ℕ) (r : Refusal) → 65536 ≤ size → formula_answer file size ≡ Err r → acceptance file ≡ Err r
 refused-file file size r enough e = go (acceptance file) refl
   where
-    go : (a : Acceptance) → acceptance file ≡ a → a ≡ FileRefused r
-    go (FileRefused q) is = sym (answer-refused file size q is) ∙ e
-    go (Accepted m n) is =
-        let few = (accepted-file file m n is).counts.nodes.1 in
-        let filled = answer-filled file size m n is (omega arith) in
+    go : (a : Result Header Refusal) → acceptance file ≡ a → a ≡ Err r
+    go (Err q) is = sym (answer-refused file size q is) ∙ e
+    go (Ok h) is =
+        let few = (accepted-file file h.relations h.nodes is).counts.nodes.1 in
+        let filled = answer-filled file size h.relations h.nodes is (omega arith) in
         absurd (let z : ◌≡◌ {A = ℕ} 0 1 = cc in omega arith)
 
 -- ---- what was written is the text
@@ -98,7 +95,7 @@ wrote-listing file work work' m n named text text' end enough e space named_in w
 pub wrote-refusal :
     (file : List ℕ) (size : ℕ) (r : Refusal) (text text' : List ℕ) (end : ℕ)
     → 65536 ≤ size
-    → formula_answer file size ≡ FileRefused r
+    → formula_answer file size ≡ Err r
     → Wrote 0 ((114 ∷ 101 ∷ 102 ∷ 117 ∷ 115 ∷ 101 ∷ 100 ∷ 32 ∷ []) ++ decimal (number_of r) ++ newline) text text' end
     → Wrote 0 (text_of file) text text' end
 wrote-refusal file size r text text' end enough e wrote = wrote_as (sym (text-refused file r (refused-file file size r enough e))) wrote
@@ -106,7 +103,7 @@ wrote-refusal file size r text text' end enough e wrote = wrote_as (sym (text-re
 -- ---- the answer and the slices, in each case
 
 -- answer and slices are as the listing's definitions say
-abbrev pub Outcome : List ℕ → List ℕ → List ℕ → Listed → List ℕ → List ℕ → Type 0
+abbrev pub Outcome : List ℕ → List ℕ → List ℕ → Result ℕ Refusal → List ℕ → List ℕ → Type 0
 Outcome file work text r work' text' =
     (r ≡ listed_answer file (length work) (length text))
     × ((text' ≡ listed_text file (length work) text) × (work' ≡ listed_space file work (length text)))
@@ -134,31 +131,31 @@ pub listed-goes :
     (file work text : List ℕ)
     → 65536 ≤ length work
     → 32768 ≤ length text
-    → (listed_answer file (length work) (length text) ≡ Text (length (text_of file)))
+    → (listed_answer file (length work) (length text) ≡ Ok (length (text_of file)))
     × (listed_text file (length work) text ≡ over (text_of file) text)
     × (listed_space file work (length text) ≡ formula_space file work)
 unfolding listed_answer listed_text listed_space
 listed-goes file work text h k =
-    (checked-both (length work) (length text) Refused _ h k, checked-both (length work) (length text) (λ r. text) _ h k, checked-both (length work) (length text) (λ r. work) _ h k)
+    (checked-both (length work) (length text) Err _ h k, checked-both (length work) (length text) (λ r. text) _ h k, checked-both (length work) (length text) (λ r. work) _ h k)
 
 module _ (file work text : List ℕ) where
-  pub listed-work : length work < 65536 → Outcome file work text (Refused WorkSpace) work text
+  pub listed-work : length work < 65536 → Outcome file work text (Err WorkSpace) work text
   unfolding listed_answer listed_text listed_space
   listed-work h =
-      (sym (checked-work (length work) (length text) Refused _ h), (sym (checked-work (length work) (length text) (λ r. text) _ h), sym (checked-work (length work) (length text) (λ r. work) _ h)))
+      (sym (checked-work (length work) (length text) Err _ h), (sym (checked-work (length work) (length text) (λ r. text) _ h), sym (checked-work (length work) (length text) (λ r. work) _ h)))
 
-  pub listed-text : 65536 ≤ length work → length text < 32768 → Outcome file work text (Refused ResultSlice) work text
+  pub listed-text : 65536 ≤ length work → length text < 32768 → Outcome file work text (Err ResultSlice) work text
   unfolding listed_answer listed_text listed_space
   listed-text h k =
-      (sym (checked-text (length work) (length text) Refused _ h k), (sym (checked-text (length work) (length text) (λ r. text) _ h k), sym (checked-text (length work) (length text) (λ r. work) _ h k)))
+      (sym (checked-text (length work) (length text) Err _ h k), (sym (checked-text (length work) (length text) (λ r. text) _ h k), sym (checked-text (length work) (length text) (λ r. work) _ h k)))
 
-  pub listed-done : (work' text' : List ℕ) (end : ℕ) → 65536 ≤ length work → 32768 ≤ length text → work' ≡ formula_space file work → Wrote 0 (text_of file) text text' end → Outcome file work text (Text end) work' text'
+  pub listed-done : (work' text' : List ℕ) (end : ℕ) → 65536 ≤ length work → 32768 ≤ length text → work' ≡ formula_space file work → Wrote 0 (text_of file) text text' end → Outcome file work text (Ok end) work' text'
   unfolding listed_answer listed_text listed_space
   listed-done work' text' end h k space wrote =
       let front = wrote-front wrote in
       let enough = le-ltb (length work) 65536 h in
       let room = le-ltb (length text) 32768 k in (
-        ap Text front.1 ∙ sym (checked-goes (length work) (length text) Refused _ enough room),
+        ap Ok front.1 ∙ sym (checked-goes (length work) (length text) Err _ enough room),
         (front.0 ∙ sym (checked-goes (length work) (length text) (λ r. text) _ enough room), space ∙ sym (checked-goes (length work) (length text) (λ r. work) _ enough room)),
       )
 
@@ -171,23 +168,23 @@ pub record ListedIn (bytes : List ℕ) (space size n : ℕ) : Type 0 where
   pub size_is : length bytes ≡ n
 
 -- the same of any text
-checked-in : (bytes : List ℕ) (space size n : ℕ) → checked space size Refused (Text (length bytes)) ≡ Text n → ListedIn bytes space size n
+checked-in : (bytes : List ℕ) (space size n : ℕ) → checked space size Err (Ok (length bytes)) ≡ Ok n → ListedIn bytes space size n
 checked-in bytes space size n e =
-    let work = refuse-past Refused (ltb space 65536) WorkSpace (refuse Refused (ltb size 32768) ResultSlice (Text (length bytes))) (never WorkSpace) e in
-    let text = refuse-past Refused (ltb size 32768) ResultSlice (Text (length bytes)) (never ResultSlice) work.1 in
+    let work = refuse-past Err (ltb space 65536) WorkSpace (refuse Err (ltb size 32768) ResultSlice (Ok (length bytes))) (never WorkSpace) e in
+    let text = refuse-past Err (ltb size 32768) ResultSlice (Ok (length bytes)) (never ResultSlice) work.1 in
     record { enough = work.0; room = text.0; size_is = sized text.1 }
   where
-    never : (r : Refusal) → Refused r ≡ Text n → ⊥
+    never : (r : Refusal) → Err r ≡ Ok n → ⊥
     never r q = let z : ◌≡◌ {A = ℕ} 0 1 = cc in omega arith
 
-    sized : {a b : ℕ} → Text a ≡ Text b → a ≡ b
+    sized : {a b : ℕ} → ◌≡◌ {A = Result ℕ Refusal} (Ok a) (Ok b) → a ≡ b
     sized q = cc
 
 -- it fits its slice
 pub checked-fits :
     (bytes : List ℕ) (space : ℕ) (text text' : List ℕ) (n : ℕ)
     → text' ≡ checked space (length text) (λ r. text) (over bytes text)
-    → checked space (length text) Refused (Text (length bytes)) ≡ Text n
+    → checked space (length text) Err (Ok (length bytes)) ≡ Ok n
     → n ≤ length text'
 checked-fits bytes space text text' n t e =
     let listed = checked-in bytes space (length text) n e in
@@ -197,12 +194,12 @@ checked-fits bytes space text text' n t e =
     omega arith
 
 -- of the text of a file
-pub listed_in : (file : List ℕ) (space size n : ℕ) → listed_answer file space size ≡ Text n → ListedIn (text_of file) space size n
+pub listed_in : (file : List ℕ) (space size n : ℕ) → listed_answer file space size ≡ Ok n → ListedIn (text_of file) space size n
 unfolding listed_answer
 listed_in file space size n e = checked-in (text_of file) space size n e
 
 -- its first n bytes are the text
-pub listed-whole : (file : List ℕ) (space : ℕ) (text : List ℕ) (n : ℕ) → listed_answer file space (length text) ≡ Text n → take n (listed_text file space text) ≡ text_of file
+pub listed-whole : (file : List ℕ) (space : ℕ) (text : List ℕ) (n : ℕ) → listed_answer file space (length text) ≡ Ok n → take n (listed_text file space text) ≡ text_of file
 unfolding listed_text
 listed-whole file space text n e =
     let listed = listed_in file space (length text) n e in
@@ -211,6 +208,6 @@ listed-whole file space text n e =
     ∙ take-over (text_of file) text
 
 -- the text fits its slice
-pub listed-fits : (file : List ℕ) (space : ℕ) (text text' : List ℕ) (n : ℕ) → text' ≡ listed_text file space text → listed_answer file space (length text) ≡ Text n → n ≤ length text'
+pub listed-fits : (file : List ℕ) (space : ℕ) (text text' : List ℕ) (n : ℕ) → text' ≡ listed_text file space text → listed_answer file space (length text) ≡ Ok n → n ≤ length text'
 unfolding listed_answer listed_text
 listed-fits file space text text' n t e = checked-fits (text_of file) space text text' n t e

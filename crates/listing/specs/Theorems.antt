@@ -7,18 +7,16 @@
 --   expression_at   the expression of a node                                             (crate node_expression, NodeExpression)
 --   node_text       the line of a node with its verdict                                  (crate listing_lines, Lines)
 --   listed_answer, listed_text, listed_space   what the listing leaves, by its contract    (Listing)
-use Rattle.std.specs.Prelude.{ℕ, ◌-◌, ◌≤◌, ◌≡◌, ◌↔◌, Bool, true, false, List, ◌++◌, length, take}
+use Rattle.std.specs.Prelude.{ℕ, ◌-◌, ◌≤◌, ◌≡◌, ◌↔◌, Bool, true, false, List, ◌++◌, length, take, Ok}
 use Rattle.std.proofs.Common.{sym, subst, ◌∙◌, arith}
 use Rattle.bits.specs.Booleans.{is_false}
 use Rattle.algebra.specs.Expression.{Legal}
 use Rattle.principal.specs.Principal.{FilledTyping}
-use Rattle.expression_file.specs.declared.files.Acceptance.TheVariants.{Accepted}
-use Rattle.expression_file.specs.ReadFile.{acceptance}
+use Rattle.expression_file.specs.ReadFile.{acceptance, Accepted}
 use Rattle.expression_file.specs.Accepted.{accepted-file}
 use Rattle.node_expression.specs.NodeExpression.{expression_at, expression-legal}
 use Rattle.stored_formula.specs.Formula.{formula_space}
 use Rattle.verdict_theorems.specs.WitnessLaws.{untypable-is, typable-typed}
-use Rattle.listing.specs.declared.Listed.TheVariants.{Text}
 use Rattle.listing_lines.specs.Text.{is_untypable}
 use Rattle.listing.specs.Listing.{listed_answer, listed_text, listed_space}
 use Rattle.listing_lines.specs.Lines.{node_text}
@@ -32,14 +30,14 @@ Says untypable k text = (rest : List ℕ) × (text ≡ node_text untypable k ++ 
 -- ---- slices in which a file is listed
 
 -- it leaves the work space as Formula does
-pub listing-space : (file work text : List ℕ) (size : ℕ) → listed_answer file (length work) (length text) ≡ Text size → listed_space file work (length text) ≡ formula_space file work
+pub listing-space : (file work text : List ℕ) (size : ℕ) → listed_answer file (length work) (length text) ≡ Ok size → listed_space file work (length text) ≡ formula_space file work
 unfolding listed_space
 listing-space file work text size listed =
     let passed = listed_in file (length work) (length text) size listed in
     checked-goes (length work) (length text) (λ r. work) (formula_space file work) passed.enough passed.room
 
 -- an accepted file, and slices in which it is listed: what the text slice then holds
-module _ (file work text : List ℕ) (m n : ℕ) (accepted : acceptance file ≡ Accepted m n) (size : ℕ) (listed : listed_answer file (length work) (length text) ≡ Text size) where
+module _ (file work text : List ℕ) (m n : ℕ) (accepted : acceptance file ≡ Accepted m n) (size : ℕ) (listed : listed_answer file (length work) (length text) ≡ Ok size) where
   -- what the file's acceptance says of its last node
   few : m ≤ 8
   few = (accepted-file file m n accepted).counts.relations.1

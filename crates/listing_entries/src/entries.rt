@@ -1,11 +1,11 @@
 // The list of a line: one entry for each subset that it has (FORMAT 7.15, 7.16).
-ghost use Rattle.std.specs.Prelude.{◌≡◌, ◌++◌, ◌<◌, ◌+◌, ◌≤◌, length};
-ghost use Rattle.text.specs.Put.{Wrote};
+ghost use Rattle.std.specs.Prelude.{◌≡◌, ◌++◌, ◌<◌, ◌+◌, ◌≤◌};
+ghost use Rattle.text.specs.Written.{HasRoom, Writes};
 ghost use Rattle.text.specs.Characters.{newline};
 ghost use Rattle.listing_entries.specs.Entries.{KindFits, listed, sign_text, entry_text, list_text};
 
 use column::{allowed_in, output_in};
-use text::{write_byte, write_subset};
+use text::Writer;
 
 // Which subsets a list has.
 #[derive(Clone, Copy)]
@@ -25,69 +25,53 @@ fn is_listed(kind: Kind, column: [u8; 64], s: usize) -> bool
     ensures { result ≡ listed kind column s }
 {
     match kind {
-        Kind::Variables(r) => {
-            if s == 0 {
-                return false;
-            }
-            if !allowed_in(&column, s) {
-                return false;
-            }
-            (s >> r) % 2 == 1
-        }
-        Kind::Output => {
-            if s == 0 {
-                return false;
-            }
-            output_in(&column, s)
-        }
+        Kind::Variables(r) => 0 < s && allowed_in(&column, s) && (s >> r) % 2 == 1,
+        Kind::Output => 0 < s && output_in(&column, s),
         Kind::Signed => allowed_in(&column, s),
     }
 }
 
 // What follows a subset's digits: a sign, or nothing.
-fn write_sign(text: &mut [u8], at: usize, kind: Kind, column: [u8; 64], s: usize) -> usize
-    requires { (s < 256) × (at + 1 ≤ length text.old) }
-    ensures wrote { Wrote at (sign_text kind column s) text.old text.new result }
-    ensures upper_bound { result ≤ at + 1 }
+fn write_sign(writer: &mut Writer<'_>, kind: Kind, column: [u8; 64], s: usize)
+    requires { (s < 256) × HasRoom 1 writer.old }
+    ensures wrote { Writes (sign_text kind column s) writer.old writer.new }
+    ensures upper_bound { writer.new.at ≤ writer.old.at + 1 }
 {
     match kind {
-        Kind::Variables(_) => at,
-        Kind::Output => at,
+        Kind::Variables(_) => {}
+        Kind::Output => {}
         Kind::Signed => {
             if output_in(&column, s) {
-                return write_byte(text, at, b'+');
+                writer.write_byte(b'+');
+            } else {
+                writer.write_byte(b'-');
             }
-            write_byte(text, at, b'-')
         }
     }
 }
 
 // What the line has for subset s.
-fn write_entry(text: &mut [u8], at: usize, kind: Kind, column: [u8; 64], s: usize) -> usize
+fn write_entry(writer: &mut Writer<'_>, kind: Kind, column: [u8; 64], s: usize)
     requires kind_fits { KindFits kind }
-    requires s_bound { (s < 256) × (at + 4 ≤ length text.old) }
-    ensures wrote { Wrote at (entry_text kind column s) text.old text.new result }
-    ensures upper_bound { result ≤ at + 4 }
+    requires s_bound { (s < 256) × HasRoom 4 writer.old }
+    ensures wrote { Writes (entry_text kind column s) writer.old writer.new }
+    ensures upper_bound { writer.new.at ≤ writer.old.at + 4 }
 {
-    if !is_listed(kind, column, s) {
-        return at;
+    if is_listed(kind, column, s) {
+        writer.write_subset(s as u8);
+        write_sign(writer, kind, column, s);
     }
-    let next = write_subset(text, at, s as u8);
-    write_sign(text, next, kind, column, s)
 }
 
 // The list of a column, and the line's end.
-pub fn write_list(text: &mut [u8], at: usize, kind: Kind, column: [u8; 64]) -> usize
+pub fn write_list(writer: &mut Writer<'_>, kind: Kind, column: [u8; 64])
     requires kind_fits { KindFits kind }
-    requires at_in_bounds { at + 1025 ≤ length text.old }
-    ensures wrote { Wrote at (list_text kind column ++ newline) text.old text.new result }
-    ensures upper_bound { result ≤ at + 1025 }
+    requires at_in_bounds { HasRoom 1025 writer.old }
+    ensures wrote { Writes (list_text kind column ++ newline) writer.old writer.new }
+    ensures upper_bound { writer.new.at ≤ writer.old.at + 1025 }
 {
-    let mut end = at;
-    let mut s = 0;
-    while s < 256 {
-        end = write_entry(text, end, kind, column, s);
-        s += 1;
+    for s in 0..256 {
+        write_entry(writer, kind, column, s);
     }
-    write_byte(text, end, b'\n')
+    writer.write_byte(b'\n');
 }

@@ -1,6 +1,6 @@
 -- The lines off the columns in the work space are the lines of the text.
 use Rattle.std.specs.Prelude.{ℕ, ◌+◌, ◌-◌, ◌≤◌, ◌<◌, ◌≡◌, refl, Bool, true, false, cond, ◌&&◌, ltb}
-use Rattle.std.proofs.Common.{sym, ◌∙◌, arith}
+use Rattle.std.proofs.Common.{sym, ◌∙◌, arith, lit<}
 use Rattle.std.proofs.Math.Path.{ap, ap₂}
 use mathlib.Core.List.{List, [], ◌∷◌, ◌++◌, append-nil}
 use Rattle.bits.specs.Bit.{bit}
@@ -15,14 +15,14 @@ use Rattle.stored_formula.specs.FormulaBytes.{allowed_bit, output_bit, cell_colu
 use Rattle.stored_formula.specs.FormulaBytesLaws.{output-within}
 use Rattle.stored_formula.specs.NodeColumn.{cell-allowed, cell-output}
 use Rattle.verdict_answer.specs.First.{allowed_at}
-use Rattle.verdict_answer.specs.FirstLaws.{stored-cells}
+use Rattle.verdict_answer.specs.FirstLaws.{formula-cells, stored-cells}
 use Rattle.verdict_answer.proofs.VerdictLaws.{same-untypable}
 use Rattle.listing_entries.specs.declared.entries.Kind.TheVariants.{Variables, Output, Signed}
 use Rattle.text.specs.Characters.{decimal, subset_text, newline}
 use Rattle.text.specs.Each.{each, each_same}
 use Rattle.listing_entries.specs.Entries.{when_so, list_text, entry-text}
 use Rattle.listing_lines.specs.Text.{is_said, untypable_by, is_untypable, verdict_text, node_line, relation_line, out_line, attribute_line, listing}
-use Rattle.listing_lines.specs.Lines.{node_text, label, line_text, relation_text, out_text, attribute_text, attributes_text, lines_text}
+use Rattle.listing_lines.specs.Lines.{node_text, label, line_text, relation_text, out_text, attribute_text, attributes_text, lines_text, formula_lines}
 use Rattle.listing_entries.specs.Naming.{named_below, Named, named-is}
 
 -- ---- lists off an expression's columns
@@ -94,3 +94,19 @@ lines_are file work m n named few columns named_in =
     (ap₂ ◌++◌ (node-line work (n - 1) m few e columns) (relation-lines work (n - 1) m few e columns))
     (ap out_text (columns 0 (omega arith)) ∙ out_line_lem m e))
     (attribute-lines work (n - 1) m few e columns named (named_below (node_at file) n) (named-is (node_at file) n named named_in))
+
+-- the lines off a formula by itself are those off the work space in which it stands at node k
+pub lines-alone :
+    (formula work : List ℕ) (k m : ℕ) (named : AttrSet)
+    → m ≤ 8
+    → ((c : ℕ) → c < 16 → column_at formula 0 c ≡ column_at work k c)
+    → formula_lines formula m k named ≡ lines_text work m k named
+unfolding formula_lines lines_text attributes_text attribute_text
+lines-alone formula work k m named few columns =
+    ap₂ ◌++◌
+    (ap₂ ◌++◌
+    (ap₂ ◌++◌
+    (ap (λ (a : ℕ). node_text (is_said a) k) (same-untypable m few (allowed_at formula 0) (allowed_at work k) (formula-cells formula work k columns)))
+    (ap (λ (l : List ℕ). each m (relation_text l)) (columns 0 (lit< tt))))
+    (ap out_text (columns 0 (lit< tt))))
+    (each_same 15 _ _ (λ j h. ap (λ (l : List ℕ). when_so (has_attribute named (j + 1)) (line_text 97 (j + 1) Signed l)) (columns (j + 1) (omega arith))))

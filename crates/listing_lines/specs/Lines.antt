@@ -46,3 +46,11 @@ lines_text work m node named =
     ++ each m (relation_text (column_at work node 0))
     ++ out_text (column_at work node 0)
     ++ attributes_text work node named
+
+-- all lines of node k, off its formula
+unfoldable pub formula_lines : List ℕ → ℕ → ℕ → AttrSet → List ℕ
+formula_lines formula m k named =
+    node_text (untypable_by m (allowed_at formula 0)) k
+    ++ each m (relation_text (column_at formula 0 0))
+    ++ out_text (column_at formula 0 0)
+    ++ attributes_text formula 0 named

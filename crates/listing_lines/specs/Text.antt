@@ -1,19 +1,19 @@
 -- The text that the listing program prints for the last node of an expression file (FORMAT 7.15 to 7.17).
-use Rattle.std.specs.Prelude.{ℕ, ◌+◌, ◌-◌, Bool, true, false, cond, ◌&&◌, List, [], ◌∷◌, ◌++◌, ltb}
+use Rattle.std.specs.Prelude.{ℕ, ◌+◌, ◌-◌, Bool, true, false, cond, ◌&&◌, List, [], ◌∷◌, ◌++◌, ltb, Result, Err, Ok}
 use Rattle.bits.specs.Bit.{bit}
 use Rattle.text.specs.Characters.{decimal, subset_text, newline}
 use Rattle.text.specs.Each.{each}
 use Rattle.refusal.specs.Number.{number_of}
 use Rattle.algebra.specs.Expression.{Expression}
 use Rattle.states.specs.Formula.{type_variable}
-use Rattle.expression_file.specs.declared.files.Acceptance.{Acceptance}
-use Rattle.expression_file.specs.declared.files.Acceptance.TheVariants.{Accepted, Refused}
 use Rattle.expression_file.specs.ReadFile.{acceptance, node_at}
 use Rattle.node_expression.specs.NodeExpression.{expression_at}
 use Rattle.stored_formula.specs.FormulaBytes.{allowed_bit, output_bit}
 use Rattle.verdict_answer.specs.Verdict.{untypable_in}
 use Rattle.listing_entries.specs.Entries.{when_so}
 use Rattle.listing_entries.specs.Naming.{named_below}
+use Rattle.refusal.specs.declared.Refusal.{Refusal}
+use Rattle.expression_file.specs.declared.files.Header.{Header}
 
 -- ---- lines
 
@@ -65,9 +65,9 @@ listing file m n =
     ++ each 15 (λ j. when_so (named_below (node_at file) n (j + 1)) (attribute_line m (expression_at file (n - 1)) (j + 1)))
 
 -- FORMAT 7.17: the lines, or the one line of a refused file
-abbrev pub text_after : Acceptance → List ℕ → List ℕ
-text_after (Accepted m n) file = listing file m n
-text_after (Refused r) file = (114 ∷ 101 ∷ 102 ∷ 117 ∷ 115 ∷ 101 ∷ 100 ∷ 32 ∷ []) ++ decimal (number_of r) ++ newline
+abbrev pub text_after : Result Header Refusal → List ℕ → List ℕ
+text_after (Ok h) file = listing file h.relations h.nodes
+text_after (Err r) file = (114 ∷ 101 ∷ 102 ∷ 117 ∷ 115 ∷ 101 ∷ 100 ∷ 32 ∷ []) ++ decimal (number_of r) ++ newline
 
 -- FORMAT 7.15, 7.17: the text of a file
 unfoldable pub text_of : List ℕ → List ℕ

@@ -1,13 +1,11 @@
 -- Laws of the text: of a file that is accepted or refused, the part of a file that it depends on, and the line of a
 -- node.
-use Rattle.std.specs.Prelude.{ℕ, ◌+◌, ◌-◌, ◌≤◌, ◌<◌, ◌≡◌, refl, ◌↔◌, Bool, true, false, List, [], ◌∷◌, ◌++◌, length, get_or, take}
+use Rattle.std.specs.Prelude.{ℕ, ◌+◌, ◌-◌, ◌≤◌, ◌<◌, ◌≡◌, refl, ◌↔◌, Bool, true, false, List, [], ◌∷◌, ◌++◌, length, get_or, take, Result, Err, Ok}
 use Rattle.std.proofs.Common.{sym, ap, ◌∙◌, append_assoc, arith, lt-ltb, ltb-true, ltb-false, get_or-append-add, take_all}
 use Rattle.refusal.specs.Number.{number_of}
 use Rattle.refusal.specs.declared.Refusal.{Refusal}
 use Rattle.algebra.specs.Expression.{Expression}
-use Rattle.expression_file.specs.declared.files.Acceptance.{Acceptance}
-use Rattle.expression_file.specs.declared.files.Acceptance.TheVariants.{Accepted, Refused as FileRefused}
-use Rattle.expression_file.specs.ReadFile.{acceptance}
+use Rattle.expression_file.specs.ReadFile.{acceptance, Accepted}
 use Rattle.expression_file.specs.Walk.{file-most}
 use Rattle.expression_file.specs.Enough.{enough}
 use Rattle.node_expression.specs.NodeExpression.{expression_at}
@@ -16,25 +14,26 @@ use Rattle.verdict_answer.specs.Verdict.{untypable_in}
 use Rattle.text.specs.Characters.{decimal, newline}
 use Rattle.listing_lines.specs.Text.{is_untypable, verdict_text, node_line, listing, text_after, text_of}
 use Rattle.listing_lines.specs.Lines.{node_text}
+use Rattle.expression_file.specs.declared.files.Header.{Header}
 
 -- ---- the text of a file that is accepted, and of one that is refused
 
 pub text-accepted : (file : List ℕ) (m n : ℕ) → acceptance file ≡ Accepted m n → text_of file ≡ listing file m n
 unfolding text_of
-text-accepted file m n e = ap (λ (a : Acceptance). text_after a file) e
+text-accepted file m n e = ap (λ (a : Result Header Refusal). text_after a file) e
 
-pub text-refused : (file : List ℕ) (r : Refusal) → acceptance file ≡ FileRefused r → text_of file ≡ (114 ∷ 101 ∷ 102 ∷ 117 ∷ 115 ∷ 101 ∷ 100 ∷ 32 ∷ []) ++ decimal (number_of r) ++ newline
+pub text-refused : (file : List ℕ) (r : Refusal) → acceptance file ≡ Err r → text_of file ≡ (114 ∷ 101 ∷ 102 ∷ 117 ∷ 115 ∷ 101 ∷ 100 ∷ 32 ∷ []) ++ decimal (number_of r) ++ newline
 unfolding text_of
-text-refused file r e = ap (λ (a : Acceptance). text_after a file) e
+text-refused file r e = ap (λ (a : Result Header Refusal). text_after a file) e
 
 -- the text depends on the first 323 bytes of a file
 pub enough-text : (file : List ℕ) → text_of (take 323 file) ≡ text_of file
 unfolding text_of
-enough-text file = ap (λ (a : Acceptance). text_after a (take 323 file)) (enough file) ∙ go (acceptance file) refl
+enough-text file = ap (λ (a : Result Header Refusal). text_after a (take 323 file)) (enough file) ∙ go (acceptance file) refl
   where
-    go : (a : Acceptance) → acceptance file ≡ a → text_after a (take 323 file) ≡ text_after a file
-    go (FileRefused r) e = refl
-    go (Accepted m n) e = let most = file-most file m n e in ap (text_after (Accepted m n)) (take_all 323 file (omega arith))
+    go : (a : Result Header Refusal) → acceptance file ≡ a → text_after a (take 323 file) ≡ text_after a file
+    go (Err r) e = refl
+    go (Ok h) e = let most = file-most file h.relations h.nodes e in ap (text_after (Accepted h.relations h.nodes)) (take_all 323 file (omega arith))
 
 -- ---- the line of a node
 

@@ -88,6 +88,12 @@ taken-below {items} {count} fit = all-below 16777216 (take count items) (λ i. g
     go i (yes h) = rw (get_or-take count items i 0 h) (fit.below i h)
     go i (no h) = let size = items-taken fit in rw (get_or-eq_default (take count items) 0 {n = i} (omega arith)) (lit< tt)
 
+-- the first of them are a slice of their own
+pub taken-fit : {items : List ℕ} {count : ℕ} → ItemsFit items count → ItemsFit (take count items) (length (take count items))
+taken-fit {items} {count} fit =
+    let size = items-taken fit in
+    record { enough = omega arith; below = λ i inside. rw (get_or-take count items i 0 (omega arith)) (fit.below i (omega arith)) }
+
 -- ---- attributes that are kept, in a slice
 
 module _ (items : List ℕ) (count : ℕ) (test : ℕ → Bool) {n : ℕ} (list : List ℕ) (number : n ≡ length (kept test (take count items))) (is : take n list ≡ kept test (take count items)) where

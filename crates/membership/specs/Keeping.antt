@@ -24,8 +24,8 @@ keeping-first test es list = record { tested = omega arith; fewer = omega arith;
 
 module _ {test : ℕ → Bool} {es before list : List ℕ} {k i : ℕ} (h : Keeping test es before list k i) where
   -- an entry's attribute is written, and counts if it passes
-  next : {a d : ℕ} → i < length es → length es ≤ length before → a ≡ attribute_of (get_or es i 0) → d ≡ cond (test (get_or es i 0)) 1 0 → Keeping test es before (set list k a) (k + d) (i + 1)
-  next {a} {d} inside fits is digit = rw digit (go (test (get_or es i 0)) refl)
+  pub kept-next : {a d : ℕ} → i < length es → length es ≤ length before → a ≡ attribute_of (get_or es i 0) → d ≡ cond (test (get_or es i 0)) 1 0 → Keeping test es before (set list k a) (k + d) (i + 1)
+  kept-next {a} {d} inside fits is digit = rw digit (go (test (get_or es i 0)) refl)
     where
       split : kept test (drop i es) ≡ kept test (get_or es i 0 ∷ drop (suc i) es)
       split = ap (kept test) (drop-cons es i 0 inside)
@@ -62,8 +62,8 @@ module _ {test : ℕ → Bool} {es before list : List ℕ} {k i : ℕ} (h : Keep
           up_to x below = omega arith
 
   -- all entries are tested
-  end : length es ≤ i → length es ≤ length before → (k ≡ length (kept test es)) × (take k list ≡ kept test es)
-  end all fits =
+  pub kept-all : length es ≤ i → length es ≤ length before → (k ≡ length (kept test es)) × (take k list ≡ kept test es)
+  kept-all all fits =
       let tested = h.tested in
       let empty : drop k (kept test es) ≡ [] = h.rest ∙ ap (kept test) (drop_of_length-le es {i = i} (omega arith)) in
       let left = length-drop k (kept test es) in
@@ -88,7 +88,7 @@ module _ (items : List ℕ) (count : ℕ) {test : ℕ → Bool} {before list : L
   keeping-next inside digit =
       let size = size_is in
       let here = get_or-take count items i 0 inside in
-      next h (omega arith) (omega arith) (ap attribute_of (sym here)) (rw here digit)
+      kept-next h (omega arith) (omega arith) (ap attribute_of (sym here)) (rw here digit)
 
   pub keeping-end : count ≤ i → (k ≡ length (kept test (take count items))) × (take k list ≡ kept test (take count items))
-  keeping-end all = let size = size_is in end h (omega arith) (omega arith)
+  keeping-end all = let size = size_is in kept-all h (omega arith) (omega arith)

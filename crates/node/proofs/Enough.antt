@@ -1,5 +1,5 @@
 -- How much of the bytes a node's reading depends on: its own bytes, so at most the first five.
-use Rattle.std.specs.Prelude.{ℕ, ◌≤◌, ◌≡◌, Bool, get_or, take, drop, []}
+use Rattle.std.specs.Prelude.{ℕ, ◌≤◌, ◌≡◌, Bool, get_or, take, drop, [], Err}
 use Rattle.std.proofs.Math.Path.{refl, sym, ap}
 use Rattle.std.proofs.Common.{subst, ◌∙◌, arith, take-append-drop, length-take-le, get_or-take}
 use Rattle.std.proofs.Math.Bool.{true, false, not}
@@ -8,10 +8,8 @@ use borrow.Author.Tests.{le-ltb}
 use Rattle.std.proofs.Math.ListN.{length}
 use Rattle.refusal.specs.Chain.{refuse, refuse-stops, refuse-passes}
 use Rattle.refusal.specs.declared.Refusal.TheVariants.{NodeMap}
-use Rattle.node.specs.declared.checking.Check.TheVariants.{Refused}
 use Rattle.node.specs.declared.nodes.Node.{Node}
-use Rattle.node.specs.declared.nodes.Reading.TheVariants.{Read}
-use Rattle.node.specs.ReadNode.{size_of, value_of, legal, check_fields, check_node, node_with, node_of, with_node, read_node}
+use Rattle.node.specs.ReadNode.{size_of, value_of, legal, check_fields, check_node, node_with, node_of, with_node, read_node, Read}
 use Rattle.node.specs.Legal.{legal-cases}
 use Rattle.node.specs.Reading.{read-checked, node-legal}
 use Rattle.node.specs.Enough.{fields_read, legal-size}
@@ -73,9 +71,9 @@ module _ (m k : ℕ) (b : List ℕ) where
           (t : Bool)
           → legal x ≡ t
           → with_node (node_with x (value_of x (x ∷ (r ++ b))))
-          (refuse Refused (not (legal x)) NodeMap (check_fields m k x (x ∷ (r ++ b))))
+          (refuse Err (not (legal x)) NodeMap (check_fields m k x (x ∷ (r ++ b))))
           ≡ with_node (node_with x (value_of x (x ∷ r)))
-          (refuse Refused (not (legal x)) NodeMap (check_fields m k x (x ∷ r)))
+          (refuse Err (not (legal x)) NodeMap (check_fields m k x (x ∷ r)))
       go true e =
           ap (with_node _) (refuse-passes _ _ _ _ (ap not e))
           ∙ fields-local x (x ∷ r) e (whole e)

@@ -2,8 +2,7 @@
 use Rattle.std.specs.Prelude.{ℕ, ◌+◌, ◌≡◌, List, ◌++◌, length}
 use Rattle.std.proofs.Common.{ap, ◌∙◌}
 use Rattle.node.specs.declared.nodes.Node.{Node}
-use Rattle.node.specs.declared.nodes.Reading.TheVariants.{Read}
-use Rattle.node.specs.ReadNode.{read_node}
+use Rattle.node.specs.ReadNode.{read_node, Read}
 use Rattle.node.specs.Legal.{LegalNode}
 use Rattle.node.specs.Reading.{checked-read}
 use Rattle.node.specs.NodeBytes.{bytes-checked, bytes-node, node_bytes}

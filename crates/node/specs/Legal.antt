@@ -1,6 +1,6 @@
 -- What passes a check: a legal map, and a node whose operands are earlier, whose relation is below m, whose attributes
 -- are special, whose set has bit 0 clear.
-use Rattle.std.specs.Prelude.{ℕ, ◌+◌, ◌*◌, ◌%◌, ◌<◌, ◌≤◌, ◌≡◌, Bool, true, false, ◌||◌, List, T, eqb, leb, length, get_or}
+use Rattle.std.specs.Prelude.{ℕ, ◌+◌, ◌*◌, ◌%◌, ◌<◌, ◌≤◌, ◌≡◌, Bool, true, false, ◌||◌, List, T, eqb, leb, length, get_or, Result, Ok, Err}
 use Rattle.std.proofs.Math.Path.{refl}
 use Rattle.std.proofs.Common.{sym, ap, subst, ◌∙◌, arith, lit≤}
 use borrow.Author.Tests.{ltb-false, leb-false, eqb-true, not-false}
@@ -12,8 +12,6 @@ use Rattle.refusal.specs.Chain.{refuse, refuse-has}
 use Rattle.refusal.specs.declared.Refusal.{Refusal}
 use Rattle.node.specs.declared.nodes.Node.{Node}
 use Rattle.node.specs.declared.nodes.Node.TheVariants.{Relation, Binary, WithSet, Renaming, ProjectingOut}
-use Rattle.node.specs.declared.checking.Check.{Check}
-use Rattle.node.specs.declared.checking.Check.TheVariants.{Legal, Refused}
 use Rattle.node.specs.ReadNode.{size_of, value_of, legal, check_fields, check_node, node_with, node_of}
 
 -- a legal map is one of five
@@ -61,17 +59,17 @@ pub record LegalReading (m k : ℕ) (bytes : List ℕ) (node : Node) (size : ℕ
 
 -- what a check of bytes with this map gives: their size, where they hold a legal node, or a
 -- refusal of the file's own bytes
-pub data SoundCheck (m k map : ℕ) (bytes : List ℕ) : Check → Type 0 where
-  refused : {r : Refusal} → number_of r ≤ 10 → SoundCheck m k map bytes (Refused r)
-  passed : {size : ℕ} → legal map ≡ true → size ≡ size_of map → LegalReading m k bytes (node_with map (value_of map bytes)) size → SoundCheck m k map bytes (Legal size)
+pub data SoundCheck (m k map : ℕ) (bytes : List ℕ) : Result ℕ Refusal → Type 0 where
+  refused : {r : Refusal} → number_of r ≤ 10 → SoundCheck m k map bytes (Err r)
+  passed : {size : ℕ} → legal map ≡ true → size ≡ size_of map → LegalReading m k bytes (node_with map (value_of map bytes)) size → SoundCheck m k map bytes (Ok size)
 
 module _ (m k : ℕ) (bytes : List ℕ) where
   -- ---- what holds of each end of a chain of refusals holds of the chain
 
-  by-refuse : {map : ℕ} (t : Bool) (r : Refusal) {next : Check} → number_of r ≤ 10 → (t ≡ false → SoundCheck m k map bytes next) → SoundCheck m k map bytes (refuse Refused t r next)
-  by-refuse {map} t r {next} h f = refuse-has (SoundCheck m k map bytes) Refused t r next (refused h) f
+  by-refuse : {map : ℕ} (t : Bool) (r : Refusal) {next : Result ℕ Refusal} → number_of r ≤ 10 → (t ≡ false → SoundCheck m k map bytes next) → SoundCheck m k map bytes (refuse Err t r next)
+  by-refuse {map} t r {next} h f = refuse-has (SoundCheck m k map bytes) Err t r next (refused h) f
 
-  by-legal : (map size : ℕ) → legal map ≡ true → size ≡ size_of map → LegalNode m k (node_with map (value_of map bytes)) → size ≤ length bytes → T (leb 2 size) → T (leb size 5) → SoundCheck m k map bytes (Legal size)
+  by-legal : (map size : ℕ) → legal map ≡ true → size ≡ size_of map → LegalNode m k (node_with map (value_of map bytes)) → size ≤ length bytes → T (leb 2 size) → T (leb size 5) → SoundCheck m k map bytes (Ok size)
   by-legal map size map_is size_is ok fits least most = passed map_is size_is (record { legal = ok; fits = fits; least = lit≤ least; most = lit≤ most })
 
   -- ---- the five chains
@@ -133,12 +131,12 @@ pub record Passed (m k : ℕ) (bytes : List ℕ) (size : ℕ) : Type 0 where
   pub size_is : size ≡ size_of (get_or bytes 0 0)
   pub reading : LegalReading m k bytes (node_of bytes) size
 
-passed_is : {m k size : ℕ} {bytes : List ℕ} → SoundCheck m k (get_or bytes 0 0) bytes (Legal size) → Passed m k bytes size
+passed_is : {m k size : ℕ} {bytes : List ℕ} → SoundCheck m k (get_or bytes 0 0) bytes (Ok size) → Passed m k bytes size
 unfolding node_of
 passed_is (passed map_is size_is reading) = record { map-legal = map_is; size_is = size_is; reading = reading }
 
-pub node-passed : (m k : ℕ) (bytes : List ℕ) (size : ℕ) → check_node m k bytes ≡ Legal size → Passed m k bytes size
+pub node-passed : (m k : ℕ) (bytes : List ℕ) (size : ℕ) → check_node m k bytes ≡ Ok size → Passed m k bytes size
 node-passed m k bytes size e = passed_is (subst (SoundCheck m k (get_or bytes 0 0) bytes) e (check_sound m k bytes))
 
-pub refused-number : {m k map : ℕ} {bytes : List ℕ} {r : Refusal} → SoundCheck m k map bytes (Refused r) → number_of r ≤ 10
+pub refused-number : {m k map : ℕ} {bytes : List ℕ} {r : Refusal} → SoundCheck m k map bytes (Err r) → number_of r ≤ 10
 refused-number (refused h) = h

@@ -1,5 +1,5 @@
 -- The bytes of a node (FORMAT 1.4): reading them gives the node back, and what is read is made of them.
-use Rattle.std.specs.Prelude.{ℕ, ◌+◌, ◌*◌, ◌/◌, ◌%◌, ◌≤◌, ◌<◌, ◌≡◌, refl, Bool, true, false, cond, not, List, ◌∷◌, ◌++◌, eqb, length, get_or, take, []}
+use Rattle.std.specs.Prelude.{ℕ, ◌+◌, ◌*◌, ◌/◌, ◌%◌, ◌≤◌, ◌<◌, ◌≡◌, refl, Bool, true, false, cond, not, List, ◌∷◌, ◌++◌, eqb, length, get_or, take, [], Result, Ok, Err}
 use Rattle.std.proofs.Common.{sym, ap, ap₂, subst, ◌∙◌, arith, lit≤}
 use borrow.Author.Tests.{le-ltb, lt-leb, eqb-true, eqb-false, not-false}
 use Rattle.bits.specs.Bit.{bit}
@@ -16,11 +16,8 @@ use Rattle.node.specs.declared.nodes.SetOp.{SetOp}
 use Rattle.node.specs.declared.nodes.SetOp.TheVariants.{Selection, Projection}
 use Rattle.node.specs.declared.nodes.Node.{Node}
 use Rattle.node.specs.declared.nodes.Node.TheVariants.{Relation, Binary, WithSet, Renaming, ProjectingOut}
-use Rattle.node.specs.declared.nodes.Reading.TheVariants.{Read}
-use Rattle.node.specs.declared.checking.Check.{Check}
-use Rattle.node.specs.declared.checking.Check.TheVariants.{Legal, Refused}
 use Rattle.node.specs.Operators.{binary_of, set_op_of, binary_code, set_code}
-use Rattle.node.specs.ReadNode.{size_of, value_of, check_fields, check_node, node_with, node_of, read_node}
+use Rattle.node.specs.ReadNode.{size_of, value_of, check_fields, check_node, node_with, node_of, read_node, Read}
 use Rattle.node.specs.Legal.{legal-cases, LegalNode, node-passed}
 use Rattle.node.specs.Reading.{read-checked}
 
@@ -55,7 +52,7 @@ set-code-known Selection = (range-in 5 6 5 (lit≤ tt) (lit≤ tt), refl)
 set-code-known Projection = (range-in 5 6 6 (lit≤ tt) (lit≤ tt), refl)
 
 -- the bytes of a legal node, whatever follows them, pass the check
-pub bytes-checked : (m k : ℕ) (node : Node) (rest : List ℕ) → LegalNode m k node → check_node m k (node_bytes node ++ rest) ≡ Legal (length (node_bytes node))
+pub bytes-checked : (m k : ℕ) (node : Node) (rest : List ℕ) → LegalNode m k node → check_node m k (node_bytes node ++ rest) ≡ Ok (length (node_bytes node))
 unfolding check_node check_fields size_of
 bytes-checked m k (Relation r) rest h =
     let bytes : List ℕ = 1 ∷ r ∷ rest in
@@ -146,15 +143,15 @@ set-code-back c e = let range = in-range 5 6 c e in go range.0 range.1 (eqb c 5)
     go l h false i = sixth c l h (eqb-false c 5 i)
 
 module _ (m k : ℕ) (bytes : List ℕ) (size : ℕ) where
-  never : (r : Refusal) → Refused r ≡ Legal size → ⊥
+  never : (r : Refusal) → Err r ≡ Ok size → ⊥
   never r e = let z : ◌≡◌ {A = ℕ} 0 1 = cc in omega arith
 
   -- a test that did not refuse, and what comes after it
-  past : (t : Bool) (r : Refusal) (next : Check) → refuse Refused t r next ≡ Legal size → (t ≡ false) × (next ≡ Legal size)
-  past t r next e = refuse-past Refused t r next (never r) e
+  past : (t : Bool) (r : Refusal) (next : Result ℕ Refusal) → refuse Err t r next ≡ Ok size → (t ≡ false) × (next ≡ Ok size)
+  past t r next e = refuse-past Err t r next (never r) e
 
   -- the code of a node of map 14 that passed
-  binary-code : check_fields m k 14 bytes ≡ Legal size → in_range 1 4 (get_or bytes 3 0) ≡ true
+  binary-code : check_fields m k 14 bytes ≡ Ok size → in_range 1 4 (get_or bytes 3 0) ≡ true
   unfolding check_fields size_of
   binary-code e =
       let enough = past _ _ _ e in
@@ -163,7 +160,7 @@ module _ (m k : ℕ) (bytes : List ℕ) (size : ℕ) where
       not-false _ (past _ _ _ right.1).0
 
   -- and of map 26
-  set-code : check_fields m k 26 bytes ≡ Legal size → in_range 5 6 (get_or bytes 2 0) ≡ true
+  set-code : check_fields m k 26 bytes ≡ Ok size → in_range 5 6 (get_or bytes 2 0) ≡ true
   unfolding check_fields size_of
   set-code e =
       let enough = past _ _ _ e in
@@ -171,7 +168,7 @@ module _ (m k : ℕ) (bytes : List ℕ) (size : ℕ) where
       not-false _ (past _ _ _ operand.1).0
 
   -- the fields passed
-  fields-passed : check_node m k bytes ≡ Legal size → check_fields m k (get_or bytes 0 0) bytes ≡ Legal size
+  fields-passed : check_node m k bytes ≡ Ok size → check_fields m k (get_or bytes 0 0) bytes ≡ Ok size
   unfolding check_node
   fields-passed e = (past _ _ _ (past _ _ _ e).1).1
 
@@ -207,7 +204,7 @@ read-bytes m k bytes node size small e =
     let fits = subst (λ (n : ℕ). n ≤ length bytes) p.size_is p.reading.fits in
     let set = set-parts (get_or bytes 3 0) (get_or bytes 4 0) (small 3) in
     let cases =
-    legal-cases (get_or bytes 0 0) (λ (map : ℕ). get_or bytes 0 0 ≡ map → check_fields m k map bytes ≡ Legal size → size_of map ≤ length bytes → take (size_of map) bytes ≡ node_bytes (node_with map (value_of map bytes)))
+    legal-cases (get_or bytes 0 0) (λ (map : ℕ). get_or bytes 0 0 ≡ map → check_fields m k map bytes ≡ Ok size → size_of map ≤ length bytes → take (size_of map) bytes ≡ node_bytes (node_with map (value_of map bytes)))
     (λ is f h. front-2 bytes h ∙ ap (λ (x : ℕ). x ∷ get_or bytes 1 0 ∷ []) is)
     (λ is f h. front-4 bytes h ∙ ap₂ (λ (x y : ℕ). x ∷ get_or bytes 1 0 ∷ get_or bytes 2 0 ∷ y ∷ []) is (sym (code-back (get_or bytes 3 0) (binary-code m k bytes size f))))
     (λ is f h. front-5 bytes h

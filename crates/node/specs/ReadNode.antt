@@ -1,5 +1,5 @@
 -- How one node is read (FORMAT 1.2 to 1.5, 8.3).
-use Rattle.std.specs.Prelude.{ℕ, zero, suc, ◌+◌, ◌*◌, ◌/◌, ◌%◌, ◌≡◌, Bool, cond, not, ◌||◌, List, [], ◌∷◌, eqb, ltb, leb, length, get_or, drop}
+use Rattle.std.specs.Prelude.{ℕ, zero, suc, ◌+◌, ◌*◌, ◌/◌, ◌%◌, ◌≡◌, Bool, cond, not, ◌||◌, List, [], ◌∷◌, eqb, ltb, leb, length, get_or, drop, Result, Ok, Err}
 use Rattle.bits.specs.Bit.{bit}
 use Rattle.attribute_set.specs.AttrSet.{special, set_of}
 use Rattle.refusal.specs.Chain.{refuse}
@@ -7,11 +7,8 @@ use Rattle.refusal.specs.declared.Refusal.{Refusal}
 use Rattle.refusal.specs.declared.Refusal.TheVariants.{NodeTruncated, NodeMap, OperatorCode, RelationNumber, Operand, Attribute}
 use Rattle.node.specs.declared.nodes.Node.{Node}
 use Rattle.node.specs.declared.nodes.Node.TheVariants.{Relation, Binary, WithSet, Renaming, ProjectingOut}
-use Rattle.node.specs.declared.checking.Check.{Check}
-use Rattle.node.specs.declared.checking.Check.TheVariants.{Legal, Refused}
-use Rattle.node.specs.declared.nodes.Reading.{Reading}
-use Rattle.node.specs.declared.nodes.Reading.TheVariants.{Read, Refused as ReadingRefused}
 use Rattle.node.specs.Operators.{known_code, binary_of, set_op_of}
+use Rattle.node.specs.declared.nodes.Decoding.{Decoding}
 
 -- ---- layout
 
@@ -103,16 +100,16 @@ refusal_of old = Attribute
 refusal_of new = Attribute
 
 -- FORMAT 8.3: the fields from the lowest bit up, and what comes if none is wrong
-abbrev pub judge : ℕ → ℕ → ℕ → List ℕ → List Field → Check → Check
+abbrev pub judge : ℕ → ℕ → ℕ → List ℕ → List Field → Result ℕ Refusal → Result ℕ Refusal
 judge m k map bytes [] next = next
 judge m k map bytes (f ∷ fs) next =
-    refuse Refused (wrong m k map f (value_of map bytes f)) (refusal_of f) (judge m k map bytes fs next)
+    refuse Err (wrong m k map f (value_of map bytes f)) (refusal_of f) (judge m k map bytes fs next)
 
 -- FORMAT 8.3: 4 where bytes of the node are missing, then its fields
-unfoldable pub check_fields : ℕ → ℕ → ℕ → List ℕ → Check
+unfoldable pub check_fields : ℕ → ℕ → ℕ → List ℕ → Result ℕ Refusal
 check_fields m k map bytes =
-    refuse Refused (ltb (length bytes) (size_of map)) NodeTruncated
-    (judge m k map bytes (fields_of map) (Legal (size_of map)))
+    refuse Err (ltb (length bytes) (size_of map)) NodeTruncated
+    (judge m k map bytes (fields_of map) (Ok (size_of map)))
 
 -- FORMAT 1.4: the five maps
 abbrev pub legal : ℕ → Bool
@@ -120,21 +117,21 @@ legal map = eqb map 1 || eqb map 14 || eqb map 26 || eqb map 98 || eqb map 34
 
 -- FORMAT 8.3: the size of node k of a file with m relations, off the front of the bytes, or its refusal: 4 without a
 -- byte for the map, 5, and then the fields
-unfoldable pub check_node : ℕ → ℕ → List ℕ → Check
+unfoldable pub check_node : ℕ → ℕ → List ℕ → Result ℕ Refusal
 check_node m k bytes =
-    refuse Refused (ltb (length bytes) 1) NodeTruncated
-    (refuse Refused (not (legal (get_or bytes 0 0))) NodeMap
+    refuse Err (ltb (length bytes) 1) NodeTruncated
+    (refuse Err (not (legal (get_or bytes 0 0))) NodeMap
     (check_fields m k (get_or bytes 0 0) bytes))
 
 -- what comes after a node that is legal
-abbrev pub after_node : Check → (ℕ → Check) → Check
-after_node (Refused r) next = Refused r
-after_node (Legal size) next = next size
+abbrev pub after_node : Result ℕ Refusal → (ℕ → Result ℕ Refusal) → Result ℕ Refusal
+after_node (Err r) next = Err r
+after_node (Ok size) next = next size
 
 -- FORMAT 8.3: the end of so many nodes from node k on, the first of which begins at byte `at`, or the first refusal;
 -- each node in full before the next
-unfoldable pub check_nodes : ℕ → ℕ → ℕ → ℕ → List ℕ → Check
-check_nodes m zero k at bytes = Legal at
+unfoldable pub check_nodes : ℕ → ℕ → ℕ → ℕ → List ℕ → Result ℕ Refusal
+check_nodes m zero k at bytes = Ok at
 check_nodes m (suc count) k at bytes = after_node (check_node m k (drop at bytes)) (λ size. check_nodes m count (k + 1) (at + size) bytes)
 
 -- bytes that begin with a node in which nothing is refused
@@ -142,7 +139,7 @@ pub record Checked (bytes : List ℕ) : Type 0 where
   pub m : ℕ
   pub k : ℕ
   pub size : ℕ
-  pub passed : check_node m k bytes ≡ Legal size
+  pub passed : check_node m k bytes ≡ Ok size
 
 -- ---- the node
 
@@ -161,11 +158,15 @@ node_of bytes = node_with (get_or bytes 0 0) (value_of (get_or bytes 0 0) bytes)
 
 -- ---- both
 
+-- a node that was read, and its size
+abbrev pub Read : Node → ℕ → Result Decoding Refusal
+Read node size = Ok (record { node = node; size = size })
+
 -- the node and its size, or the refusal of the check
-abbrev pub with_node : Node → Check → Reading
-with_node node (Legal size) = Read node size
-with_node node (Refused r) = ReadingRefused r
+abbrev pub with_node : Node → Result ℕ Refusal → Result Decoding Refusal
+with_node node (Ok size) = Read node size
+with_node node (Err r) = Err r
 
 -- FORMAT 7.4: the node and its size, or its refusal
-unfoldable pub read_node : ℕ → ℕ → List ℕ → Reading
+unfoldable pub read_node : ℕ → ℕ → List ℕ → Result Decoding Refusal
 read_node m k bytes = with_node (node_of bytes) (check_node m k bytes)

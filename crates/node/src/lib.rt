@@ -4,7 +4,7 @@
 mod checking;
 mod nodes;
 
-pub use checking::{Check, check_nodes};
+pub use checking::check_nodes;
 pub use nodes::{
-    BinaryOp, Decoding, Node, Reading, SetOp, binary_code, binary_operator, set_code, set_operator,
+    BinaryOp, Decoding, Node, SetOp, binary_code, binary_operator, set_code, set_operator,
 };

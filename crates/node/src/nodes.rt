@@ -3,22 +3,21 @@ ghost use Rattle.std.specs.Prelude.{◌≡◌};
 ghost use Rattle.node.specs.Operators.{binary_of, set_op_of, binary_code, set_code};
 
 use attribute_set::AttrSet;
-use refusal::Refusal;
 
-// The operators of map 14 (FORMAT 1.4).
+// The operators of map 14, with their codes (FORMAT 1.4).
 #[derive(Clone, Copy)]
 pub enum BinaryOp {
-    Union,
-    Difference,
-    Join,
-    Product,
+    Union = 1,
+    Difference = 2,
+    Join = 3,
+    Product = 4,
 }
 
-// The operators of map 26 (FORMAT 1.4).
+// The operators of map 26, with their codes (FORMAT 1.4).
 #[derive(Clone, Copy)]
 pub enum SetOp {
-    Selection,
-    Projection,
+    Selection = 5,
+    Projection = 6,
 }
 
 // A node (FORMAT 1.4). An operand is the number of an earlier node.
@@ -62,22 +61,14 @@ pub fn set_operator(code: u8) -> SetOp
 pub fn binary_code(op: BinaryOp) -> u8
     ensures { result ≡ binary_code op }
 {
-    match op {
-        BinaryOp::Union => 1,
-        BinaryOp::Difference => 2,
-        BinaryOp::Join => 3,
-        BinaryOp::Product => 4,
-    }
+    op as u8
 }
 
 // The code of an operator of map 26.
 pub fn set_code(op: SetOp) -> u8
     ensures { result ≡ set_code op }
 {
-    match op {
-        SetOp::Selection => 5,
-        SetOp::Projection => 6,
-    }
+    op as u8
 }
 
 // A node with the number of bytes that it takes.
@@ -85,11 +76,4 @@ pub fn set_code(op: SetOp) -> u8
 pub struct Decoding {
     pub node: Node,
     pub size: usize,
-}
-
-// The same, or the first refusal.
-#[derive(Clone, Copy)]
-pub enum Reading {
-    Read(Node, usize),
-    Refused(Refusal),
 }

@@ -14,8 +14,7 @@ use Rattle.node.specs.declared.nodes.SetOp.{SetOp}
 use Rattle.node.specs.declared.nodes.SetOp.TheVariants.{Selection, Projection}
 use Rattle.node.specs.declared.nodes.Node.{Node}
 use Rattle.node.specs.declared.nodes.Node.TheVariants.{Relation, Binary, WithSet, Renaming, ProjectingOut}
-use Rattle.expression_file.specs.ReadFile.{node_at, acceptance}
-use Rattle.expression_file.specs.declared.files.Acceptance.TheVariants.{Accepted}
+use Rattle.expression_file.specs.ReadFile.{node_at, acceptance, Accepted}
 use Rattle.node.specs.Legal.{LegalNode}
 use Rattle.expression_file.specs.Walk.{nodes-legal}
 

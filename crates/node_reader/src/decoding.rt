@@ -2,7 +2,8 @@
 ghost use Rattle.std.specs.Prelude.{◌≡◌, true, get_or};
 ghost use Rattle.node.specs.ReadNode.{Checked, node_of, size_of, legal};
 
-use attribute_set::{AttrSet, Built};
+use attribute_set::AttrSet;
+use bits::word_at;
 use node::{Decoding, Node, binary_operator, set_operator};
 
 // The node of checked bytes with map 26.
@@ -10,9 +11,9 @@ fn decode_with_set(bytes: &[u8]) -> Node
     requires { Checked bytes.now × (get_or bytes.now 0 0 ≡ 26) }
     ensures { result ≡ node_of bytes.now }
 {
-    match AttrSet::build(bytes[3] as u16 + bytes[4] as u16 * 256) {
-        Built::Set(set) => Node::WithSet(set_operator(bytes[2]), bytes[1], set),
-        Built::NoSet => Node::Relation(0),
+    match AttrSet::build(word_at(bytes, 3)) {
+        Some(set) => Node::WithSet(set_operator(bytes[2]), bytes[1], set),
+        None => Node::Relation(0),
     }
 }
 

@@ -3,18 +3,13 @@ ghost use Rattle.std.specs.Prelude.{◌≡◌};
 ghost use Rattle.node.specs.ReadNode.{read_node};
 
 use crate::decoding::decode;
-use node::{Check, Reading, check_nodes};
+use node::{Decoding, check_nodes};
+use refusal::Refusal;
 
 // Node `k` of a file with `m` relations, from the bytes that begin with it (FORMAT 7.4): refusals 4 to 9.
-pub fn read_node(m: u8, k: u8, bytes: &[u8]) -> Reading
+pub fn read_node(m: u8, k: u8, bytes: &[u8]) -> Result<Decoding, Refusal>
     ensures { result ≡ read_node m k bytes.now }
 {
-    match check_nodes(m, k, 1, bytes) {
-        Check::Legal(size) => {
-            let decoding = decode(bytes);
-            let node = decoding.node;
-            Reading::Read(node, size)
-        }
-        Check::Refused(r) => Reading::Refused(r),
-    }
+    check_nodes(m, k, 1, bytes)?;
+    Ok(decode(bytes))
 }

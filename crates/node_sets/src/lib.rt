@@ -17,13 +17,11 @@ pub fn combine(sets: &mut [u64], op: BinaryOp, left: usize, right: usize, at: us
     ensures { Combined op left right at width sets.old sets.new }
 {
     let mut broken = sets[left] | sets[right];
-    let mut v = 1;
-    while v < width {
+    for v in 1..width {
         let x = sets[left + v];
         let y = sets[right + v];
         broken = broken | breaking(op, x, y);
         sets[at + v] = coming_out(op, x, y);
-        v += 1;
     }
     sets[at] = broken;
 }
@@ -37,18 +35,17 @@ fn lay_front(sets: &mut [u64], at: usize, broken: u64, given: u64)
     sets[at + 1] = given;
 }
 
-// The words of a node with its operand's entries.
+// The words of a node with its operand's entries. This loop, the next one and lay_relation's stay three: one over a
+// closure would have to lend it the words that it writes, and say in its contract what it may find there.
 fn keep_entries(sets: &mut [u64], from: usize, at: usize, width: usize, broken: u64, given: u64)
     requires width_bound { (from + width ≤ at) × (2 ≤ width) }
     requires width_in_bounds { at + width ≤ length sets.old }
     ensures { Laid (bit_or (get_or sets.old from 0) broken) given (words_at sets.old from) at width sets.old sets.new }
 {
     let whole = sets[from] | broken;
-    let mut v = 2;
-    while v < width {
+    for v in 2..width {
         let word = sets[from + v];
         sets[at + v] = word;
-        v += 1;
     }
     lay_front(sets, at, whole, given);
 }
@@ -66,10 +63,8 @@ fn drop_entries(sets: &mut [u64], from: usize, at: usize, width: usize, broken: 
         lay_front(sets, at, whole, given);
         return;
     }
-    let mut v = 2;
-    while v < width {
+    for v in 2..width {
         sets[at + v] = 0;
-        v += 1;
     }
     lay_front(sets, at, whole, given);
 }
@@ -78,23 +73,20 @@ fn drop_entries(sets: &mut [u64], from: usize, at: usize, width: usize, broken: 
 pub fn lay_relation(
     sets: &mut [u64],
     special: u64,
-    items: &[u32],
-    count: usize,
+    entries: &[u32],
     groups: &[u64],
     r: u8,
     at: usize,
     width: usize,
 )
-    requires r_bound { (r < 8) × (count ≤ length items.now) }
-    requires groups { Groups items.now count groups.now }
-    requires width_value { (width ≡ width_of count) × (at + width ≤ length sets.old) }
-    ensures { Laid 0 special (relation_word items.now count r) at width sets.old sets.new }
+    requires r_bound { r < 8 }
+    requires groups { Groups entries.now (length entries.now) groups.now }
+    requires width_value { (width ≡ width_of (length entries.now)) × (at + width ≤ length sets.old) }
+    ensures { Laid 0 special (relation_word entries.now (length entries.now) r) at width sets.old sets.new }
 {
-    let made = (count + 7) / 8;
-    let mut v = 2;
-    while v < width {
-        sets[at + v] = held_word(groups, made, r, (v - 2) * 8);
-        v += 1;
+    let made = &groups[..(entries.len() + 7) / 8];
+    for v in 2..width {
+        sets[at + v] = held_word(made, r, (v - 2) * 8);
     }
     lay_front(sets, at, 0, special);
 }

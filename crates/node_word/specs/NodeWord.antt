@@ -1,12 +1,13 @@
 -- A node as a machine word, for callers in C and Rust (FORMAT 7.19).
-use Rattle.std.specs.Prelude.{ℕ, ◌+◌, ◌*◌, ◌/◌, ◌%◌}
+use Rattle.std.specs.Prelude.{ℕ, ◌+◌, ◌*◌, ◌/◌, ◌%◌, Result, Err, Ok}
 use Rattle.attribute_set.specs.AttrSet.{bits_of}
 use Rattle.refusal.specs.Number.{number_of}
-use Rattle.node.specs.declared.nodes.Reading.{Reading}
-use Rattle.node.specs.declared.nodes.Reading.TheVariants.{Read, Refused}
 use Rattle.node.specs.declared.nodes.Node.{Node}
 use Rattle.node.specs.declared.nodes.Node.TheVariants.{Relation, Binary, WithSet, Renaming, ProjectingOut}
 use Rattle.node.specs.Operators.{binary_code, set_code}
+use Rattle.refusal.specs.declared.Refusal.{Refusal}
+use Rattle.node.specs.declared.nodes.Decoding.{Decoding}
+use Rattle.node.specs.ReadNode.{Read}
 
 -- five bytes, low first
 unfoldable pub word_of : ℕ → ℕ → ℕ → ℕ → ℕ → ℕ
@@ -25,6 +26,6 @@ unfoldable pub read_word : Node → ℕ → ℕ
 read_word node size = (size + node_word node * 256) * 256
 
 -- FORMAT 7.19: what a reading is in numbers: the node and its length, or the refusal's number
-abbrev pub reading_number : Reading → ℕ
-reading_number (Read node size) = read_word node size
-reading_number (Refused r) = number_of r
+abbrev pub reading_number : Result Decoding Refusal → ℕ
+reading_number (Ok d) = read_word d.node d.size
+reading_number (Err r) = number_of r

@@ -9,7 +9,7 @@ fn word(a: u8, b: u8, c: u8, d: u8, e: u8) -> u64
     ensures value { result ≡ word_of a b c d e }
     ensures upper_bound { result < 2 ^ 40 }
 {
-    a as u64 + b as u64 * 256 + c as u64 * 65536 + d as u64 * 16777216 + e as u64 * 4294967296
+    u64::from_le_bytes([a, b, c, d, e, 0, 0, 0])
 }
 
 // The node alone.

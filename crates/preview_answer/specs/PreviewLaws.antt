@@ -1,14 +1,11 @@
 -- Laws of Preview: the answer and the work space in each case.
-use Rattle.std.specs.Prelude.{ℕ, ◌-◌, ◌*◌, ◌≤◌, ◌≡◌, refl, List, length}
+use Rattle.std.specs.Prelude.{ℕ, ◌-◌, ◌*◌, ◌≤◌, ◌≡◌, refl, List, length, Ok, Err, Result}
 use Rattle.std.proofs.Math.Path.{ap}
 use Rattle.std.proofs.Common.{◌∙◌, arith}
 use Rattle.bits.specs.Tab.{over}
 use Rattle.refusal.specs.declared.Refusal.{Refusal}
-use Rattle.node.specs.declared.checking.Check.TheVariants.{Legal, Refused as CheckRefused}
 use Rattle.node.specs.ReadNode.{node_of}
-use Rattle.expression_file.specs.declared.files.Acceptance.{Acceptance}
-use Rattle.expression_file.specs.declared.files.Acceptance.TheVariants.{Accepted, Refused as FileRefused}
-use Rattle.expression_file.specs.ReadFile.{acceptance}
+use Rattle.expression_file.specs.ReadFile.{acceptance, Accepted}
 use Rattle.expression_file.specs.Accepted.{accepted-file}
 use Rattle.expression_file.specs.Exchanged.{exchanged}
 use Rattle.expression_file.proofs.Exchanged.{exchanged-accepted}
@@ -25,8 +22,8 @@ use Rattle.verdict_answer.specs.VerdictLaws.{filled-formed}
 use Rattle.verdict_answer.proofs.VerdictLaws.{filled-outcome}
 use Rattle.verdict_answer.specs.Typability.{without_witness}
 use Rattle.verdict_answer.specs.declared.Typability.{Typability}
-use Rattle.verdict_answer.specs.declared.Typability.TheVariants.{Refused}
 use Rattle.preview_answer.specs.Preview.{preview_tests, preview_answer, preview_space}
+use Rattle.expression_file.specs.declared.files.Header.{Header}
 
 -- ---- the edited file
 
@@ -52,10 +49,10 @@ module _ (file : List ℕ) (k : ℕ) (replacement work : List ℕ) where
       (record { accepted = admits.accepted; node = admits.node; reads = judged.1 }, admits.work_space)
 
   -- the answer and the work space are as the definitions say
-  abbrev Results : Typability → List ℕ → Type 0
+  abbrev Results : Result Typability Refusal → List ℕ → Type 0
   Results t filled = (t ≡ preview_answer file k replacement (length work)) × (filled ≡ preview_space file k replacement work)
 
-  pub preview-stops : (r : Refusal) → preview_tests file k replacement (length work) ≡ FileRefused r → Results (Refused r) work
+  pub preview-stops : (r : Refusal) → preview_tests file k replacement (length work) ≡ Err r → Results (Err r) work
   unfolding preview_answer preview_space
   preview-stops r e = rw e (refl, refl)
 
@@ -63,23 +60,23 @@ module _ (file : List ℕ) (k : ℕ) (replacement work : List ℕ) where
   pub preview-passes :
       {m n : ℕ}
       → preview_tests file k replacement (length work) ≡ Accepted m n
-      → Results (without_witness (outcome_in m (allowed_bit m (expression_at (exchanged file k replacement) (n - 1))))) (over (formulas_of (exchanged file k replacement) m n) work)
+      → Results (Ok (without_witness (outcome_in m (allowed_bit m (expression_at (exchanged file k replacement) (n - 1)))))) (over (formulas_of (exchanged file k replacement) m n) work)
   unfolding preview_answer preview_space
   preview-passes e = rw e (refl, refl)
 
   -- ---- by the tests in turn
 
   -- both are known
-  pub tests-are : (a b : Acceptance) → b ≡ recorded a k replacement → a ≡ admitted file k (length work) → b ≡ preview_tests file k replacement (length work)
+  pub tests-are : (a b : Result Header Refusal) → b ≡ recorded a k replacement → a ≡ admitted file k (length work) → b ≡ preview_tests file k replacement (length work)
   unfolding preview_tests
-  tests-are a b judged admits = judged ∙ ap (λ (x : Acceptance). recorded x k replacement) admits
+  tests-are a b judged admits = judged ∙ ap (λ (x : Result Header Refusal). recorded x k replacement) admits
 
   module _ {m n : ℕ} (admits : admitted file k (length work) ≡ Accepted m n) where
-    pub record-refuses : (r : Refusal) → check_record m k replacement ≡ CheckRefused r → Results (Refused r) work
+    pub record-refuses : (r : Refusal) → check_record m k replacement ≡ Err r → Results (Err r) work
     unfolding preview_tests
     record-refuses r e = preview-stops r (recorded-stops _ k replacement r admits e)
 
-    pub record-accepted : {size : ℕ} → check_record m k replacement ≡ Legal size → preview_tests file k replacement (length work) ≡ Accepted m n
+    pub record-accepted : {size : ℕ} → check_record m k replacement ≡ Ok size → preview_tests file k replacement (length work) ≡ Accepted m n
     unfolding preview_tests
     record-accepted e = recorded-passes _ k replacement admits e
 
@@ -92,8 +89,8 @@ module _ (file : List ℕ) (k : ℕ) (replacement work : List ℕ) where
     pub last-formed : Formed m (allowed_at filled (n - 1))
     last-formed = filled-formed (exchanged file k replacement) (n - 1) work filled m n last-admits is
 
-    pub preview-goes : (t : Typability) → t ≡ without_witness (outcome_in m (allowed_at filled (n - 1))) → Results t filled
+    pub preview-goes : (t : Typability) → t ≡ without_witness (outcome_in m (allowed_at filled (n - 1))) → Results (Ok t) filled
     preview-goes t said =
         let same = (filled-outcome (exchanged file k replacement) (n - 1) work filled m n last-admits is).0 in
         let results = preview-passes passes in
-        (said ∙ ap without_witness same ∙ results.0, is ∙ results.1)
+        (ap Ok (said ∙ ap without_witness same) ∙ results.0, is ∙ results.1)

@@ -5,36 +5,30 @@
 // looked at.
 #![tactic(auto)]
 
-ghost use Rattle.std.specs.Prelude.{◌+◌, ◌≤◌, length};
+ghost use Rattle.std.specs.Prelude.{◌≤◌, length};
 
 use column::{Bytes, agreeing_bytes};
 use standard_input::read_full;
 use std::io;
 
-// The allowed byte at a place and the output byte after it.
-fn bytes_at(input: &[u8], at: usize) -> Bytes
-    requires { at + 2 ≤ length input.now }
-{
-    Bytes {
-        allowed: input[at],
-        output: input[at + 1],
-    }
-}
-
 // Two bytes for each whole group of the input.
 fn print_agreements(rt: &impl Print, input: &[u8]) -> io::Result<()>
     requires { length input.now ≤ 65536 }
 {
-    let count = input.len() / 4;
+    let (groups, _) = input.as_chunks::<4>();
     let mut made = [0u8; 32768];
-    let mut k = 0;
-    while k < count {
-        let bytes = agreeing_bytes(bytes_at(input, 4 * k), bytes_at(input, 4 * k + 2));
-        made[2 * k] = bytes.allowed;
-        made[2 * k + 1] = bytes.output;
-        k += 1;
+    let (pairs, _) = made.as_chunks_mut::<2>();
+    for (group, pair) in groups.iter().zip(pairs.iter_mut()) {
+        let [allowed, output, other_allowed, other_output] = *group;
+        let left = Bytes { allowed, output };
+        let right = Bytes {
+            allowed: other_allowed,
+            output: other_output,
+        };
+        let bytes = agreeing_bytes(left, right);
+        *pair = [bytes.allowed, bytes.output];
     }
-    rt.write_all(&made[..2 * count])
+    rt.write_all(&made[..2 * groups.len()])
 }
 
 // Reads at most 16,384 groups.

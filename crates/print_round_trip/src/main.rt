@@ -7,7 +7,6 @@
 #![tactic(auto)]
 
 use record::record;
-use recover_answer::Recovery;
 use round_trip::apply_and_recover;
 use standard_input::read_full;
 use std::io;
@@ -44,12 +43,12 @@ fn print_recovery(
         &mut out,
         &mut recovered,
     ) {
-        Recovery::Recovered(n) => {
+        Ok(Some(n)) => {
             print_byte(rt, 0)?;
             rt.write_all(&recovered[..n])
         }
-        Recovery::Untyped => print_byte(rt, 255),
-        Recovery::Refused(r) => print_byte(rt, r.number()),
+        Ok(None) => print_byte(rt, 255),
+        Err(r) => print_byte(rt, r.number()),
     }
 }
 

@@ -1,5 +1,5 @@
 -- The numbers of a query that are out of their ranges, from left to right (FORMAT 11.8).
-use Rattle.std.specs.Prelude.{ℕ, ◌≡◌, Bool, cond, ◌&&◌, ltb, []}
+use Rattle.std.specs.Prelude.{ℕ, ◌≡◌, Bool, cond, ◌&&◌, ltb, [], Option, None, Some}
 use Rattle.std.proofs.Math.Path.{refl, ap}
 use Rattle.std.proofs.Common.{sym, ◌∙◌, arith}
 use Rattle.std.proofs.Math.Bool.{true, false}
@@ -9,8 +9,6 @@ use Rattle.refusal.specs.declared.Refusal.TheVariants.{RelationNumber, Attribute
 use Rattle.attribute_set.specs.AttrSet.{special}
 use Rattle.attribute_set.specs.Listed.{special_after, all_special, special-none, special-more, special-broken}
 use Rattle.node.specs.declared.nodes.BinaryOp.{BinaryOp}
-use Rattle.query_answer.specs.declared.Fault.{Fault}
-use Rattle.query_answer.specs.declared.Fault.TheVariants.{NoFault, First}
 use Rattle.query_language.specs.Query.{Prefix, with_set, renaming, projecting_out, Query, relation, pair, prefixed}
 
 -- FORMAT 11.8: 9 for each attribute that is not 1 to 15
@@ -33,22 +31,22 @@ faults_of m (prefixed p q) = attribute_faults (prefix_attributes p) ++ faults_of
 -- ---- the first of them
 
 -- FORMAT 11.8: the first of these
-unfoldable pub first_of : List Refusal → Fault
-first_of [] = NoFault
-first_of (r ∷ rs) = First r
+unfoldable pub first_of : List Refusal → Option Refusal
+first_of [] = None
+first_of (r ∷ rs) = Some r
 
 -- the first of two, the one to the left of the other
-abbrev pub leftmost : Fault → Fault → Fault
-leftmost NoFault g = g
-leftmost (First r) g = First r
+abbrev pub leftmost : Option Refusal → Option Refusal → Option Refusal
+leftmost None g = g
+leftmost (Some r) g = Some r
 
 -- that of attributes, by whether all of them are special
-abbrev pub attribute_fault : Bool → Fault
-attribute_fault t = cond t NoFault (First Attribute)
+abbrev pub attribute_fault : Bool → Option Refusal
+attribute_fault t = cond t None (Some Attribute)
 
 -- that of a relation, by whether it is below m
-abbrev pub relation_fault : Bool → Fault
-relation_fault t = cond t NoFault (First RelationNumber)
+abbrev pub relation_fault : Bool → Option Refusal
+relation_fault t = cond t None (Some RelationNumber)
 
 -- ---- laws
 
@@ -86,24 +84,24 @@ module _ (m : ℕ) where
   unfolding faults_of
   fault-prefixed p q =
       first-append (attribute_faults (prefix_attributes p)) (faults_of m q)
-      ∙ ap (λ (f : Fault). leftmost f (first_of (faults_of m q))) (first-attributes (prefix_attributes p))
+      ∙ ap (λ (f : Option Refusal). leftmost f (first_of (faults_of m q))) (first-attributes (prefix_attributes p))
 
 -- a list without a first has none
-pub first-none : (rs : List Refusal) → first_of rs ≡ NoFault → rs ≡ []
+pub first-none : (rs : List Refusal) → first_of rs ≡ None → rs ≡ []
 unfolding first_of
 first-none [] e = refl
 first-none (r ∷ rs) e = absurd (let z : ◌≡◌ {A = ℕ} 0 1 = cc in omega arith)
 
 -- ---- queries in which nothing is out of range
 
-pub leftmost-none : (f g : Fault) → leftmost f g ≡ NoFault → (f ≡ NoFault) × (g ≡ NoFault)
-leftmost-none NoFault g e = (refl, e)
-leftmost-none (First r) g e = absurd (let z : ◌≡◌ {A = ℕ} 0 1 = cc in omega arith)
+pub leftmost-none : (f g : Option Refusal) → leftmost f g ≡ None → (f ≡ None) × (g ≡ None)
+leftmost-none None g e = (refl, e)
+leftmost-none (Some r) g e = absurd (let z : ◌≡◌ {A = ℕ} 0 1 = cc in omega arith)
 
-pub guard_none : (t : Bool) (r : Refusal) → cond t NoFault (First r) ≡ NoFault → t ≡ true
+pub guard_none : (t : Bool) (r : Refusal) → cond t None (Some r) ≡ None → t ≡ true
 guard_none true r e = refl
 guard_none false r e = absurd (let z : ◌≡◌ {A = ℕ} 0 1 = cc in omega arith)
 
-pub none_first : (rs : List Refusal) → rs ≡ [] → first_of rs ≡ NoFault
+pub none_first : (rs : List Refusal) → rs ≡ [] → first_of rs ≡ None
 unfolding first_of
 none_first rs e = rw e

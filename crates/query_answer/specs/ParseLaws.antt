@@ -1,5 +1,5 @@
 -- Laws of parsing a query, one for each end of the order of its tests.
-use Rattle.std.specs.Prelude.{ℕ, ◌≤◌, ◌<◌, Bool, true, false, ltb, length, take, drop}
+use Rattle.std.specs.Prelude.{ℕ, ◌≤◌, ◌<◌, Bool, true, false, ltb, length, take, drop, Result, Ok, Err, None, Some}
 use Rattle.std.proofs.Math.Path.{◌≡◌, refl, sym, ap}
 use Rattle.std.proofs.Common.{◌∙◌, arith, lt-ltb, le-ltb, length-append}
 use Rattle.std.proofs.Math.Bool.{not}
@@ -13,15 +13,12 @@ use Rattle.expression_file.specs.Walk.{longest_file}
 use Rattle.query_language.specs.Parsed.{Parsed, missing, found}
 use Rattle.query_language.specs.Query.{Query, node_count}
 use Rattle.query_language.specs.Parse.{parse_query}
-use Rattle.query_answer.specs.declared.Fault.TheVariants.{NoFault, First}
-use Rattle.query_answer.specs.declared.Parsing.{Parsing}
-use Rattle.query_answer.specs.declared.Parsing.TheVariants.{Written, Refused}
 use Rattle.query_answer.specs.QueryNodes.{query_file}
 use Rattle.query_answer.specs.Faults.{faults_of, first_of}
 use Rattle.query_answer.specs.ParseQuery.{longest_query, Judgement, refused, accepted, faulted, judged, judgement, answer_of, slice_after, parse_answer, parse_file}
 
 -- an answer and the slice after it
-pub record Answered (m : ℕ) (text old : List ℕ) (r : Parsing) (new : List ℕ) : Type 0 where
+pub record Answered (m : ℕ) (text old : List ℕ) (r : Result ℕ Refusal) (new : List ℕ) : Type 0 where
   pub answer : r ≡ parse_answer m text (length old)
   pub slice : new ≡ parse_file m text old
 
@@ -32,11 +29,11 @@ unfolding parse_answer
 answer-is m text size = refl
 
 module _ (m : ℕ) (text old : List ℕ) where
-  pub answer-refused : (r : Refusal) → judgement m text (length old) ≡ refused r → Answered m text old (Refused r) old
+  pub answer-refused : (r : Refusal) → judgement m text (length old) ≡ refused r → Answered m text old (Err r) old
   unfolding parse_answer parse_file
   answer-refused r e = record { answer = sym (ap (answer_of m) e); slice = sym (ap (λ (j : Judgement). slice_after m j old) e) }
 
-  pub answer-accepted : (q : Query) → judgement m text (length old) ≡ accepted q → Answered m text old (Written (length (query_file m q))) (over (query_file m q) old)
+  pub answer-accepted : (q : Query) → judgement m text (length old) ≡ accepted q → Answered m text old (Ok (length (query_file m q))) (over (query_file m q) old)
   unfolding parse_answer parse_file
   answer-accepted q e = record { answer = sym (ap (answer_of m) e); slice = sym (ap (λ (j : Judgement). slice_after m j old) e) }
 
@@ -51,7 +48,7 @@ pub record WrittenQuery (m : ℕ) (text old : List ℕ) (size : ℕ) : Type 0 wh
   pub part-is : take size (parse_file m text old) ≡ query_file m query
   pub fits : size ≤ length (parse_file m text old)
 
-pub answer-written : (m : ℕ) (text old : List ℕ) {size : ℕ} → parse_answer m text (length old) ≡ Written size → WrittenQuery m text old size
+pub answer-written : (m : ℕ) (text old : List ℕ) {size : ℕ} → parse_answer m text (length old) ≡ Ok size → WrittenQuery m text old size
 answer-written m text old {size} e = go (judgement m text (length old)) refl
   where
     go : (j : Judgement) → judgement m text (length old) ≡ j → WrittenQuery m text old size
@@ -72,10 +69,10 @@ answer-written m text old {size} e = go (judgement m text (length old)) refl
         }
 
 -- a file that was written fits its slice
-pub answer-fits : (m : ℕ) (text old new : List ℕ) (size : ℕ) → new ≡ parse_file m text old → parse_answer m text (length old) ≡ Written size → size ≤ length new
+pub answer-fits : (m : ℕ) (text old new : List ℕ) (size : ℕ) → new ≡ parse_file m text old → parse_answer m text (length old) ≡ Ok size → size ≤ length new
 answer-fits m text old new size e f = rw e (answer-written m text old f).fits
 
-pub answer-stopped : (m : ℕ) (text old : List ℕ) {r : Refusal} → parse_answer m text (length old) ≡ Refused r → judgement m text (length old) ≡ refused r
+pub answer-stopped : (m : ℕ) (text old : List ℕ) {r : Refusal} → parse_answer m text (length old) ≡ Err r → judgement m text (length old) ≡ refused r
 answer-stopped m text old {r} e = go (judgement m text (length old)) refl
   where
     go : (j : Judgement) → judgement m text (length old) ≡ j → judgement m text (length old) ≡ refused r
@@ -125,18 +122,18 @@ module _ (m : ℕ) (q : Query) (next : ℕ) where
   unfolding judged
   judged-faults h = refuse-passes _ _ _ _ (le-ltb 64 (node_count q) h)
 
-  pub judged-fault : (r : Refusal) → node_count q ≤ 64 → first_of (faults_of m q) ≡ First r → judged m (found q next) ≡ refused r
+  pub judged-fault : (r : Refusal) → node_count q ≤ 64 → first_of (faults_of m q) ≡ Some r → judged m (found q next) ≡ refused r
   unfolding first_of
   judged-fault r h = λ e. judged-faults h ∙ go (faults_of m q) e
     where
-      go : (fs : List Refusal) → first_of fs ≡ First r → faulted fs (accepted q) ≡ refused r
+      go : (fs : List Refusal) → first_of fs ≡ Some r → faulted fs (accepted q) ≡ refused r
       go [] e = absurd (let z : ◌≡◌ {A = ℕ} 0 1 = cc in omega arith)
       go (f ∷ fs) e = let same : f ≡ r = cc in ap refused same
 
-  pub judged-accepted : node_count q ≤ 64 → first_of (faults_of m q) ≡ NoFault → judged m (found q next) ≡ accepted q
+  pub judged-accepted : node_count q ≤ 64 → first_of (faults_of m q) ≡ None → judged m (found q next) ≡ accepted q
   unfolding first_of
   judged-accepted h = λ e. judged-faults h ∙ go (faults_of m q) e
     where
-      go : (fs : List Refusal) → first_of fs ≡ NoFault → faulted fs (accepted q) ≡ accepted q
+      go : (fs : List Refusal) → first_of fs ≡ None → faulted fs (accepted q) ≡ accepted q
       go [] e = refl
       go (f ∷ fs) e = absurd (let z : ◌≡◌ {A = ℕ} 0 1 = cc in omega arith)

@@ -1,5 +1,5 @@
 -- Parsing a query (FORMAT 7.23): what it answers, and the result slice afterwards.
-use Rattle.std.specs.Prelude.{ℕ, not, List, [], ◌∷◌, ltb, length}
+use Rattle.std.specs.Prelude.{ℕ, not, List, [], ◌∷◌, ltb, length, Result, Ok, Err}
 use Rattle.bits.specs.Range.{in_range}
 use Rattle.bits.specs.Tab.{over}
 use Rattle.refusal.specs.Chain.{refuse}
@@ -9,8 +9,6 @@ use Rattle.expression_file.specs.Walk.{longest_file}
 use Rattle.query_language.specs.Parsed.{Parsed, missing, found}
 use Rattle.query_language.specs.Query.{Query, node_count}
 use Rattle.query_language.specs.Parse.{parse_query}
-use Rattle.query_answer.specs.declared.Parsing.{Parsing}
-use Rattle.query_answer.specs.declared.Parsing.TheVariants.{Written, Refused}
 use Rattle.query_answer.specs.QueryNodes.{query_file}
 use Rattle.query_answer.specs.Faults.{faults_of}
 
@@ -42,9 +40,9 @@ judgement m text size =
     (judged m (parse_query text))))
 
 -- FORMAT 7.23: the length of the query's file, or the refusal
-abbrev pub answer_of : ℕ → Judgement → Parsing
-answer_of m (refused r) = Refused r
-answer_of m (accepted q) = Written (length (query_file m q))
+abbrev pub answer_of : ℕ → Judgement → Result ℕ Refusal
+answer_of m (refused r) = Err r
+answer_of m (accepted q) = Ok (length (query_file m q))
 
 -- FORMAT 7.23: the query's file over what the slice held; after a refusal the slice stays
 abbrev pub slice_after : ℕ → Judgement → List ℕ → List ℕ
@@ -52,7 +50,7 @@ slice_after m (refused r) file = file
 slice_after m (accepted q) file = over (query_file m q) file
 
 -- FORMAT 7.23: the answer, for m relations, a text, and a result slice of so many bytes
-unfoldable pub parse_answer : ℕ → List ℕ → ℕ → Parsing
+unfoldable pub parse_answer : ℕ → List ℕ → ℕ → Result ℕ Refusal
 parse_answer m text size = answer_of m (judgement m text size)
 
 -- FORMAT 7.23, 8.7: the result slice afterwards

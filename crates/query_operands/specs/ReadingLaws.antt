@@ -1,11 +1,14 @@
 -- Laws of reading operands: the room after each piece of text, and what each way through the code gives.
-use Rattle.std.specs.Prelude.{ℕ, ◌+◌, ◌-◌, ◌≤◌, ◌<◌, ◌≡◌, refl, Bool, true, false, List, ltb, length, get_or}
+use Rattle.std.specs.Prelude.{ℕ, ◌+◌, ◌-◌, ◌≤◌, ◌<◌, ◌≡◌, refl, Bool, true, false, List, ltb, length, get_or, Option, None, Some}
 use Rattle.std.proofs.Common.{sym, ap, ap₂, ◌∙◌, arith}
+use Rattle.std.specs.Option.{option_or}
+use Rattle.refusal.specs.declared.Refusal.{Refusal}
 use Rattle.node.specs.declared.nodes.BinaryOp.{BinaryOp}
 use Rattle.node.specs.declared.nodes.Node.TheVariants.{Relation, Binary}
 use Rattle.node.specs.NodeBytes.{node_bytes}
 use Rattle.attribute_set.specs.Listed.{all_special}
-use Rattle.text.specs.Put.{Wrote, wrote-more, wrote_as}
+use Rattle.text.specs.declared.Writer.{Writer}
+use Rattle.text.specs.Written.{Writes, writes-more, writes-as}
 use Rattle.query_language.specs.Parsed.{missing, found}
 use Rattle.query_language.specs.Query.{Prefix, relation, pair, prefixed, node_count}
 use Rattle.query_language.specs.Parse.{is_digit, prefix_at, sign_at, relation_at, pair_with, prefixed_with, operand_at}
@@ -18,41 +21,42 @@ use Rattle.query_language.specs.OperandLaws.{sign-sound, count-some}
 use Rattle.query_language.proofs.OperandLaws.{operand_sound}
 use Rattle.query_language.specs.Sizes.{prefix-some, prefix-end}
 use Rattle.query_language.proofs.Sizes.{count-size, operand-end}
-use Rattle.query_answer.specs.declared.Fault.{Fault}
 use Rattle.query_answer.specs.QueryNodes.{prefix_node, bytes_from, bytes-relation, bytes_pair, bytes-prefixed, bytes-size}
 use Rattle.query_answer.specs.Faults.{leftmost, attribute_fault, relation_fault, prefix_attributes, fault-relation, fault-pair, fault-prefixed}
-use Rattle.query_prefixes.specs.declared.signs.Sign.TheVariants.{Operator, NoSign}
 use Rattle.query_prefixes.specs.declared.prefixes.UnaryNode.{UnaryNode}
-use Rattle.query_prefixes.specs.declared.prefixes.PrefixReading.TheVariants.{Prefix as PrefixFound, NoPrefix}
-use Rattle.query_prefixes.specs.Answers.{Placed, sign_answer, unary_of, node_over, prefix_answer}
+use Rattle.query_prefixes.specs.Answers.{Placed, sign_answer, unary_of, node_over, read_prefix, prefix_answer}
 use Rattle.query_prefixes.specs.AnswerLaws.{sign-is, sign-missing, prefix-is, prefix-missing, over-prefix}
-use Rattle.query_operands.specs.declared.operands.Operand.TheVariants.{Read, NotRead}
-use Rattle.query_operands.specs.Reading.{Room, IsRead, Reads, not_read, read}
+use Rattle.query_operands.specs.Reading.{Room, IsRead, Reads, not_read, read, read_operand}
+
+-- the first of two refusals, in the library's word
+pub or_leftmost : (f g : Option Refusal) → option_or f g ≡ leftmost f g
+or_leftmost None g = refl
+or_leftmost (Some r) g = refl
 
 -- ---- the room after each piece of text
 
-pub room-placed : {text out : List ℕ} {at end count : ℕ} → Room text at out end count → Placed text at
+pub room-placed : {text : List ℕ} {out : Writer} {at count : ℕ} → Room text at out count → Placed text at
 room-placed room = record { within = room.within; short = room.short }
 
-pub room-byte : {text out : List ℕ} {at end count : ℕ} (b : ℕ) → Room text at out end count → get_or text at 0 ≡ b → 1 ≤ b → Room text (at + 1) out end count
-room-byte {text} {out} {at} {end} {count} b room e some =
+pub room-byte : {text : List ℕ} {out : Writer} {at count : ℕ} (b : ℕ) → Room text at out count → get_or text at 0 ≡ b → 1 ≤ b → Room text (at + 1) out count
+room-byte {text} {out} {at} {count} b room e some =
     let inside = byte_inside text at b e some in
     let h = room.bytes in
     let k = room.nodes in
     record { within = omega arith; short = room.short; space = room.space; bytes = omega arith; nodes = omega arith }
 
 -- after an operand: later in the text, with one more node at least
-pub record After (text : List ℕ) (at next : ℕ) (new : List ℕ) (last count all : ℕ) : Type 0 where
+pub record After (text : List ℕ) (at next : ℕ) (new : Writer) (count all : ℕ) : Type 0 where
   pub later : at < next
-  pub room : Room text next new last all
+  pub room : Room text next new all
   pub some : count < all
 
 pub room_after :
-    {m end count at : ℕ} {text old new : List ℕ} {next last all : ℕ} {fault : Fault}
-    → Room text at old end count
-    → IsRead m end count old new (operand_at text at) next last all fault
-    → After text at next new last count all
-room_after {m} {end} {count} {at} {text} {old} {new} {next} {last} {all} {fault} room r =
+    {m count at : ℕ} {text : List ℕ} {old new : Writer} {next all : ℕ} {fault : Option Refusal}
+    → Room text at old count
+    → IsRead m count old new (operand_at text at) next all fault
+    → After text at next new count all
+room_after {m} {count} {at} {text} {old} {new} {next} {all} {fault} room r =
     let reads = operand_sound text at r.query next r.is in
     let within = reads.within in
     let next-is = operand-end text at r.query next room.within reads in
@@ -60,8 +64,8 @@ room_after {m} {end} {count} {at} {text} {old} {new} {next} {last} {all} {fault}
     let short = bytes-size count r.query in
     let one = count-some r.query in
     let all-is = r.all-is in
-    let last-is = r.wrote.end_is in
-    let size = r.wrote.size in
+    let last-is = r.wrote.wrote.end_is in
+    let size = r.wrote.wrote.size in
     let h = room.bytes in
     let k = room.nodes in
     let s = room.space in
@@ -73,22 +77,22 @@ room_after {m} {end} {count} {at} {text} {old} {new} {next} {last} {all} {fault}
 
 -- ---- relations
 
-module _ (text : List ℕ) (at : ℕ) {m end count : ℕ} {old : List ℕ} where
-  pub relation-none : {new : List ℕ} {b : ℕ} → b ≡ get_or text at 0 → is_digit b ≡ false → Reads m end count old new (relation_at text at) NotRead
+module _ (text : List ℕ) (at : ℕ) {m count : ℕ} {old : Writer} where
+  pub relation-none : {new : Writer} {b : ℕ} → b ≡ get_or text at 0 → is_digit b ≡ false → Reads m count old new (relation_at text at) None
   relation-none b-is e = not_read (no-relation text at (ap is_digit (sym b-is) ∙ e))
 
   pub relation-done :
-      {new : List ℕ} {b next : ℕ} {fault : Fault}
+      {new : Writer} {b : ℕ} {fault : Option Refusal}
       → b ≡ get_or text at 0
       → is_digit b ≡ true
       → fault ≡ relation_fault (ltb (b - 48) m)
-      → Wrote end (node_bytes (Relation (b - 48))) old new next
-      → Reads m end count old new (relation_at text at) (Read (at + 1) next (count + 1) fault)
-  relation-done {new} {b} {next} {fault} b-is d f w =
+      → Writes (node_bytes (Relation (b - 48))) old new
+      → Reads m count old new (relation_at text at) (read_operand (at + 1) (count + 1) fault)
+  relation-done {new} {b} {fault} b-is d f w =
       read (record {
         query = relation (b - 48);
         is = relation-there text at (ap is_digit (sym b-is) ∙ d) ∙ ap (λ (x : ℕ). found (relation (x - 48)) (at + 1)) (sym b-is);
-        wrote = wrote_as (sym (bytes-relation count (b - 48))) w;
+        wrote = writes-as (sym (bytes-relation count (b - 48))) w;
         all-is = refl;
         fault-is = f ∙ sym (fault-relation m (b - 48));
       })
@@ -102,8 +106,8 @@ pub record IsPrefix (text : List ℕ) (at : ℕ) (unary : UnaryNode) (special : 
   pub unary-is : unary ≡ unary_of prefix
   pub special-is : special ≡ all_special (prefix_attributes prefix)
 
-pub room-prefix : {text out : List ℕ} {at next end count : ℕ} {unary : UnaryNode} {special : Bool} → Room text at out end count → IsPrefix text at unary special next → (at < next) × Room text next out end count
-room-prefix {text} {out} {at} {next} {end} {count} room l =
+pub room-prefix : {text : List ℕ} {out : Writer} {at next count : ℕ} {unary : UnaryNode} {special : Bool} → Room text at out count → IsPrefix text at unary special next → (at < next) × Room text next out count
+room-prefix {text} {out} {at} {next} {count} room l =
     let reads = prefix-sound text at l.prefix next l.is in
     let within = reads.within in
     let next-is = prefix-end text at l.prefix next room.within reads in
@@ -112,20 +116,20 @@ room-prefix {text} {out} {at} {next} {end} {count} room l =
     let n = room.nodes in
     (omega arith, record { within = within; short = room.short; space = room.space; bytes = omega arith; nodes = omega arith })
 
-module _ (text : List ℕ) (at : ℕ) {m end count : ℕ} {old : List ℕ} where
-  pub prefixed-none : {new : List ℕ} → NoPrefix ≡ prefix_answer (prefix_at text at) → Reads m end count old new (prefixed_with (operand_at text) text at) NotRead
+module _ (text : List ℕ) (at : ℕ) {m count : ℕ} {old : Writer} where
+  pub prefixed-none : {new : Writer} → None ≡ prefix_answer (prefix_at text at) → Reads m count old new (prefixed_with (operand_at text) text at) None
   prefixed-none e = not_read (no-prefix (operand_at text) text at (prefix-missing (prefix_at text at) e))
 
   module _ {unary : UnaryNode} {special : Bool} {next : ℕ} (l : IsPrefix text at unary special next) where
-    pub prefixed-half : {new : List ℕ} → operand_at text next ≡ missing → Reads m end count old new (prefixed_with (operand_at text) text at) NotRead
+    pub prefixed-half : {new : Writer} → operand_at text next ≡ missing → Reads m count old new (prefixed_with (operand_at text) text at) None
     prefixed-half e = not_read (no_Operand (operand_at text) text at l.is e)
 
     pub prefixed-done :
-        {near new : List ℕ} {after last all over : ℕ} {fault : Fault}
-        → IsRead m end count old near (operand_at text next) after last all fault
-        → Wrote last (node_bytes (node_over unary (all - 1))) near new over
-        → Reads m end count old new (prefixed_with (operand_at text) text at) (Read after over (all + 1) (leftmost (attribute_fault special) fault))
-    prefixed-done {near} {new} {after} {last} {all} {over} {fault} r w =
+        {near new : Writer} {after all : ℕ} {fault : Option Refusal}
+        → IsRead m count old near (operand_at text next) after all fault
+        → Writes (node_bytes (node_over unary (all - 1))) near new
+        → Reads m count old new (prefixed_with (operand_at text) text at) (read_operand after (all + 1) (leftmost (attribute_fault special) fault))
+    prefixed-done {near} {new} {after} {all} {fault} r w =
         let all-is = r.all-is in
         let more : all + 1 ≡ count + (node_count r.query + 1) = omega arith in
         let node-is : node_over unary (all - 1) ≡ prefix_node l.prefix (count + node_count r.query - 1) =
@@ -134,12 +138,12 @@ module _ (text : List ℕ) (at : ℕ) {m end count : ℕ} {old : List ℕ} where
         read (record {
           query = prefixed l.prefix r.query;
           is = prefixed-there (operand_at text) text at l.is r.is;
-          wrote = wrote_as (sym (bytes-prefixed count l.prefix r.query)) (wrote-more r.wrote (wrote_as (ap node_bytes node-is) w));
+          wrote = writes-as (sym (bytes-prefixed count l.prefix r.query)) (writes-more r.wrote (writes-as (ap node_bytes node-is) w));
           all-is = more;
-          fault-is = ap₂ (λ (t : Bool) (f : Fault). leftmost (attribute_fault t) f) l.special-is r.fault-is ∙ sym (fault-prefixed m l.prefix r.query);
+          fault-is = ap₂ (λ (t : Bool) (f : Option Refusal). leftmost (attribute_fault t) f) l.special-is r.fault-is ∙ sym (fault-prefixed m l.prefix r.query);
         })
 
-pub is-prefix : (text : List ℕ) (at : ℕ) {unary : UnaryNode} {special : Bool} {next : ℕ} → PrefixFound unary special next ≡ prefix_answer (prefix_at text at) → IsPrefix text at unary special next
+pub is-prefix : (text : List ℕ) (at : ℕ) {unary : UnaryNode} {special : Bool} {next : ℕ} → read_prefix unary special next ≡ prefix_answer (prefix_at text at) → IsPrefix text at unary special next
 is-prefix text at e = let found-is = prefix-is (prefix_at text at) e in record { prefix = found-is.0; is = found-is.1; unary-is = found-is.2; special-is = found-is.3 }
 
 -- ---- pairs
@@ -149,7 +153,7 @@ pub record IsSign (text : List ℕ) (at : ℕ) (op : BinaryOp) : Type 0 where
   pub is : sign_at text at ≡ found op (at + 1)
   pub within : at + 1 ≤ length text
 
-pub is-sign : (text : List ℕ) (at : ℕ) {op : BinaryOp} → Operator op ≡ sign_answer (sign_at text at) → IsSign text at op
+pub is-sign : (text : List ℕ) (at : ℕ) {op : BinaryOp} → Some op ≡ sign_answer (sign_at text at) → IsSign text at op
 is-sign text at {op} e =
     let found-is = sign-is (sign_at text at) e in
     let sign = sign-sound text at op found-is.0 found-is.1 in
@@ -157,47 +161,47 @@ is-sign text at {op} e =
     let within = sign.within in
     record { is = found-is.1 ∙ ap (found op) next-is; within = omega arith }
 
-pub room-sign : {text out : List ℕ} {at end count : ℕ} {op : BinaryOp} → Room text at out end count → IsSign text at op → Room text (at + 1) out end count
-room-sign {text} {out} {at} {end} {count} room s =
+pub room-sign : {text : List ℕ} {out : Writer} {at count : ℕ} {op : BinaryOp} → Room text at out count → IsSign text at op → Room text (at + 1) out count
+room-sign {text} {out} {at} {count} room s =
     let h = room.bytes in
     let k = room.nodes in
     record { within = s.within; short = room.short; space = room.space; bytes = omega arith; nodes = omega arith }
 
-module _ (text : List ℕ) (at : ℕ) {m end count : ℕ} {old : List ℕ} where
-  pub pair-no-left : {new : List ℕ} → operand_at text at ≡ missing → Reads m end count old new (pair_with (operand_at text) text at) NotRead
+module _ (text : List ℕ) (at : ℕ) {m count : ℕ} {old : Writer} where
+  pub pair-no-left : {new : Writer} → operand_at text at ≡ missing → Reads m count old new (pair_with (operand_at text) text at) None
   pair-no-left e = not_read (no-left (operand_at text) text at e)
 
-  module _ {mid : List ℕ} {a middle lefts : ℕ} {fault : Fault} (l : IsRead m end count old mid (operand_at text at) a middle lefts fault) where
-    pub pair-no-sign : {new : List ℕ} → NoSign ≡ sign_answer (sign_at text a) → Reads m end count old new (pair_with (operand_at text) text at) NotRead
+  module _ {mid : Writer} {a lefts : ℕ} {fault : Option Refusal} (l : IsRead m count old mid (operand_at text at) a lefts fault) where
+    pub pair-no-sign : {new : Writer} → None ≡ sign_answer (sign_at text a) → Reads m count old new (pair_with (operand_at text) text at) None
     pair-no-sign e = not_read (no_sign (operand_at text) text at l.is (sign-missing (sign_at text a) e))
 
     module _ {op : BinaryOp} (s : IsSign text a op) where
-      pub pair-no-right : {new : List ℕ} → operand_at text (a + 1) ≡ missing → Reads m end count old new (pair_with (operand_at text) text at) NotRead
+      pub pair-no-right : {new : Writer} → operand_at text (a + 1) ≡ missing → Reads m count old new (pair_with (operand_at text) text at) None
       pair-no-right e = not_read (no-right (operand_at text) text at l.is s.is e)
 
-      module _ {near : List ℕ} {b last all : ℕ} {other : Fault} (r : IsRead m middle lefts mid near (operand_at text (a + 1)) b last all other) where
-        pub pair-not-closed : {new : List ℕ} → (get_or text b 0 ≡ 41 → ⊥) → Reads m end count old new (pair_with (operand_at text) text at) NotRead
+      module _ {near : Writer} {b all : ℕ} {other : Option Refusal} (r : IsRead m lefts mid near (operand_at text (a + 1)) b all other) where
+        pub pair-not-closed : {new : Writer} → (get_or text b 0 ≡ 41 → ⊥) → Reads m count old new (pair_with (operand_at text) text at) None
         pair-not-closed e = not_read (not-closed (operand_at text) text at l.is s.is r.is e)
 
         pub pair-done :
-            {new : List ℕ} {over : ℕ}
+            {new : Writer}
             → get_or text b 0 ≡ 41
-            → Wrote last (node_bytes (Binary op (lefts - 1) (all - 1))) near new over
-            → Reads m end count old new (pair_with (operand_at text) text at) (Read (b + 1) over (all + 1) (leftmost fault other))
-        pair-done {new} {over} e w =
+            → Writes (node_bytes (Binary op (lefts - 1) (all - 1))) near new
+            → Reads m count old new (pair_with (operand_at text) text at) (read_operand (b + 1) (all + 1) (leftmost fault other))
+        pair-done {new} e w =
             let lefts-is = l.all-is in
             let all-is : all ≡ count + node_count l.query + node_count r.query = r.all-is ∙ ap (λ (n : ℕ). n + node_count r.query) lefts-is in
             let more : all + 1 ≡ count + (node_count l.query + node_count r.query + 1) = omega arith in
-            let right = wrote_as (ap (λ (k : ℕ). bytes_from k r.query) lefts-is) r.wrote in
-            let node = wrote_as (ap₂ (λ (j k : ℕ). node_bytes (Binary op (j - 1) (k - 1))) lefts-is all-is) w in
+            let right = writes-as (ap (λ (k : ℕ). bytes_from k r.query) lefts-is) r.wrote in
+            let node = writes-as (ap₂ (λ (j k : ℕ). node_bytes (Binary op (j - 1) (k - 1))) lefts-is all-is) w in
             read (record {
               query = pair op l.query r.query;
               is = pair-there (operand_at text) text at l.is s.is r.is e;
-              wrote = wrote_as (sym (bytes_pair count op l.query r.query)) (wrote-more l.wrote (wrote-more right node));
+              wrote = writes-as (sym (bytes_pair count op l.query r.query)) (writes-more l.wrote (writes-more right node));
               all-is = more;
               fault-is = ap₂ leftmost l.fault-is r.fault-is ∙ sym (fault-pair m op l.query r.query);
             })
 
 -- an operand that does not end before the text's end ends there
-pub read-end : (text : List ℕ) (at : ℕ) {m end count : ℕ} {old new : List ℕ} {next last all : ℕ} {fault : Fault} → IsRead m end count old new (operand_at text at) next last all fault → length text ≤ next → next ≡ length text
-read-end text at {m} {end} {count} {old} {new} {next} r h = let within = (operand_sound text at r.query next r.is).within in omega arith
+pub read-end : (text : List ℕ) (at : ℕ) {m count : ℕ} {old new : Writer} {next all : ℕ} {fault : Option Refusal} → IsRead m count old new (operand_at text at) next all fault → length text ≤ next → next ≡ length text
+read-end text at {m} {count} {old} {new} {next} r h = let within = (operand_sound text at r.query next r.is).within in omega arith

@@ -1,96 +1,93 @@
 // Operands and pairs: "A pair reads two operands, and an operand may be a pair again" (document 02, Point 2). Each
-// reader writes the nodes of what it read from a place on; where it reads no operand, what then stands there is free.
+// reader writes the nodes of what it read; where it reads no operand, what it wrote before it saw this is free.
 ghost use Rattle.query_language.specs.Parse.{relation_at, pair_with, operand_at};
 ghost use Rattle.query_operands.specs.Reading.{Room, Reads};
 
-use crate::faults::{attribute_fault, leftmost_fault, relation_fault};
+use crate::faults::{attribute_fault, relation_fault};
 use node::Node;
 use node_writer::write_node;
-use query_answer::Fault;
-use query_prefixes::{PrefixReading, Sign, byte_at, is_digit, prefix_at, sign_at};
+use query_prefixes::{byte_at, is_digit, prefix_at, sign_at};
+use refusal::Refusal;
+use text::Writer;
 
-// The place after an operand, the place after its nodes, the number of nodes up to its own, and its first fault; or
-// that there is no operand.
+// The place after an operand, the number of nodes up to its own, and the refusal that its first number out of its range
+// gives (FORMAT 11.8).
 #[derive(Clone, Copy)]
-pub enum Operand {
-    Read(usize, usize, usize, Fault),
-    NotRead,
+pub struct Operand {
+    pub next: usize,
+    pub count: usize,
+    pub fault: Option<Refusal>,
 }
 
 // A relation, after its letter.
-fn read_relation(text: &[u8], m: u8, at: usize, out: &mut [u8], end: usize, count: usize) -> Operand
-    requires { Room text.now at out.old end count }
-    ensures { Reads m end count out.old out.new (relation_at text.now at) result }
+fn read_relation(
+    text: &[u8],
+    m: u8,
+    at: usize,
+    nodes: &mut Writer<'_>,
+    count: usize,
+) -> Option<Operand>
+    requires { Room text.now at nodes.old count }
+    ensures { Reads m count nodes.old nodes.new (relation_at text.now at) result }
 {
     let b = byte_at(text, at);
     if !is_digit(b) {
-        return Operand::NotRead;
+        return None;
     }
     let relation = b - b'0';
-    let next = write_node(out, end, Node::Relation(relation));
-    Operand::Read(at + 1, next, count + 1, relation_fault(relation, m))
+    write_node(nodes, Node::Relation(relation));
+    Some(Operand {
+        next: at + 1,
+        count: count + 1,
+        fault: relation_fault(relation, m),
+    })
 }
 
-// An operand, its nodes from byte `end` of `out` on, numbered from `count` on.
+// An operand, if there is one, its nodes numbered from `count` on.
 #[cycle(read_operand_read_pair)]
 pub fn read_operand(
     text: &[u8],
     m: u8,
     at: usize,
-    out: &mut [u8],
-    end: usize,
+    nodes: &mut Writer<'_>,
     count: usize,
-) -> Operand
-    requires { Room text.now at out.old end count }
-    ensures { Reads m end count out.old out.new (operand_at text.now at) result }
+) -> Option<Operand>
+    requires { Room text.now at nodes.old count }
+    ensures { Reads m count nodes.old nodes.new (operand_at text.now at) result }
 {
-    let b = byte_at(text, at);
-    if b == b'r' {
-        return read_relation(text, m, at + 1, out, end, count);
-    }
-    if b == b'(' {
-        return read_pair(text, m, at + 1, out, end, count);
-    }
-    match prefix_at(text, at) {
-        PrefixReading::NoPrefix => Operand::NotRead,
-        PrefixReading::Prefix(unary, special, next) => {
-            match read_operand(text, m, next, out, end, count) {
-                Operand::NotRead => Operand::NotRead,
-                Operand::Read(after, last, all, fault) => {
-                    let over = write_node(out, last, unary.over((all - 1) as u8));
-                    Operand::Read(
-                        after,
-                        over,
-                        all + 1,
-                        leftmost_fault(attribute_fault(special), fault),
-                    )
-                }
-            }
+    match byte_at(text, at) {
+        b'r' => read_relation(text, m, at + 1, nodes, count),
+        b'(' => read_pair(text, m, at + 1, nodes, count),
+        _ => {
+            let prefix = prefix_at(text, at)?;
+            let operand = read_operand(text, m, prefix.next, nodes, count)?;
+            write_node(nodes, prefix.unary.over((operand.count - 1) as u8));
+            Some(Operand {
+                next: operand.next,
+                count: operand.count + 1,
+                fault: attribute_fault(prefix.special).or(operand.fault),
+            })
         }
     }
 }
 
 // A pair, after the parenthesis that opens it.
 #[cycle(read_operand_read_pair)]
-fn read_pair(text: &[u8], m: u8, at: usize, out: &mut [u8], end: usize, count: usize) -> Operand
-    requires { Room text.now at out.old end count }
-    ensures { Reads m end count out.old out.new (pair_with (operand_at text.now) text.now at) result }
+fn read_pair(text: &[u8], m: u8, at: usize, nodes: &mut Writer<'_>, count: usize) -> Option<Operand>
+    requires { Room text.now at nodes.old count }
+    ensures { Reads m count nodes.old nodes.new (pair_with (operand_at text.now) text.now at) result }
 {
-    match read_operand(text, m, at, out, end, count) {
-        Operand::NotRead => Operand::NotRead,
-        Operand::Read(a, middle, lefts, fault) => match sign_at(text, a) {
-            Sign::NoSign => Operand::NotRead,
-            Sign::Operator(op) => match read_operand(text, m, a + 1, out, middle, lefts) {
-                Operand::NotRead => Operand::NotRead,
-                Operand::Read(b, last, all, other) => {
-                    if byte_at(text, b) != b')' {
-                        return Operand::NotRead;
-                    }
-                    let node = Node::Binary(op, (lefts - 1) as u8, (all - 1) as u8);
-                    let over = write_node(out, last, node);
-                    Operand::Read(b + 1, over, all + 1, leftmost_fault(fault, other))
-                }
-            },
-        },
+    let left = read_operand(text, m, at, nodes, count)?;
+    let op = sign_at(text, left.next)?;
+    let right = read_operand(text, m, left.next + 1, nodes, left.count)?;
+    if byte_at(text, right.next) != b')' {
+        return None;
     }
+    let node = Node::Binary(op, (left.count - 1) as u8, (right.count - 1) as u8);
+    write_node(nodes, node);
+    Some(Operand {
+        next: right.next + 1,
+        count: right.count + 1,
+        fault: left.fault.or(right.fault),
+    })
 }

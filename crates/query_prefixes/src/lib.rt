@@ -10,4 +10,4 @@ mod signs;
 pub use numbers::is_digit;
 pub use places::byte_at;
 pub use prefixes::{PrefixReading, UnaryNode, prefix_at};
-pub use signs::{Sign, sign_at};
+pub use signs::sign_at;

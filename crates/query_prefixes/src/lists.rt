@@ -1,33 +1,24 @@
 // Lists of attributes in square brackets (FORMAT 11.3).
-ghost use Rattle.std.specs.Prelude.{◌≡◌, true, ◌&&◌};
+ghost use Rattle.std.specs.Prelude.{◌≡◌, true};
 ghost use Rattle.attribute_set.specs.AttrSet.{empty_set};
 ghost use Rattle.query_language.specs.Parse.{items_at, list_at};
 ghost use Rattle.query_prefixes.specs.Answers.{Placed, list_answer};
 
-use crate::numbers::{Number, number_at};
+use crate::numbers::number_at;
 use crate::places::byte_at;
 use attribute_set::{AttrSet, is_special};
 
-// The set of a list, whether all its attributes are special, and the place after the bracket that closes it; or that
-// there is no list.
+// The set of a list, whether all its attributes are special, and the place after the bracket that closes it.
 #[derive(Clone, Copy)]
-pub enum Listing {
-    Listed(AttrSet, bool, usize),
-    NoList,
+pub struct AttributeList {
+    pub set: AttrSet,
+    pub special: bool,
+    pub next: usize,
 }
 
-// Whether both hold.
-pub fn both(a: bool, b: bool) -> bool
-    ensures { result ≡ a && b }
-{
-    if a {
-        return b;
-    }
-    false
-}
-
-// The items from a place on, at least one, each above the one before.
-fn items_at(text: &[u8], start: usize) -> Listing
+// The items from a place on, at least one, each above the one before. A `loop`: which item is the last one is seen only
+// behind it, and a bound on their number would be a second end that no text comes to.
+fn items_at(text: &[u8], start: usize) -> Option<AttributeList>
     requires { Placed text.now start }
     ensures { result ≡ list_answer empty_set true (items_at text.now 0 start) }
 {
@@ -36,37 +27,38 @@ fn items_at(text: &[u8], start: usize) -> Listing
     let mut low = 0;
     let mut at = start;
     loop {
-        match number_at(text, at) {
-            Number::NoNumber => {
-                return Listing::NoList;
+        let number = number_at(text, at)?;
+        if number.value < low {
+            return None;
+        }
+        set = set.add(number.value);
+        special = special && is_special(number.value);
+        match byte_at(text, number.next) {
+            b']' => return Some(AttributeList {
+                set,
+                special,
+                next: number.next + 1,
+            }),
+            b',' => {
+                low = number.value + 1;
+                at = number.next + 1;
             }
-            Number::Value(n, next) => {
-                if n < low {
-                    return Listing::NoList;
-                }
-                let b = byte_at(text, next);
-                set = set.add(n);
-                special = both(special, is_special(n));
-                if b == b']' {
-                    return Listing::Listed(set, special, next + 1);
-                }
-                if b != b',' {
-                    return Listing::NoList;
-                }
-                low = n + 1;
-                at = next + 1;
-            }
+            _ => return None,
         }
     }
 }
 
-// The list at a place, after the bracket that opens it.
-pub fn list_at(text: &[u8], at: usize) -> Listing
+// The list at a place, after the bracket that opens it, if there is one.
+pub fn list_at(text: &[u8], at: usize) -> Option<AttributeList>
     requires { Placed text.now at }
     ensures { result ≡ list_answer empty_set true (list_at text.now at) }
 {
     if byte_at(text, at) == b']' {
-        return Listing::Listed(AttrSet::empty(), true, at + 1);
+        return Some(AttributeList {
+            set: AttrSet::empty(),
+            special: true,
+            next: at + 1,
+        });
     }
     items_at(text, at)
 }

@@ -5,8 +5,5 @@ ghost use Rattle.std.specs.Prelude.{◌≡◌, get_or};
 pub fn byte_at(text: &[u8], at: usize) -> u8
     ensures { result ≡ get_or text.now at 0 }
 {
-    if at < text.len() {
-        return text[at];
-    }
-    0
+    text.get(at).copied().unwrap_or(0)
 }

@@ -3,8 +3,8 @@ ghost use Rattle.std.specs.Prelude.{◌≡◌};
 ghost use Rattle.query_language.specs.Parse.{set_at, renaming_at, projecting_out_at, prefix_at};
 ghost use Rattle.query_prefixes.specs.Answers.{Placed, node_over, prefix_answer};
 
-use crate::lists::{Listing, both, list_at};
-use crate::numbers::{Number, ended_number};
+use crate::lists::list_at;
+use crate::numbers::ended_number;
 use crate::places::byte_at;
 use attribute_set::{AttrSet, is_special};
 use node::{Node, SetOp};
@@ -30,78 +30,67 @@ impl UnaryNode {
     }
 }
 
-// What a prefix makes of its operand, whether all its attributes are special, and the place after it; or that there is
-// no prefix.
+// What a prefix makes of its operand, whether all its attributes are special, and the place after it.
 #[derive(Clone, Copy)]
-pub enum PrefixReading {
-    Prefix(UnaryNode, bool, usize),
-    NoPrefix,
+pub struct PrefixReading {
+    pub unary: UnaryNode,
+    pub special: bool,
+    pub next: usize,
 }
 
 // A selection or a projection, after the bracket that opens its list.
-fn set_at(op: SetOp, text: &[u8], at: usize) -> PrefixReading
+fn set_at(op: SetOp, text: &[u8], at: usize) -> Option<PrefixReading>
     requires { Placed text.now at }
     ensures { result ≡ prefix_answer (set_at op text.now at) }
 {
-    match list_at(text, at) {
-        Listing::NoList => PrefixReading::NoPrefix,
-        Listing::Listed(set, special, next) => {
-            PrefixReading::Prefix(UnaryNode::WithSet(op, set), special, next)
-        }
-    }
+    let list = list_at(text, at)?;
+    Some(PrefixReading {
+        unary: UnaryNode::WithSet(op, list.set),
+        special: list.special,
+        next: list.next,
+    })
 }
 
 // A renaming, after its bracket.
-fn renaming_at(text: &[u8], at: usize) -> PrefixReading
+fn renaming_at(text: &[u8], at: usize) -> Option<PrefixReading>
     requires { Placed text.now at }
     ensures { result ≡ prefix_answer (renaming_at text.now at) }
 {
-    match ended_number(text, at, b'>') {
-        Number::NoNumber => PrefixReading::NoPrefix,
-        Number::Value(old, middle) => match ended_number(text, middle, b']') {
-            Number::NoNumber => PrefixReading::NoPrefix,
-            Number::Value(new, next) => PrefixReading::Prefix(
-                UnaryNode::Renaming(old, new),
-                both(is_special(old), is_special(new)),
-                next,
-            ),
-        },
-    }
+    let old = ended_number(text, at, b'>')?;
+    let new = ended_number(text, old.next, b']')?;
+    Some(PrefixReading {
+        unary: UnaryNode::Renaming(old.value, new.value),
+        special: is_special(old.value) && is_special(new.value),
+        next: new.next,
+    })
 }
 
 // A projecting out, after its bracket.
-fn projecting_out_at(text: &[u8], at: usize) -> PrefixReading
+fn projecting_out_at(text: &[u8], at: usize) -> Option<PrefixReading>
     requires { Placed text.now at }
     ensures { result ≡ prefix_answer (projecting_out_at text.now at) }
 {
-    match ended_number(text, at, b']') {
-        Number::NoNumber => PrefixReading::NoPrefix,
-        Number::Value(old, next) => {
-            PrefixReading::Prefix(UnaryNode::ProjectingOut(old), is_special(old), next)
-        }
-    }
+    let old = ended_number(text, at, b']')?;
+    Some(PrefixReading {
+        unary: UnaryNode::ProjectingOut(old.value),
+        special: is_special(old.value),
+        next: old.next,
+    })
 }
 
-// The prefix at a place.
-pub fn prefix_at(text: &[u8], at: usize) -> PrefixReading
+// The prefix at a place, if there is one.
+pub fn prefix_at(text: &[u8], at: usize) -> Option<PrefixReading>
     requires { Placed text.now at }
     ensures { result ≡ prefix_answer (prefix_at text.now at) }
 {
     if byte_at(text, at + 1) != b'[' {
-        return PrefixReading::NoPrefix;
+        return None;
     }
-    let b = byte_at(text, at);
-    if b == b'S' {
-        return set_at(SetOp::Selection, text, at + 2);
+    match byte_at(text, at) {
+        b'S' => set_at(SetOp::Selection, text, at + 2),
+        b'P' => set_at(SetOp::Projection, text, at + 2),
+        b'N' => renaming_at(text, at + 2),
+        b'D' => projecting_out_at(text, at + 2),
+        _ => None,
     }
-    if b == b'P' {
-        return set_at(SetOp::Projection, text, at + 2);
-    }
-    if b == b'N' {
-        return renaming_at(text, at + 2);
-    }
-    if b == b'D' {
-        return projecting_out_at(text, at + 2);
-    }
-    PrefixReading::NoPrefix
 }

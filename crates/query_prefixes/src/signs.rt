@@ -6,29 +6,15 @@ ghost use Rattle.query_prefixes.specs.Answers.{sign_answer};
 use crate::places::byte_at;
 use node::BinaryOp;
 
-// The operator of a sign, or that there is none.
-#[derive(Clone, Copy)]
-pub enum Sign {
-    Operator(BinaryOp),
-    NoSign,
-}
-
-// The sign at a place.
-pub fn sign_at(text: &[u8], at: usize) -> Sign
+// The operator of the sign at a place, if there is one.
+pub fn sign_at(text: &[u8], at: usize) -> Option<BinaryOp>
     ensures { result ≡ sign_answer (sign_at text.now at) }
 {
-    let b = byte_at(text, at);
-    if b == b'+' {
-        return Sign::Operator(BinaryOp::Union);
+    match byte_at(text, at) {
+        b'+' => Some(BinaryOp::Union),
+        b'-' => Some(BinaryOp::Difference),
+        b'*' => Some(BinaryOp::Join),
+        b'#' => Some(BinaryOp::Product),
+        _ => None,
     }
-    if b == b'-' {
-        return Sign::Operator(BinaryOp::Difference);
-    }
-    if b == b'*' {
-        return Sign::Operator(BinaryOp::Join);
-    }
-    if b == b'#' {
-        return Sign::Operator(BinaryOp::Product);
-    }
-    Sign::NoSign
 }

@@ -1,35 +1,30 @@
 -- What a file that was written comes of, and what its nodes mean: the theorems of specs/Theorems.antt that rest on the
 -- meaning of each node. That the rules give the last node the types that they give the query, and that a file comes of
 -- one text, is in OneText.antt.
-use Rattle.std.specs.Prelude.{ℕ, ◌-◌, ◌≤◌, ◌<◌, ◌≡◌, ◌↔◌, List, length, get_or, take, []}
+use Rattle.std.specs.Prelude.{ℕ, ◌-◌, ◌≤◌, ◌<◌, ◌≡◌, List, length, get_or, take, [], Ok}
 use Rattle.std.proofs.Common.{sym, ap, subst, ◌∙◌, arith}
 use Rattle.bits.specs.Tab.{over, take-over}
-use Rattle.types.specs.Types.{Attrs, Assignment}
-use Rattle.algebra.specs.Rules.{Typed}
-use Rattle.expression_file.specs.declared.files.Acceptance.TheVariants.{Accepted}
-use Rattle.expression_file.specs.ReadFile.{acceptance}
+use Rattle.expression_file.specs.ReadFile.{acceptance, Accepted}
 use Rattle.expression_file.specs.WrittenFile.{file_of}
 use Rattle.expression_file.proofs.WrittenFile.{file-accepted}
 use Rattle.node_expression.specs.NodeExpression.{expression_at}
-use Rattle.query_language.specs.Query.{Query, query_text, InLanguage, node_count}
+use Rattle.query_language.specs.Query.{Query, InLanguage, node_count}
 use Rattle.query_language.proofs.Language.{one-reading}
 use Rattle.query_language.specs.Parts.{whole_part, parts_from}
-use Rattle.query_answer.specs.declared.Parsing.TheVariants.{Written as FileWritten}
 use Rattle.query_answer.specs.QueryNodes.{nodes_from, nodes-count, query_file, query-most}
 use Rattle.query_answer.specs.Faults.{faults_of}
 use Rattle.query_answer.specs.ParseQuery.{parse_answer, parse_file}
 use Rattle.query_theorems.specs.Meaning.{meaning}
 use Rattle.query_theorems.proofs.QueryExpressions.{query-nodes, last-meaning, node-meaning}
-use Rattle.query_theorems.specs.MeaningOnce.{meaning-once}
-use Rattle.query_theorems.specs.Theorems.{FileOf, parse-answers, written, written-file}
+use Rattle.query_theorems.specs.Theorems.{FileOf, parse-answers, written-file}
 
 -- ---- what is written
 
 -- a text, and slices in which its file was written
-module _ (m : ℕ) (text old : List ℕ) (size : ℕ) (parses : parse_answer m text (length old) ≡ FileWritten size) where
+module _ (m : ℕ) (text old : List ℕ) (size : ℕ) (parses : parse_answer m text (length old) ≡ Ok size) where
   -- the query that was read: the text is its text, and the front of the slice its file
   pub written_of : FileOf m text old size
-  written_of = written-file m text old size ((parse-answers m text (length old) (FileWritten size)).0 parses) parses
+  written_of = written-file m text old size ((parse-answers m text (length old) (Ok size)).0 parses) parses
 
   -- FORMAT 9.1: it is no longer than the slice must be
   pub written-most : size ≤ 322

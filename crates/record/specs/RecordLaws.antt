@@ -1,21 +1,20 @@
 -- What Record returns: the part of the file at its place, empty only where one of 1 to 11 applies.
-use Rattle.std.specs.Prelude.{ℕ, ◌+◌, ◌-◌, ◌≤◌, ◌<◌, ◌≡◌, refl, List, [], ◌++◌, length, get_or, take, drop}
+use Rattle.std.specs.Prelude.{ℕ, ◌+◌, ◌-◌, ◌≤◌, ◌<◌, ◌≡◌, refl, List, [], ◌++◌, length, get_or, take, drop, Result, Err, Ok}
 use Rattle.std.proofs.Common.{sym, ap, ◌∙◌, arith, length-append, length-drop, length-take-le}
 use Rattle.refusal.specs.declared.Refusal.{Refusal}
 use Rattle.refusal.specs.Number.{number_of}
-use Rattle.expression_file.specs.declared.files.Acceptance.{Acceptance}
-use Rattle.expression_file.specs.declared.files.Acceptance.TheVariants.{Accepted, Refused}
 use Rattle.node.specs.ReadNode.{size_of}
-use Rattle.expression_file.specs.ReadFile.{placed_at, size_at, start_at}
+use Rattle.expression_file.specs.ReadFile.{placed_at, size_at, start_at, Accepted}
 use Rattle.admission.specs.Admission.{asked}
 use Rattle.admission.specs.AdmissionLaws.{asked-passed, asked-number}
 use Rattle.record.specs.declared.Place.{Place}
 use Rattle.record.specs.Record.{place_of, record_of}
 use Rattle.expression_file.specs.Exchanged.{exchanged, exchanged-parts}
 use Rattle.expression_file.specs.Walk.{Walk, walk_first, walk-next, Decoded, walk-decoded, step-at}
+use Rattle.expression_file.specs.declared.files.Header.{Header}
 
 module _ (file : List ℕ) (k : ℕ) where
-  pub record-refused : (r : Refusal) → asked file k ≡ Refused r → (record_of file k ≡ []) × (place_of file k ≡ record { start = 0; len = 0 })
+  pub record-refused : (r : Refusal) → asked file k ≡ Err r → (record_of file k ≡ []) × (place_of file k ≡ record { start = 0; len = 0 })
   unfolding record_of place_of
   record-refused r e = rw e (refl, refl)
 
@@ -27,44 +26,44 @@ module _ (file : List ℕ) (k : ℕ) where
 pub place-fits : (file : List ℕ) (k : ℕ) → (place_of file k).start + (place_of file k).len ≤ length file
 place-fits file k = go (asked file k) refl
   where
-    go : (a : Acceptance) → asked file k ≡ a → (place_of file k).start + (place_of file k).len ≤ length file
-    go (Refused r) e = rw (record-refused file k r e).1 (omega arith)
-    go (Accepted m n) e =
+    go : (a : Result Header Refusal) → asked file k ≡ a → (place_of file k).start + (place_of file k).len ≤ length file
+    go (Err r) e = rw (record-refused file k r e).1 (omega arith)
+    go (Ok h) e =
         let found = asked-passed file k e in
-        rw (record-found file k m n e).1 (step-at file m n found.0 k found.1).next.inside
+        rw (record-found file k h.relations h.nodes e).1 (step-at file h.relations h.nodes found.0 k found.1).next.inside
 
 -- the bytes of the part
 pub record-part : (file : List ℕ) (k : ℕ) → record_of file k ≡ take (place_of file k).len (drop (place_of file k).start file)
 record-part file k = go (asked file k) refl
   where
-    go : (a : Acceptance) → asked file k ≡ a → record_of file k ≡ take (place_of file k).len (drop (place_of file k).start file)
-    go (Refused r) e = let refused = record-refused file k r e in rw (refused.0, refused.1)
-    go (Accepted m n) e =
+    go : (a : Result Header Refusal) → asked file k ≡ a → record_of file k ≡ take (place_of file k).len (drop (place_of file k).start file)
+    go (Err r) e = let refused = record-refused file k r e in rw (refused.0, refused.1)
+    go (Ok h) e =
         let found = asked-passed file k e in
-        let is = record-found file k m n e in
-        rw (is.0, is.1) (step-at file m n found.0 k found.1).part
+        let is = record-found file k h.relations h.nodes e in
+        rw (is.0, is.1) (step-at file h.relations h.nodes found.0 k found.1).part
 
 -- the part has at most 5 bytes, as every node
 pub record-most : (file : List ℕ) (k : ℕ) → length (record_of file k) ≤ 5
 record-most file k = go (asked file k) refl
   where
-    go : (a : Acceptance) → asked file k ≡ a → length (record_of file k) ≤ 5
-    go (Refused r) e = rw (record-refused file k r e).0 (omega arith)
-    go (Accepted m n) e =
+    go : (a : Result Header Refusal) → asked file k ≡ a → length (record_of file k) ≤ 5
+    go (Err r) e = rw (record-refused file k r e).0 (omega arith)
+    go (Ok h) e =
         let found = asked-passed file k e in
-        rw (record-found file k m n e).0 (step-at file m n found.0 k found.1).most
+        rw (record-found file k h.relations h.nodes e).0 (step-at file h.relations h.nodes found.0 k found.1).most
 
 -- FORMAT 7.5: the part is empty only where one of 1 to 11 applies; that it then is, is `record-refused`
-pub record-empty : (file : List ℕ) (k : ℕ) → record_of file k ≡ [] → (r : Refusal) × (asked file k ≡ Refused r) × (number_of r ≤ 11)
+pub record-empty : (file : List ℕ) (k : ℕ) → record_of file k ≡ [] → (r : Refusal) × (asked file k ≡ Err r) × (number_of r ≤ 11)
 record-empty file k empty = go (asked file k) refl
   where
-    go : (a : Acceptance) → asked file k ≡ a → (r : Refusal) × (asked file k ≡ Refused r) × (number_of r ≤ 11)
-    go (Refused r) e = (r, e, asked-number file k e)
-    go (Accepted m n) e =
+    go : (a : Result Header Refusal) → asked file k ≡ a → (r : Refusal) × (asked file k ≡ Err r) × (number_of r ≤ 11)
+    go (Err r) e = (r, e, asked-number file k e)
+    go (Ok h) e =
         let found = asked-passed file k e in
-        let bytes : (placed_at file k).bytes ≡ [] = sym (record-found file k m n e).0 ∙ empty in
+        let bytes : (placed_at file k).bytes ≡ [] = sym (record-found file k h.relations h.nodes e).0 ∙ empty in
         let none = ap length bytes in
-        let some = (step-at file m n found.0 k found.1).least in
+        let some = (step-at file h.relations h.nodes found.0 k found.1).least in
         absurd (omega arith)
 
 -- ---- the search for a node

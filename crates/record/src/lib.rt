@@ -6,7 +6,6 @@ ghost use Rattle.record.specs.Record.{place_of, placed_in, record_of};
 ghost use Rattle.record.specs.RecordLaws.{Seeking};
 
 use admission::ask;
-use expression_file::Acceptance;
 use node_reader::size_of;
 
 // A part of a file: its first byte and the number of its bytes.
@@ -22,10 +21,8 @@ pub fn place_of(file: &[u8], node: usize) -> Place
     ensures { result ≡ place_of file.now node }
 {
     let mut at = 2;
-    let mut k = 0;
-    while k < node {
+    for k in 0..node {
         at += size_of(file[at]);
-        k += 1;
     }
     Place {
         start: at,
@@ -38,8 +35,8 @@ pub fn locate(file: &[u8], node: usize) -> Place
     ensures { result ≡ place_of file.now node }
 {
     match ask(file, node) {
-        Acceptance::Refused(_) => Place { start: 0, len: 0 },
-        Acceptance::Accepted(_, _) => place_of(file, node),
+        Err(_) => Place { start: 0, len: 0 },
+        Ok(_) => place_of(file, node),
     }
 }
 

@@ -1,5 +1,5 @@
 -- Recover: the instantiation of a schema, or untyped (FORMAT 7.11).
-use Rattle.std.specs.Prelude.{ℕ, Bool, true, false, ◌&&◌, List, length}
+use Rattle.std.specs.Prelude.{ℕ, Bool, true, false, ◌&&◌, List, length, Result, Option, Err, Ok, Some, None}
 use Rattle.bits.specs.Tab.{over}
 use Rattle.admission.specs.Admission.{after, sliced, admitted}
 use Rattle.algebra.specs.Expression.{Expression}
@@ -11,8 +11,15 @@ use Rattle.typing_answer.specs.Typing.{after_schema}
 use Rattle.apply_answer.specs.Apply.{read_space}
 use Rattle.special_maps.specs.Special.{subsets_from}
 use Rattle.fitting.specs.Fit.{entries_fit, specials_fit}
-use Rattle.recover_answer.specs.declared.Recovery.{Recovery}
-use Rattle.recover_answer.specs.declared.Recovery.TheVariants.{Recovered, Untyped, Refused}
+use Rattle.refusal.specs.declared.Refusal.{Refusal}
+
+-- ---- the answers: recovered, with the length of the instantiation, or untyped
+
+pattern abbrev pub Recovered : ℕ → Result (Option ℕ) Refusal
+Recovered size = Ok (Some size)
+
+pattern abbrev pub Untyped : Result (Option ℕ) Refusal
+Untyped = Ok None
 
 -- ---- a schema's table at a node with expression e of a file with m relations
 
@@ -25,12 +32,12 @@ abbrev pub recovered_bytes : List ℕ → List ℕ → List ℕ
 recovered_bytes special entries = instantiation_bytes (subsets_from special) (lists_of entries)
 
 -- FORMAT 7.11: the answer, by whether the table fits
-abbrev pub recovered : Bool → List ℕ → List ℕ → Recovery
-recovered true special entries = Recovered (length (recovered_bytes special entries))
-recovered false special entries = Untyped
+abbrev pub recovered : Bool → List ℕ → List ℕ → Option ℕ
+recovered true special entries = Some (length (recovered_bytes special entries))
+recovered false special entries = None
 
 -- FORMAT 7.11: the answer over a table
-unfoldable pub table_recovered : ℕ → Expression → List ℕ → List ℕ → Recovery
+unfoldable pub table_recovered : ℕ → Expression → List ℕ → List ℕ → Option ℕ
 table_recovered m e special entries = recovered (fits m e special entries) special entries
 
 -- FORMAT 7.11: the instantiation over what the slice held; if untyped, the slice stays
@@ -45,8 +52,8 @@ table_instantiation m e special entries out = recovered_over (fits m e special e
 -- ---- a schema as it was read: the refusal, or what its table gives
 
 -- FORMAT 7.11: the answer over a schema as it was read
-unfoldable pub read_recovered : ℕ → Expression → Schema → Recovery
-read_recovered m e s = after_schema s.judgement Refused (table_recovered m e s.special s.entries)
+unfoldable pub read_recovered : ℕ → Expression → Schema → Result (Option ℕ) Refusal
+read_recovered m e s = after_schema s.judgement Err (Ok (table_recovered m e s.special s.entries))
 
 -- FORMAT 7.11: the instantiation slice over a schema as it was read
 unfoldable pub read_instantiation : ℕ → Expression → Schema → List ℕ → List ℕ
@@ -55,9 +62,9 @@ read_instantiation m e s out = after_schema s.judgement (λ r. out) (table_insta
 -- ---- the operation: 1 to 12, 13 of the instantiation slice (FORMAT 8.5); and then the schema
 
 -- FORMAT 7.11: the answer, for a work space and an instantiation slice of so many bytes
-unfoldable pub recover_answer : List ℕ → ℕ → List ℕ → ℕ → ℕ → Recovery
+unfoldable pub recover_answer : List ℕ → ℕ → List ℕ → ℕ → ℕ → Result (Option ℕ) Refusal
 recover_answer file k bytes space size =
-    after (sliced (admitted file k space) size instantiation_size) Refused (λ m n. read_recovered m (expression_at file k) (filled_reading m bytes))
+    after (sliced (admitted file k space) size instantiation_size) Err (λ m n. read_recovered m (expression_at file k) (filled_reading m bytes))
 
 -- FORMAT 7.11, 8.6: the work space afterwards: after untyped it holds the formulas too
 unfoldable pub recover_space : List ℕ → ℕ → List ℕ → List ℕ → ℕ → List ℕ

@@ -1,11 +1,9 @@
 -- The work space after Recover (FORMAT 8.6): the formulas, as Formula leaves them, where Recover got as far as reading
 -- them; else as it was.
-use Rattle.std.specs.Prelude.{ℕ, ◌≡◌, Bool, true, false, List, length}
+use Rattle.std.specs.Prelude.{ℕ, ◌≡◌, Bool, true, false, List, length, Result, Err, Option, Ok, Some, None}
 use Rattle.std.proofs.Math.Path.{refl, sym}
 use Rattle.std.proofs.Common.{ap, ◌∙◌}
 use Rattle.std.proofs.Math.Bool.{cond}
-use Rattle.expression_file.specs.declared.files.Acceptance.{Acceptance}
-use Rattle.expression_file.specs.declared.files.Acceptance.TheVariants.{Accepted, Refused as FileRefused}
 use Rattle.admission.specs.Admission.{after, sliced, admitted}
 use Rattle.admission.specs.AdmissionLaws.{sliced-passed}
 use Rattle.algebra.specs.Expression.{Expression}
@@ -13,30 +11,24 @@ use Rattle.node_expression.specs.NodeExpression.{expression_at}
 use Rattle.stored_formula.specs.Formula.{formula_space}
 use Rattle.stored_formula.specs.FormulaLaws.{admitted-space}
 use Rattle.filled_schema.specs.FilledSchema.{filled_reading}
-use Rattle.schema.specs.declared.reading.Judgement.{Judgement}
-use Rattle.schema.specs.declared.reading.Judgement.TheVariants.{Read, Refused as ReadRefused}
 use Rattle.instantiation.specs.Instantiation.{instantiation_size}
 use Rattle.typing_answer.specs.Typing.{after_schema}
 use Rattle.apply_answer.specs.Apply.{read_space}
-use Rattle.recover_answer.specs.Recover.{fits, recovered, table_recovered, read_recovered, recover_answer, recover_space}
-use Rattle.recover_answer.specs.declared.Recovery.{Recovery}
-use Rattle.recover_answer.specs.declared.Recovery.TheVariants.{Recovered, Untyped, Refused as RecoverRefused}
+use Rattle.recover_answer.specs.Recover.{fits, recovered, table_recovered, read_recovered, recover_answer, recover_space, Recovered, Untyped}
 use Rattle.apply_answer.specs.ApplyLaws.{space-stops, space-goes}
+use Rattle.refusal.specs.declared.Refusal.{Refusal}
+use Rattle.expression_file.specs.declared.files.Header.{Header}
+use Rattle.expression_file.specs.ReadFile.{Accepted}
+use Rattle.schema.specs.Judgement.{Judgement, Read, Refused as ReadRefused}
 
 -- FORMAT 8.6: the answers of Recover with which the work space is filled
-abbrev pub recover_fills : Recovery → Bool
-recover_fills (Recovered size) = true
-recover_fills Untyped = true
-recover_fills (RecoverRefused r) = false
+abbrev pub recover_fills : Result (Option ℕ) Refusal → Bool
+recover_fills (Ok a) = true
+recover_fills (Err r) = false
 
 -- whatever a table gives, the work space was filled before
-table-recovers : (m : ℕ) (e : Expression) (special entries : List ℕ) → recover_fills (table_recovered m e special entries) ≡ true
-unfolding table_recovered
-table-recovers m e special entries = go (fits m e special entries)
-  where
-    go : (t : Bool) → recover_fills (recovered t special entries) ≡ true
-    go true = refl
-    go false = refl
+table-recovers : (m : ℕ) (e : Expression) (special entries : List ℕ) → recover_fills (Ok (table_recovered m e special entries)) ≡ true
+table-recovers m e special entries = refl
 
 module _ (file : List ℕ) (k : ℕ) (bytes work : List ℕ) (size : ℕ) where
   pub recover-space : recover_space file k bytes work size ≡ cond (recover_fills (recover_answer file k bytes (length work) size)) (formula_space file work) work
@@ -50,23 +42,22 @@ module _ (file : List ℕ) (k : ℕ) (bytes work : List ℕ) (size : ℕ) where
           → read_space file m n j work
           ≡ cond
           (recover_fills
-          (after_schema j RecoverRefused
-          (table_recovered m (expression_at file k) (filled_reading m bytes).special (filled_reading m bytes).entries)))
+          (after_schema j Err
+          (Ok (table_recovered m (expression_at file k) (filled_reading m bytes).special (filled_reading m bytes).entries))))
           (formula_space file work) work
       read m n admits (ReadRefused r) = sym (space-stops file m n (ReadRefused r) work r refl)
       read m n admits Read =
           sym (space-goes file m n Read work refl) ∙ admitted-space file k work m n admits
-          ∙ sym (ap (λ (t : Bool). cond t (formula_space file work) work) (table-recovers m (expression_at file k) (filled_reading m bytes).special (filled_reading m bytes).entries))
 
       admission :
-          (a : Acceptance)
+          (a : Result Header Refusal)
           → sliced (admitted file k (length work)) size instantiation_size ≡ a
           → after a (λ r. work) (λ m n. read_space file m n (filled_reading m bytes).judgement work)
           ≡ cond
           (recover_fills
-          (after a RecoverRefused
-          (λ m n. after_schema (filled_reading m bytes).judgement RecoverRefused
-          (table_recovered m (expression_at file k) (filled_reading m bytes).special (filled_reading m bytes).entries))))
+          (after a Err
+          (λ m n. after_schema (filled_reading m bytes).judgement Err
+          (Ok (table_recovered m (expression_at file k) (filled_reading m bytes).special (filled_reading m bytes).entries)))))
           (formula_space file work) work
-      admission (FileRefused r) is = refl
-      admission (Accepted m n) is = read m n (sliced-passed (admitted file k (length work)) size instantiation_size is).0 (filled_reading m bytes).judgement
+      admission (Err r) is = refl
+      admission (Ok h) is = read h.relations h.nodes (sliced-passed (admitted file k (length work)) size instantiation_size is).0 (filled_reading h.relations bytes).judgement

@@ -7,59 +7,59 @@ ghost use Rattle.refusal.specs.Number.{number_of};
 #[derive(Clone, Copy)]
 pub enum Refusal {
     // the file has fewer than two bytes
-    HeaderTruncated,
+    HeaderTruncated = 1,
     // m is not 1 to 8
-    RelationCount,
+    RelationCount = 2,
     // n is not 1 to 64
-    NodeCount,
+    NodeCount = 3,
     // the file ends before a node, or within one
-    NodeTruncated,
+    NodeTruncated = 4,
     // the map is none of the five
-    NodeMap,
+    NodeMap = 5,
     // the code is none of its map's
-    OperatorCode,
+    OperatorCode = 6,
     // the relation is m or more
-    RelationNumber,
+    RelationNumber = 7,
     // the operand is the node itself or a later one
-    Operand,
+    Operand = 8,
     // an attribute is not 1 to 15, or bit 0 of a set stands
-    Attribute,
+    Attribute = 9,
     // bytes follow the last node
-    NodesFollowed,
+    NodesFollowed = 10,
     // the node asked for is n or more
-    NodeNumber,
+    NodeNumber = 11,
     // the work space has fewer than 1,024 n bytes
-    WorkSpace,
+    WorkSpace = 12,
     // a result slice is too short
-    ResultSlice,
+    ResultSlice = 13,
     // a schema or an instantiation ends too early
-    InputTruncated,
+    InputTruncated = 14,
     // a count byte is 0
-    CountZero,
+    CountZero = 15,
     // a listed attribute is below 16, or does not rise
-    ListedAttribute,
+    ListedAttribute = 16,
     // bytes follow a schema or an instantiation
-    InputFollowed,
+    InputFollowed = 17,
     // there are more than 255 different ordinary attributes
-    TooManyAttributes,
+    TooManyAttributes = 18,
     // two lists of an instantiation share an attribute
-    RepeatedAttribute,
+    RepeatedAttribute = 19,
     // a bit stands that is no type variable
-    TypeVariable,
+    TypeVariable = 20,
     // a special attribute's subset is not allowed in its column
-    SpecialSubset,
+    SpecialSubset = 21,
     // a text is no query
-    QuerySyntax,
+    QuerySyntax = 22,
     // a query's text has more than 512 bytes
-    QueryLength,
+    QueryLength = 23,
     // a query has more than 64 nodes
-    QueryNodes,
+    QueryNodes = 24,
     // a relation's record is empty
-    EmptyRecord,
+    EmptyRecord = 25,
     // the image of an instantiation leaves a relation empty
-    EmptyImage,
+    EmptyImage = 26,
     // Edit's result slice has fewer than 322 bytes
-    EditSlice,
+    EditSlice = 27,
 }
 
 impl Refusal {
@@ -67,34 +67,6 @@ impl Refusal {
     pub fn number(self) -> u8
         ensures { result ≡ number_of self }
     {
-        match self {
-            Refusal::HeaderTruncated => 1,
-            Refusal::RelationCount => 2,
-            Refusal::NodeCount => 3,
-            Refusal::NodeTruncated => 4,
-            Refusal::NodeMap => 5,
-            Refusal::OperatorCode => 6,
-            Refusal::RelationNumber => 7,
-            Refusal::Operand => 8,
-            Refusal::Attribute => 9,
-            Refusal::NodesFollowed => 10,
-            Refusal::NodeNumber => 11,
-            Refusal::WorkSpace => 12,
-            Refusal::ResultSlice => 13,
-            Refusal::InputTruncated => 14,
-            Refusal::CountZero => 15,
-            Refusal::ListedAttribute => 16,
-            Refusal::InputFollowed => 17,
-            Refusal::TooManyAttributes => 18,
-            Refusal::RepeatedAttribute => 19,
-            Refusal::TypeVariable => 20,
-            Refusal::SpecialSubset => 21,
-            Refusal::QuerySyntax => 22,
-            Refusal::QueryLength => 23,
-            Refusal::QueryNodes => 24,
-            Refusal::EmptyRecord => 25,
-            Refusal::EmptyImage => 26,
-            Refusal::EditSlice => 27,
-        }
+        self as u8
     }
 }

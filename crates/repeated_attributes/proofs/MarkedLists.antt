@@ -10,13 +10,13 @@ use Rattle.bits.specs.Tab.{tab}
 use Rattle.bits.specs.Word.{word, Bytes}
 use Rattle.refusal.specs.declared.Refusal.{Refusal}
 use Rattle.refusal.specs.Several.{several_read as lists_read}
-use Rattle.type_record.specs.declared.lists.ListReading.TheVariants.{Listed, Refused as ListRefused}
 use Rattle.type_record.specs.Lists.{listed}
 use Rattle.instantiation.specs.Instantiation.{standing, read_lists, all_listed}
 use Rattle.instantiation.specs.Seen.{nothing_seen, repeated_in, seen_in, Marked}
 use Rattle.instantiation.specs.SeenLaws.{repeated-same, repeated-append, marks-none}
 use Rattle.instantiation.specs.OneMoreList.{listed_more}
 use Rattle.instantiation.specs.ListsResumed.{Walk, walk_start, walk-clear, Reads, walk_refused, attributes-are, walk-next, walk-read}
+use Rattle.std.specs.Prelude.{Ok, Err}
 
 pub record Repeats (bytes seen : List ℕ) (repeated : Bool) (at s : ℕ) : Type 0 where
   pub walk : Walk bytes at s
@@ -43,13 +43,13 @@ module _ {bytes seen : List ℕ} {repeated : Bool} {at s : ℕ} (h : Repeats byt
       {x : Refusal} {r : Bool}
       → s < 256
       → standing bytes s ≡ true
-      → Reads h.walk (ListRefused x)
+      → Reads h.walk (Err x)
       → (ls : List (List ℕ))
       → read_lists bytes 256 0 (drop 47 bytes) ≡ lists_read ls
       → r ≡ repeated_in nothing_seen (all_listed ls)
   repeats-refused more stands e ls read = let same = sym (walk_refused h.walk more stands e) ∙ read in absurd (let z : ◌≡◌ {A = ℕ} 0 1 = cc in omega arith)
 
-  module _ {n : ℕ} (below : Bytes bytes) (e : Reads h.walk (Listed n)) where
+  module _ {n : ℕ} (below : Bytes bytes) (e : Reads h.walk (Ok n)) where
     -- its attributes, as the code has them
     abbrev attributes : List ℕ
     attributes = tab n (λ x. word (take (length bytes - at) (drop at bytes)) (x * 2 + 1))

@@ -9,17 +9,7 @@ ghost use Rattle.instantiation.specs.Seen.{seen_in, repeated_in, Marked, nothing
 ghost use Rattle.instantiation.specs.Instantiation.{standing, read_lists, all_listed};
 ghost use Rattle.refusal.specs.Several.{several_read as lists_read};
 
-use type_record::{ListReading, read_list};
-
-// Whether one of the two holds.
-fn either(a: bool, b: bool) -> bool
-    ensures { result ≡ a || b }
-{
-    if a {
-        return true;
-    }
-    b
-}
+use type_record::read_list;
 
 // Marks the attributes of a list as seen, and tells whether one of them was seen before.
 fn mark(list: &[u8], count: usize, seen: &mut [u8]) -> bool
@@ -29,14 +19,12 @@ fn mark(list: &[u8], count: usize, seen: &mut [u8]) -> bool
     ensures marked { Marked (tab count (λ x. word list.now (x * 2 + 1))) seen.old seen.new }
 {
     let mut repeated = false;
-    let mut i = 0;
-    while i < count {
+    for i in 0..count {
         let a = bits::word_at(list, i * 2 + 1) as usize;
         let byte = seen[a / 8];
         let again = (byte >> (a % 8)) % 2 == 1;
-        repeated = either(repeated, again);
+        repeated |= again;
         seen[a / 8] = byte | (1u8 << (a % 8));
-        i += 1;
     }
     repeated
 }
@@ -57,22 +45,16 @@ pub fn repeated_in(bytes: &[u8]) -> bool
     let mut seen = [0u8; 8192];
     let mut repeated = false;
     let mut at = 47;
-    let mut s = 0usize;
-    while s < 256 {
+    for s in 0..256 {
         if is_standing(bytes, s) {
             match read_list(&bytes[at..]) {
-                ListReading::Refused(_) => {
-                    return false;
-                }
-                ListReading::Listed(count) => {
+                Err(_) => return false,
+                Ok(count) => {
                     let again = mark(&bytes[at..], count, &mut seen);
-                    repeated = either(repeated, again);
+                    repeated |= again;
                     at += count * 2 + 1;
-                    s += 1;
                 }
             }
-        } else {
-            s += 1;
         }
     }
     repeated

@@ -1,6 +1,6 @@
 -- Apply, and then Recover on the schema just written (FORMAT 7.12): the same instantiation, byte by byte,
 -- where nothing is refused.
-use Rattle.std.specs.Prelude.{ℕ, ◌≤◌, ◌<◌, ◌≡◌, refl, Bool, true, false, ltb, length, take, drop}
+use Rattle.std.specs.Prelude.{ℕ, ◌≤◌, ◌<◌, ◌≡◌, refl, Bool, true, false, ltb, length, take, drop, Result, Err, Option, Ok}
 use Rattle.std.proofs.Math.Path.{sym, ap}
 use Rattle.std.proofs.Common.{◌∙◌, arith, lt-ltb, le-ltb, length-append}
 use Rattle.std.proofs.Math.Bool.{cond}
@@ -11,39 +11,36 @@ use Rattle.refusal.specs.declared.Refusal.{Refusal}
 use Rattle.refusal.specs.declared.Refusal.TheVariants.{ResultSlice}
 use Rattle.stored_formula.specs.Formula.{formula_space}
 use Rattle.stored_formula.specs.FormulaLaws.{space-again}
-use Rattle.apply_answer.specs.Apply.{apply_answer, apply_space, apply_schema, apply_out}
-use Rattle.recover_answer.specs.Recover.{recover_answer, recover_space, recover_out}
+use Rattle.apply_answer.specs.Apply.{apply_answer, apply_space, apply_schema, apply_out, Applied}
+use Rattle.recover_answer.specs.Recover.{recover_answer, recover_space, recover_out, Recovered, Untyped}
 use Rattle.apply_answer.specs.WorkSpace.{refusal_fills, apply_fills, apply-space}
 use Rattle.recover_answer.specs.WorkSpace.{recover_fills, recover-space}
 use Rattle.round_trip.specs.Undoing.{applies-admits, apply-fits}
 use Rattle.round_trip.specs.Unrefused.{applied-applies}
 use Rattle.round_trip.specs.Theorems.{apply-filled, apply-recover}
-use Rattle.apply_answer.specs.declared.Application.{Application}
-use Rattle.apply_answer.specs.declared.Application.TheVariants.{Applied, Refused as ApplyRefused}
-use Rattle.recover_answer.specs.declared.Recovery.{Recovery}
-use Rattle.recover_answer.specs.declared.Recovery.TheVariants.{Recovered, Untyped, Refused}
 use Rattle.instantiation.specs.Instantiation.{instantiation_size}
+use Rattle.apply_answer.specs.declared.Application.{Application}
 
 -- FORMAT 7.12: the instantiation's length, or Apply's refusal
-abbrev pub back : Application → ℕ → Recovery
-back (Applied size width) length = Recovered length
-back (ApplyRefused r) length = Refused r
+abbrev pub back : Result Application Refusal → ℕ → Result (Option ℕ) Refusal
+back (Ok a) length = Recovered length
+back (Err r) length = Err r
 
 -- FORMAT 7.12: the answer; a slice for the instantiation of under 812 bytes is 13
-unfoldable pub round_trip : Application → ℕ → ℕ → Recovery
-round_trip a length size = cond (ltb size instantiation_size) (Refused ResultSlice) (back a length)
+unfoldable pub round_trip : Result Application Refusal → ℕ → ℕ → Result (Option ℕ) Refusal
+round_trip a length size = cond (ltb size instantiation_size) (Err ResultSlice) (back a length)
 
 -- what a slice holds: what it held, where the instantiation's slice has under 812 bytes
 abbrev pub unless_short : {A : Type 0} → ℕ → A → A → A
 unless_short size held now = cond (ltb size instantiation_size) held now
 
 -- the instantiation over what its slice held; after a refusal the slice stays
-abbrev pub back_out : Application → List ℕ → List ℕ → List ℕ
-back_out (Applied size width) bytes recovered = over bytes recovered
-back_out (ApplyRefused r) bytes recovered = recovered
+abbrev pub back_out : Result Application Refusal → List ℕ → List ℕ → List ℕ
+back_out (Ok a) bytes recovered = over bytes recovered
+back_out (Err r) bytes recovered = recovered
 
 -- FORMAT 7.12: the slice for the instantiation afterwards
-unfoldable pub round_trip_out : Application → List ℕ → List ℕ → List ℕ
+unfoldable pub round_trip_out : Result Application Refusal → List ℕ → List ℕ → List ℕ
 round_trip_out a bytes recovered = cond (ltb (length recovered) instantiation_size) recovered (back_out a bytes recovered)
 
 -- FORMAT 7.12: the work space, as Apply leaves it, since Recover fills it with the same formulas
@@ -51,18 +48,18 @@ unfoldable pub round_trip_space : List ℕ → ℕ → List ℕ → List ℕ →
 round_trip_space file k bytes work size out_size recovered_size = unless_short recovered_size work (apply_space file k bytes work size out_size)
 
 -- FORMAT 8.6: which answers come with a work space that is filled: recovered, and the refusals 20, 21 and 26
-abbrev pub round_trip_fills : Recovery → Bool
+abbrev pub round_trip_fills : Result (Option ℕ) Refusal → Bool
 round_trip_fills (Recovered size) = true
 round_trip_fills Untyped = false
-round_trip_fills (Refused r) = refusal_fills r
+round_trip_fills (Err r) = refusal_fills r
 
 module _ (file : List ℕ) (k : ℕ) (bytes work schema out recovered : List ℕ) where
   -- Apply's answer
-  abbrev answer : Application
+  abbrev answer : Result Application Refusal
   answer = apply_answer file k bytes (length work) (length schema) (length out)
 
   -- answer and slices are as the definitions of the composed function say
-  abbrev Trip : Recovery → List ℕ → List ℕ → List ℕ → List ℕ → Type 0
+  abbrev Trip : Result (Option ℕ) Refusal → List ℕ → List ℕ → List ℕ → List ℕ → Type 0
   Trip a space image output written =
       (a ≡ round_trip answer (length bytes) (length recovered))
       × ((space ≡ round_trip_space file k bytes work (length schema) (length out) (length recovered))
@@ -70,18 +67,18 @@ module _ (file : List ℕ) (k : ℕ) (bytes work schema out recovered : List ℕ
       × ((output ≡ unless_short (length recovered) out (apply_out file k bytes (length work) (length schema) out))
       × (written ≡ round_trip_out answer bytes recovered))))
 
-  pub trip-short : length recovered < instantiation_size → Trip (Refused ResultSlice) work schema out recovered
+  pub trip-short : length recovered < instantiation_size → Trip (Err ResultSlice) work schema out recovered
   unfolding round_trip round_trip_out round_trip_space
   trip-short h = rw (lt-ltb (length recovered) instantiation_size h) (refl, (refl, (refl, (refl, refl))))
 
   pub trip-refused :
       instantiation_size ≤ length recovered
       → (r : Refusal) (space image output : List ℕ)
-      → ApplyRefused r ≡ answer
+      → Err r ≡ answer
       → space ≡ apply_space file k bytes work (length schema) (length out)
       → image ≡ apply_schema file k bytes (length work) schema (length out)
       → output ≡ apply_out file k bytes (length work) (length schema) out
-      → Trip (Refused r) space image output recovered
+      → Trip (Err r) space image output recovered
   unfolding round_trip round_trip_out round_trip_space
   trip-refused h r space image output said s i o = rw (le-ltb (length recovered) instantiation_size h, ← said) (refl, (s, (i, (o, refl))))
 
@@ -101,7 +98,7 @@ module _ (file : List ℕ) (k : ℕ) (bytes work schema out recovered : List ℕ
       → filled ≡ apply_space file k bytes work (length schema) (length out)
       → image ≡ apply_schema file k bytes (length work) schema (length out)
       → output ≡ apply_out file k bytes (length work) (length schema) out
-      → (a : Recovery) (space written : List ℕ)
+      → (a : Result (Option ℕ) Refusal) (space written : List ℕ)
       → a ≡ recover_answer file k (take size image) (length filled) (length recovered)
       → space ≡ recover_space file k (take size image) filled (length recovered)
       → written ≡ recover_out file k (take size image) (length filled) recovered
@@ -114,7 +111,7 @@ module _ (file : List ℕ) (k : ℕ) (bytes work schema out recovered : List ℕ
       let results = apply-recover file k bytes work schema out below size width (sym said) found.0 found.1.0 (applies-admits applies).accepted filled recovered (omega arith) h in
       let recovering = ap (λ (x : List ℕ). recover_answer file k (take size x) (length filled) (length recovered)) image-is ∙ results.0 in
       let first = apply-filled file k bytes work schema out size width (sym said) in
-      let again = recover-space file k (take size image) filled (length recovered) ∙ ap (λ (o : Recovery). cond (recover_fills o) (formula_space file filled) filled) recovering in
+      let again = recover-space file k (take size image) filled (length recovered) ∙ ap (λ (o : Result (Option ℕ) Refusal). cond (recover_fills o) (formula_space file filled) filled) recovering in
       rw (le-ltb (length recovered) instantiation_size h, ← said) (
         answered ∙ recovering,
         (
@@ -138,31 +135,31 @@ pub round-trip-space :
 unfolding round_trip_space round_trip
 round-trip-space file k bytes work size out_size recovered_size = short (ltb recovered_size instantiation_size)
   where
-    same : (a : Application) → cond (apply_fills a) (formula_space file work) work ≡ cond (round_trip_fills (back a (length bytes))) (formula_space file work) work
-    same (Applied s w) = refl
-    same (ApplyRefused r) = refl
+    same : (a : Result Application Refusal) → cond (apply_fills a) (formula_space file work) work ≡ cond (round_trip_fills (back a (length bytes))) (formula_space file work) work
+    same (Ok a) = refl
+    same (Err r) = refl
 
     short :
         (t : Bool)
         → cond t work (apply_space file k bytes work size out_size)
-        ≡ cond (round_trip_fills (cond t (Refused ResultSlice) (back (apply_answer file k bytes (length work) size out_size) (length bytes))))
+        ≡ cond (round_trip_fills (cond t (Err ResultSlice) (back (apply_answer file k bytes (length work) size out_size) (length bytes))))
         (formula_space file work) work
     short true = refl
     short false = apply-space file k bytes work size out_size ∙ same (apply_answer file k bytes (length work) size out_size)
 
 -- what is recovered fits its slice
-pub round-trip-fits : (a : Application) (bytes recovered written : List ℕ) (n : ℕ) → written ≡ round_trip_out a bytes recovered → round_trip a (length bytes) (length recovered) ≡ Recovered n → n ≤ length written
+pub round-trip-fits : (a : Result Application Refusal) (bytes recovered written : List ℕ) (n : ℕ) → written ≡ round_trip_out a bytes recovered → round_trip a (length bytes) (length recovered) ≡ Recovered n → n ≤ length written
 unfolding round_trip round_trip_out
 round-trip-fits a bytes recovered written n = short (ltb (length recovered) 812) a
   where
     short :
-        (t : Bool) (a : Application)
+        (t : Bool) (a : Result Application Refusal)
         → written ≡ cond t recovered (back_out a bytes recovered)
-        → cond t (Refused ResultSlice) (back a (length bytes)) ≡ Recovered n
+        → cond t (Err ResultSlice) (back a (length bytes)) ≡ Recovered n
         → n ≤ length written
     short true a w e = absurd (let z : ◌≡◌ {A = ℕ} 0 1 = cc in omega arith)
-    short false (ApplyRefused r) w e = absurd (let z : ◌≡◌ {A = ℕ} 0 1 = cc in omega arith)
-    short false (Applied size width) w e =
+    short false (Err r) w e = absurd (let z : ◌≡◌ {A = ℕ} 0 1 = cc in omega arith)
+    short false (Ok a) w e =
         let same : length bytes ≡ n = cc in
         let whole = ap length (w ∙ over-with bytes recovered) ∙ length-append bytes (drop (length bytes) recovered) in
         omega arith

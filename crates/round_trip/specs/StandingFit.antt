@@ -1,6 +1,6 @@
 -- 20 by the standing bits: the code tests the entries; that is the test of FORMAT 6.3, for all 256 bits of the plane
 -- as it stands in the bytes.
-use Rattle.std.specs.Prelude.{ℕ, ◌≤◌, ◌<◌, ◌≡◌, refl, ◌↔◌, Bool, false, ◌&&◌, ◌||◌, ltb, length}
+use Rattle.std.specs.Prelude.{ℕ, ◌≤◌, ◌<◌, ◌≡◌, refl, ◌↔◌, Bool, false, ◌&&◌, ◌||◌, ltb, length, Result, Err}
 use Rattle.std.proofs.Common.{sym, ap, ap₂, ◌∙◌, true≢false, arith, lt-ltb, ltb-true, lit<}
 use Rattle.std.proofs.Math.Bool.{true, not}
 use Rattle.std.proofs.lemmas.Bool.{false≢true}
@@ -10,7 +10,6 @@ use Rattle.bits.specs.AllBelow.{all_below, in_all, all_in, not-all, all-fails}
 use Rattle.bits.specs.Booleans.{same_test, and_left, and_right}
 use Rattle.bits.specs.Word.{Bytes}
 use Rattle.refusal.specs.declared.Refusal.TheVariants.{TypeVariable, SpecialSubset, EmptyImage}
-use Rattle.expression_file.specs.declared.files.Acceptance.TheVariants.{Accepted}
 use Rattle.admission.specs.Admission.{sliced, admitted}
 use Rattle.algebra.specs.Expression.{Expression}
 use Rattle.states.specs.Formula.{type_variable}
@@ -23,7 +22,6 @@ use Rattle.stored_formula.specs.FormulaLaws.{admitted-space}
 use Rattle.stored_formula.specs.StoredFormula.{formula_in, stored-allowed}
 use Rattle.membership.specs.Entries.{subset_of}
 use Rattle.schema.specs.Bounds.{Held, at_held}
-use Rattle.schema.specs.declared.reading.Judgement.TheVariants.{Read}
 use Rattle.filled_schema.specs.FilledSchema.{table_filled}
 use Rattle.special_maps.specs.Special.{maps_from}
 use Rattle.instantiation.specs.Instantiation.{Instantiation, standing, entries_in, instantiation_reading}
@@ -34,10 +32,12 @@ use Rattle.instantiation.specs.TableLaws.{ReadInstantiation, instantiation-read,
 use Rattle.fitting.specs.Fit.{entries_fit, specials_fit, entry-fits, fit-entries}
 use Rattle.apply_answer.specs.Apply.{table_applied, apply_answer}
 use Rattle.apply_answer.specs.ApplyLaws.{table_fits, entries-refused, specials-refused, image-refused, read_goes, apply-goes, apply-passed}
-use Rattle.apply_answer.specs.declared.Application.{Application}
-use Rattle.apply_answer.specs.declared.Application.TheVariants.{Refused}
 use Rattle.type_record.specs.Record.{output_size}
 use Rattle.schema.specs.Schema.{schema_size}
+use Rattle.expression_file.specs.ReadFile.{Accepted}
+use Rattle.schema.specs.Judgement.{Read}
+use Rattle.refusal.specs.declared.Refusal.{Refusal}
+use Rattle.apply_answer.specs.declared.Application.{Application}
 
 -- entries that fit are each held by some of m relations
 pub fit-held : (m : ℕ) (e : Expression) (es : List ℕ) → entries_fit m e es ≡ true → Held m es
@@ -121,14 +121,14 @@ module _ (file : List ℕ) (k : ℕ) (bytes work schema out : List ℕ) (m n : �
       ∙ sym (read_goes file m n (expression_at file k) (instantiation_reading bytes) work schema out read _ _ _ _ refl refl refl refl).0
 
   -- 20 is said exactly where the test of the standing bits fails
-  said-fails : apply_answer file k bytes (length work) (length schema) (length out) ≡ Refused TypeVariable → standing_fit m (expression_at file k) bytes ≡ false
+  said-fails : apply_answer file k bytes (length work) (length schema) (length out) ≡ Err TypeVariable → standing_fit m (expression_at file k) bytes ≡ false
   said-fails said =
       sym (entries-standing m (expression_at file k) bytes below (instantiation_reading bytes) found.0 found.1)
       ∙ sym (ap (entries_fit m (expression_at file k)) entries-are)
       ∙ go (entries_fit m (expression_at file k) (instantiation_reading bytes).entries) refl (specials_fit m (expression_at file k) (instantiation_reading bytes).subsets) refl
       (table_filled m (maps_from (instantiation_reading bytes).subsets) (instantiation_reading bytes).entries) refl
     where
-      other : (a : Application) → table_applied m (expression_at file k) (instantiation_reading bytes).subsets (instantiation_reading bytes).entries ≡ a → a ≡ Refused TypeVariable
+      other : (a : Result Application Refusal) → table_applied m (expression_at file k) (instantiation_reading bytes).subsets (instantiation_reading bytes).entries ≡ a → a ≡ Err TypeVariable
       other a is = sym is ∙ sym answer ∙ said
 
       go :
@@ -142,14 +142,14 @@ module _ (file : List ℕ) (k : ℕ) (bytes work schema out : List ℕ) (m n : �
       go false fails u u-is v v-is = refl
       go true fit false fails v v-is =
           absurd
-          (let wrong = other (Refused SpecialSubset)
+          (let wrong = other (Err SpecialSubset)
           (specials-refused m (expression_at file k) (instantiation_reading bytes).subsets (instantiation_reading bytes).entries
           schema out fit fails).0
           in
           let z : ◌≡◌ {A = ℕ} 0 1 = cc in omega arith)
       go true fit true special false fails =
           absurd
-          (let wrong = other (Refused EmptyImage)
+          (let wrong = other (Err EmptyImage)
           (image-refused m (expression_at file k) (instantiation_reading bytes).subsets (instantiation_reading bytes).entries
           schema out fit special fails).0
           in
@@ -162,7 +162,7 @@ module _ (file : List ℕ) (k : ℕ) (bytes work schema out : List ℕ) (m n : �
           in
           let z : ◌≡◌ {A = ℕ} 0 1 = cc in omega arith)
 
-  fails-said : standing_fit m (expression_at file k) bytes ≡ false → apply_answer file k bytes (length work) (length schema) (length out) ≡ Refused TypeVariable
+  fails-said : standing_fit m (expression_at file k) bytes ≡ false → apply_answer file k bytes (length work) (length schema) (length out) ≡ Err TypeVariable
   fails-said fails =
       answer
       ∙ (entries-refused m (expression_at file k) (instantiation_reading bytes).subsets (instantiation_reading bytes).entries schema out
@@ -178,7 +178,7 @@ module _ (file : List ℕ) (k : ℕ) (bytes work schema out : List ℕ) (m n : �
 
   -- 20: some standing bit of the map in the bytes is no type variable of the node's stored formula
   pub apply-variable :
-      (apply_answer file k bytes (length work) (length schema) (length out) ≡ Refused TypeVariable) ↔
+      (apply_answer file k bytes (length work) (length schema) (length out) ≡ Err TypeVariable) ↔
       ((s : ℕ)
       × ((s < 256) × ((standing bytes s ≡ true) × (type_variable ((formula_in (formula_space file work) m k).allowed 0) s ≡ false))))
   unfolding standing_fit

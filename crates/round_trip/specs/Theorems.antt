@@ -14,16 +14,15 @@
 --   AreBytes                              an instantiation that has the subsets and lists of bytes   (Link)
 --   InstantiationOf                       bytes that are an instantiation, and the schema and record of its image and
 --                                         output   (below)
-use Rattle.std.specs.Prelude.{ℕ, ◌*◌, ◌≤◌, ◌≡◌, refl, ◌↔◌, Bool, true, false, cond, List, length, take, drop}
+use Rattle.std.specs.Prelude.{ℕ, ◌*◌, ◌≤◌, ◌≡◌, refl, ◌↔◌, Bool, true, false, cond, List, length, take, drop, Result}
 use Rattle.std.proofs.Common.{sym, ap, ap₂, ◌∙◌, arith}
 use Rattle.bits.specs.Tab.{over, take-over}
 use Rattle.bits.specs.Word.{Bytes}
 use Rattle.types.specs.Types.{Attrs}
 use Rattle.algebra.specs.Expression.{Legal}
 use Rattle.algebra.specs.Rules.{Typed}
-use Rattle.expression_file.specs.declared.files.Acceptance.TheVariants.{Accepted}
-use Rattle.expression_file.specs.ReadFile.{acceptance}
-use Rattle.expression_file.specs.Accepted.{accepted-file}
+use Rattle.expression_file.specs.ReadFile.{acceptance, Accepted}
+use Rattle.expression_file.specs.Accepted.{accepted-file, accepted-parts}
 use Rattle.principal.specs.Formula.{Formula}
 use Rattle.principal.specs.Instantiation.{Instantiation, HasImage, HasOutput}
 use Rattle.node_expression.specs.NodeExpression.{expression_at, expression-legal}
@@ -38,20 +37,18 @@ use Rattle.instantiation.specs.Instantiation.{read_lists, entries_in, subsets_of
 use Rattle.table_types.specs.Output.{typed_in, output_map, output_list}
 use Rattle.table_types.specs.OutputRecord.{output_record}
 use Rattle.typing_theorems.specs.TableTyped.{table-rules, rules-table}
-use Rattle.typing_answer.specs.Typing.{typing_answer, typing_out}
+use Rattle.typing_answer.specs.Typing.{typing_answer, typing_out, Typed as TypedAnswer, Untyped as TypingUntyped}
 use Rattle.typing_theorems.specs.Theorems.{RecordOf, typing-untyped}
-use Rattle.typing_answer.specs.declared.Answer.TheVariants.{Typed as TypedAnswer, Untyped as TypingUntyped}
-use Rattle.apply_answer.specs.Apply.{image_bytes, output_bytes, apply_answer, apply_space, apply_schema, apply_out}
-use Rattle.recover_answer.specs.Recover.{recovered_bytes, recover_answer, recover_out}
+use Rattle.apply_answer.specs.Apply.{image_bytes, output_bytes, apply_answer, apply_space, apply_schema, apply_out, Applied}
+use Rattle.recover_answer.specs.Recover.{recovered_bytes, recover_answer, recover_out, Recovered, Untyped}
 use Rattle.apply_answer.specs.WorkSpace.{apply_fills, apply-space}
-use Rattle.apply_answer.specs.declared.Application.{Application}
-use Rattle.apply_answer.specs.declared.Application.TheVariants.{Applied}
-use Rattle.recover_answer.specs.declared.Recovery.TheVariants.{Recovered, Untyped}
 use Rattle.round_trip.specs.Undoing.{Recovers, Applies, applies-admits, apply-table, apply-size, read-image, applied-recovered, applied-typing, recovered-typed, recovered-untyped, recovered-applied}
 use Rattle.round_trip.specs.Unrefused.{applied-applies, recovered-recovers}
 use Rattle.round_trip.specs.Link.{AreBytes, bytes-instantiation, output-is-record}
 use Rattle.refusal.specs.Several.{several_read as records_read, several_read as lists_read}
 use Rattle.admission.specs.Admission.{formula_size}
+use Rattle.refusal.specs.declared.Refusal.{Refusal}
+use Rattle.apply_answer.specs.declared.Application.{Application}
 
 -- ---- Apply answered that it applied, with a schema of `size` bytes and an output record of `width` bytes
 
@@ -72,7 +69,7 @@ pub record InstantiationOf (F : Formula) (m : ℕ) (bytes schema output : List �
 module _ (file : List ℕ) (k : ℕ) (bytes work schema out : List ℕ) (size width : ℕ) (applied : apply_answer file k bytes (length work) (length schema) (length out) ≡ Applied size width) where
   -- the work space then holds Formula's formulas
   pub apply-filled : apply_space file k bytes work (length schema) (length out) ≡ formula_space file work
-  apply-filled = apply-space file k bytes work (length schema) (length out) ∙ ap (λ (a : Application). cond (apply_fills a) (formula_space file work) work) applied
+  apply-filled = apply-space file k bytes work (length schema) (length out) ∙ ap (λ (a : Result Application Refusal). cond (apply_fills a) (formula_space file work) work) applied
 
 -- the parts that Apply has written, in its table
 module _ (file : List ℕ) (k : ℕ) (bytes work schema out : List ℕ) (m n : ℕ) (ls : List (List ℕ))
@@ -115,7 +112,7 @@ module _ (file : List ℕ) (k : ℕ) (bytes work schema out : List ℕ) (below :
       let found = applied-applies file k bytes (length work) (length schema) (length out) size width applied in
       let a = found.1.1.1 in
       let counts = sym (applies-admits a).accepted ∙ accepted in
-      let nodes : found.1.0 ≡ n = cc in
+      let nodes : found.1.0 ≡ n = (accepted-parts counts).1 in
       rw (schema-part file k bytes work schema out found.0 found.1.0 found.1.1.0 a size width applied)
       (applied-recovered file k bytes work schema out found.0 found.1.0 found.1.1.0 below a work' out' (rw nodes space) slice)
 
@@ -135,7 +132,7 @@ module _ (file : List ℕ) (k : ℕ) (bytes work schema out : List ℕ) (below :
       let found = applied-applies file k bytes (length work) (length schema) (length out) size width applied in
       let a = found.1.1.1 in
       let counts = sym (applies-admits a).accepted ∙ accepted in
-      let relations : found.0 ≡ m = cc in
+      let relations : found.0 ≡ m = (accepted-parts counts).0 in
       rw (
         apply-filled file k bytes work schema out size width applied,
         schema-part file k bytes work schema out found.0 found.1.0 found.1.1.0 a size width applied,
@@ -235,7 +232,7 @@ module _ (file : List ℕ) (k : ℕ) (schema work out : List ℕ) (below : Bytes
       let found = recovered-recovers file k schema work out below size said in
       let r = found.1.1.1 in
       let counts = sym r.accepted ∙ accepted in
-      let nodes : found.1.0 ≡ n = cc in
+      let nodes : found.1.0 ≡ n = (accepted-parts counts).1 in
       let typed = typed-said file k schema work out found.0 found.1.0 found.1.1.0 below r size said in
       rw (recovered-part file k schema work out found.0 found.1.0 found.1.1.0 below r size said)
       (_, recovered-applied file k schema work out found.0 found.1.0 found.1.1.0 below r typed work' schema' out' (rw nodes space) room slice)

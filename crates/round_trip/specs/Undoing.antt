@@ -1,14 +1,13 @@
 -- Apply and Recover undo each other, in the bytes of tables: what each gives where nothing is refused, and what the
 -- other gives for that. Theorems says it of the slices.
-use Rattle.std.specs.Prelude.{ℕ, ◌*◌, ◌≤◌, ◌<◌, ◌≡◌, refl, true, false, ◌&&◌, List, length}
+use Rattle.std.specs.Prelude.{ℕ, ◌*◌, ◌≤◌, ◌<◌, ◌≡◌, refl, true, false, ◌&&◌, List, length, Ok, Some}
 use Rattle.std.proofs.Common.{sym, ap, ap₂, ◌∙◌, arith}
 use Rattle.std.proofs.Math.Bool.{and-eq-true_iff}
 use Rattle.bits.specs.Tab.{over}
 use Rattle.bits.specs.Word.{Bytes}
 use Rattle.types.specs.Types.{Filled}
 use Rattle.algebra.specs.Expression.{Legal}
-use Rattle.expression_file.specs.declared.files.Acceptance.TheVariants.{Accepted}
-use Rattle.expression_file.specs.ReadFile.{acceptance}
+use Rattle.expression_file.specs.ReadFile.{acceptance, Accepted}
 use Rattle.expression_file.specs.Accepted.{accepted-file}
 use Rattle.admission.specs.Admission.{asked, sliced, admitted, formula_size}
 use Rattle.admission.specs.AdmissionLaws.{sliced-passes, asked-passes, Admits, admitted-passes}
@@ -25,24 +24,22 @@ use Rattle.instantiation.specs.ReadLaws.{lists-read, written-long}
 use Rattle.instantiation.specs.TableLaws.{ReadInstantiation, subsets-none}
 use Rattle.instantiation.specs.TableLaws as Instantiations
 use Rattle.table_types.specs.Output.{typed_in, output_list}
-use Rattle.typing_answer.specs.Typing.{typing_answer, typing_out}
+use Rattle.typing_answer.specs.Typing.{typing_answer, typing_out, Typed}
 use Rattle.typing_answer.proofs.TypingLaws.{answer_typed, out-typed, typing-records}
-use Rattle.typing_answer.specs.declared.Answer.TheVariants.{Typed}
 use Rattle.special_maps.specs.Special.{maps_from, subsets_from}
 use Rattle.special_maps.specs.SpecialLaws.{subsets-back, maps-back}
 use Rattle.fitting.specs.Fit.{entries_fit, specials_fit, fits-typed}
-use Rattle.apply_answer.specs.Apply.{image_bytes, output_bytes, table_applied, table_image, table_output, apply_answer, apply_schema, apply_out}
+use Rattle.apply_answer.specs.Apply.{image_bytes, output_bytes, table_applied, table_image, table_output, apply_answer, apply_schema, apply_out, Applied}
 use Rattle.apply_answer.specs.ApplyLaws as Applying
-use Rattle.recover_answer.specs.Recover.{fits, recovered_bytes, table_recovered, table_instantiation, recover_answer, recover_out}
+use Rattle.recover_answer.specs.Recover.{fits, recovered_bytes, table_recovered, table_instantiation, recover_answer, recover_out, Recovered, Untyped}
 use Rattle.recover_answer.specs.RecoverLaws as Recovering
 use Rattle.schema.specs.Image.{IsTable, image-size, image-records, image-maps, image-entries}
 use Rattle.round_trip.specs.Tables.{fits-same}
 use Rattle.round_trip.specs.StandingFit.{fit-held}
 use Rattle.instantiation.specs.ListZero.{list-zero}
 use Rattle.round_trip.specs.RoundTrip.{applied-table, image-schema, recovered-same, recovered-table, written-instantiation, written-table, image-same}
-use Rattle.apply_answer.specs.declared.Application.TheVariants.{Applied}
-use Rattle.recover_answer.specs.declared.Recovery.TheVariants.{Recovered, Untyped}
 use Rattle.refusal.specs.Several.{several_read as records_read}
+use Rattle.apply_answer.specs.declared.Application.{Application}
 
 -- ---- Recover on a schema with these records
 
@@ -61,7 +58,7 @@ pub recover-table :
     (file : List ℕ) (k : ℕ) (schema work out : List ℕ) (m n : ℕ) (ts : List TypeRecord)
     → Bytes schema
     → Recovers file k schema (length work) (length out) m n ts
-    → (recover_answer file k schema (length work) (length out) ≡ table_recovered m (expression_at file k) (maps_of ts) (entries_of ts))
+    → (recover_answer file k schema (length work) (length out) ≡ Ok (table_recovered m (expression_at file k) (maps_of ts) (entries_of ts)))
     × (recover_out file k schema (length work) out ≡ table_instantiation m (expression_at file k) (maps_of ts) (entries_of ts) out)
 recover-table file k schema work out m n ts below r =
     let few = (accepted-file file m n r.accepted).counts.relations.1 in
@@ -75,7 +72,7 @@ recover-table file k schema work out m n ts below r =
     (sliced-passes (admitted file k (length work)) (length out) instantiation_size
     (admitted-passes file k (length work) (record { accepted = r.accepted; node = r.node; work_space = r.work_space })) r.slice)
     _ _ _ refl refl refl in (
-      sym goes.0 ∙ sym table.0 ∙ ap₂ (table_recovered m (expression_at file k)) special entries,
+      sym goes.0 ∙ sym table.0 ∙ ap Ok (ap₂ (table_recovered m (expression_at file k)) special entries),
       sym goes.1.1 ∙ sym table.1.1 ∙ ap₂ (λ (x y : List ℕ). table_instantiation m (expression_at file k) x y out) special entries,
     )
 
@@ -128,7 +125,9 @@ pub apply-size :
 apply-size file k bytes work schema out m n ls a size width said = sized (sym said ∙ (apply-table file k bytes work schema out m n ls a).0)
   where
     sized : {x y z w : ℕ} → Applied x y ≡ Applied z w → (x ≡ z) × (y ≡ w)
-    sized e = (cc, cc)
+    sized {x} {y} {z} {w} e =
+        let same : ◌≡◌ {A = Application} (record { schema = x; output = y }) (record { schema = z; output = w }) = cc in
+        (ap (λ (a : Application). a.schema) same, ap (λ (a : Application). a.output) same)
 
 -- it lies within the schema slice: eight records of at most 513 bytes
 pub apply-fits :
@@ -204,7 +203,7 @@ module _ (file : List ℕ) (k : ℕ) (bytes work schema out : List ℕ) (m n : �
       (fit-held m (expression_at file k) (entries_in ls) a.entries))
       in
       let gives = Recovering.recovered-fits m (expression_at file k) (maps_from (subsets_of bytes)) (entries_in ls) out' fits-back in (
-        results.0 ∙ rw (maps-are, entries-are) (gives.0 ∙ ap (λ (l : List ℕ). Recovered (length l)) same),
+        results.0 ∙ ap Ok (rw (maps-are, entries-are) (gives.0 ∙ ap (λ (l : List ℕ). Some (length l)) same)),
         results.1 ∙ rw (maps-are, entries-are) (gives.1 ∙ ap (λ (l : List ℕ). over l out') same),
       )
 
@@ -222,7 +221,7 @@ module _ (file : List ℕ) (k : ℕ) (bytes work schema out : List ℕ) (m n : �
       (sliced-passes (asked file k) (length out') output_size (asked-passes file k (applies-admits a).accepted (applies-admits a).node) slice)
       read-image.read read-image.few image-filled in
       let typed = fits-typed m few (expression_at file k) legal (subsets_of bytes) (entries_in ls) (subsets-none bytes) a.entries a.special in (
-        results.0 ∙ rw (maps-are, entries-are) (answer_typed (expression_at file k) (maps_from (subsets_of bytes)) (entries_in ls) typed),
+        results.0 ∙ ap Ok (rw (maps-are, entries-are) (answer_typed (expression_at file k) (maps_from (subsets_of bytes)) (entries_in ls) typed)),
         results.1 ∙ rw (maps-are, entries-are) (out-typed (expression_at file k) (maps_from (subsets_of bytes)) (entries_in ls) out' typed),
       )
 
@@ -247,10 +246,10 @@ module _ (file : List ℕ) (k : ℕ) (schema work out : List ℕ) (m n : ℕ) (t
   recovered-typed typed =
       let results = recover-table file k schema work out m n ts below r in
       let gives = Recovering.recovered-fits m (expression_at file k) (maps_of ts) (entries_of ts) out (fits-typing ∙ typed) in
-      (results.0 ∙ gives.0, results.1 ∙ gives.1)
+      (results.0 ∙ ap Ok gives.0, results.1 ∙ gives.1)
 
   pub recovered-untyped : typed_in (expression_at file k) (maps_of ts) (entries_of ts) ≡ false → recover_answer file k schema (length work) (length out) ≡ Untyped
-  recovered-untyped untyped = (recover-table file k schema work out m n ts below r).0 ∙ (Recovering.recovered-refused m (expression_at file k) (maps_of ts) (entries_of ts) out (fits-typing ∙ untyped)).0
+  recovered-untyped untyped = (recover-table file k schema work out m n ts below r).0 ∙ ap Ok (Recovering.recovered-refused m (expression_at file k) (maps_of ts) (entries_of ts) out (fits-typing ∙ untyped)).0
 
   -- applying what is recovered gives the same schema, byte by byte
   pub recovered-applied :

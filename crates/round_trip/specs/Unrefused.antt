@@ -1,11 +1,9 @@
 -- Where Apply answers that it applied, and where Recover answers at all, nothing was refused: what there was to read,
 -- and for Apply that it fits, from the answer itself.
-use Rattle.std.specs.Prelude.{ℕ, ◌≡◌, refl, List, length}
+use Rattle.std.specs.Prelude.{ℕ, ◌≡◌, refl, List, length, Result, Err, Ok}
 use Rattle.std.proofs.Common.{sym, ap, ap₂, ◌∙◌, arith}
 use Rattle.bits.specs.Word.{Bytes}
 use Rattle.refusal.specs.declared.Refusal.{Refusal}
-use Rattle.expression_file.specs.declared.files.Acceptance.{Acceptance}
-use Rattle.expression_file.specs.declared.files.Acceptance.TheVariants.{Accepted, Refused as FileRefused}
 use Rattle.expression_file.specs.Accepted.{accepted-file}
 use Rattle.admission.specs.Admission.{sliced, admitted}
 use Rattle.admission.specs.AdmissionLaws.{sliced-passed, admitted-passed}
@@ -13,8 +11,6 @@ use Rattle.node_expression.specs.NodeExpression.{expression_at}
 use Rattle.type_record.specs.Record.{TypeRecord, output_size}
 use Rattle.schema.specs.Schema.{schema_size}
 use Rattle.schema.specs.RecordsLaws.{records-read}
-use Rattle.schema.specs.declared.reading.Judgement.{Judgement}
-use Rattle.schema.specs.declared.reading.Judgement.TheVariants.{Read as SchemaRead, Refused as SchemaRefused}
 use Rattle.filled_schema.specs.FilledSchema.{table_filled, filled_reading}
 use Rattle.filled_schema.specs.FilledRecords.{table_filled_lem}
 use Rattle.filled_schema.specs.FilledLaws.{filled-schema}
@@ -23,12 +19,13 @@ use Rattle.instantiation.specs.Instantiation.{Instantiation, instantiation_readi
 use Rattle.instantiation.specs.TableLaws.{instantiation-read, read-entries}
 use Rattle.fitting.specs.Fit.{entries_fit, specials_fit}
 use Rattle.apply_answer.specs.ApplyLaws.{applied-fits, read-applied, apply-applied}
-use Rattle.apply_answer.specs.Apply.{read_applied, apply_answer}
-use Rattle.recover_answer.specs.Recover.{recover_answer}
+use Rattle.apply_answer.specs.Apply.{read_applied, apply_answer, Applied}
+use Rattle.recover_answer.specs.Recover.{recover_answer, Recovered, Untyped}
 use Rattle.recover_answer.specs.RecoverLaws as Recovering
 use Rattle.round_trip.specs.Undoing.{Applies, Recovers}
-use Rattle.apply_answer.specs.declared.Application.TheVariants.{Applied}
-use Rattle.recover_answer.specs.declared.Recovery.TheVariants.{Recovered, Untyped, Refused}
+use Rattle.expression_file.specs.declared.files.Header.{Header}
+use Rattle.expression_file.specs.ReadFile.{Accepted}
+use Rattle.schema.specs.Judgement.{Judgement, Read as SchemaRead, Refused as SchemaRefused}
 
 module _ (file : List ℕ) (k : ℕ) (bytes : List ℕ) (space size out_size : ℕ) where
   made :
@@ -64,7 +61,7 @@ module _ (file : List ℕ) (k : ℕ) (schema work out : List ℕ) (below : Bytes
   abbrev pub Read : Type 0
   Read = (m : ℕ) × ((n : ℕ) × ((ts : List TypeRecord) × Recovers file k schema (length work) (length out) m n ts))
 
-  pub answered-recovers : ((r : Refusal) → recover_answer file k schema (length work) (length out) ≡ Refused r → ⊥) → Read
+  pub answered-recovers : ((r : Refusal) → recover_answer file k schema (length work) (length out) ≡ Err r → ⊥) → Read
   answered-recovers other = admission (sliced (admitted file k (length work)) (length out) instantiation_size) refl
     where
       read : (m n : ℕ) → sliced (admitted file k (length work)) (length out) instantiation_size ≡ Accepted m n → (j : Judgement) → (filled_reading m schema).judgement ≡ j → Read
@@ -95,9 +92,9 @@ module _ (file : List ℕ) (k : ℕ) (schema work out : List ℕ) (below : Bytes
             ),
           )
 
-      admission : (a : Acceptance) → sliced (admitted file k (length work)) (length out) instantiation_size ≡ a → Read
-      admission (FileRefused r) is = absurd (other r (sym (Recovering.recover-stops file k schema work out r is).0))
-      admission (Accepted m n) is = read m n is (filled_reading m schema).judgement refl
+      admission : (a : Result Header Refusal) → sliced (admitted file k (length work)) (length out) instantiation_size ≡ a → Read
+      admission (Err r) is = absurd (other r (sym (Recovering.recover-stops file k schema work out r is).0))
+      admission (Ok h) is = read h.relations h.nodes is (filled_reading h.relations schema).judgement refl
 
   pub recovered-recovers : (size : ℕ) → recover_answer file k schema (length work) (length out) ≡ Recovered size → Read
   recovered-recovers size said = answered-recovers (λ r refused. let both = sym said ∙ refused in let z : ◌≡◌ {A = ℕ} 0 1 = cc in omega arith)

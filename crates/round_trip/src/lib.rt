@@ -7,10 +7,8 @@ ghost use Rattle.apply_answer.specs.Apply.{apply_answer, apply_schema, apply_out
 ghost use Rattle.round_trip.specs.Composed.{unless_short, round_trip, round_trip_space, round_trip_out};
 
 use apply::apply;
-use apply_answer::Application;
 use instantiation::INSTANTIATION_SIZE;
 use recover::recover;
-use recover_answer::Recovery;
 use refusal::Refusal;
 
 // Apply, then Recover (FORMAT 7.12): applies an instantiation and recovers it from the schema that was written: the
@@ -23,7 +21,7 @@ pub fn apply_and_recover(
     schema: &mut [u8],
     out: &mut [u8],
     recovered: &mut [u8],
-) -> Recovery
+) -> Result<Option<usize>, Refusal>
     ensures value { result ≡ round_trip (apply_answer file.now node instantiation.now (length work.old) (length schema.old) (length out.old)) (length instantiation.now) (length recovered.old) }
     ensures work_after { work.new ≡ round_trip_space file.now node instantiation.now work.old (length schema.old) (length out.old) (length recovered.old) }
     ensures schema_after { schema.new ≡ unless_short (length recovered.old) schema.old (apply_schema file.now node instantiation.now (length work.old) schema.old (length out.old)) }
@@ -31,10 +29,8 @@ pub fn apply_and_recover(
     ensures recovered_after { recovered.new ≡ round_trip_out (apply_answer file.now node instantiation.now (length work.old) (length schema.old) (length out.old)) instantiation.now recovered.old }
 {
     if recovered.len() < INSTANTIATION_SIZE {
-        return Recovery::Refused(Refusal::ResultSlice);
+        return Err(Refusal::ResultSlice);
     }
-    match apply(file, node, instantiation, work, schema, out) {
-        Application::Applied(size, _) => recover(file, node, &schema[..size], work, recovered),
-        Application::Refused(r) => Recovery::Refused(r),
-    }
+    let applied = apply(file, node, instantiation, work, schema, out)?;
+    recover(file, node, &schema[..applied.schema], work, recovered)
 }

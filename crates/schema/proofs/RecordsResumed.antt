@@ -15,10 +15,8 @@ use Rattle.bits.specs.Word.{word, Bytes}
 use Rattle.refusal.specs.declared.Refusal.{Refusal}
 use Rattle.refusal.specs.declared.Refusal.TheVariants.{InputFollowed, TooManyAttributes}
 use Rattle.refusal.specs.Several.{several_read as records_read, at_end, precede_all, precede-more, precede-refused, precede-none}
-use Rattle.type_record.specs.declared.records.RecordReading.{RecordReading}
-use Rattle.type_record.specs.declared.records.RecordReading.TheVariants.{Read as RecordRead, Refused as RecordRefused}
 use Rattle.type_record.specs.ListLaws.{listed-tab}
-use Rattle.type_record.specs.Record.{TypeRecord, read_record, record_size, record_at}
+use Rattle.type_record.specs.Record.{TypeRecord, read_record, record_size, record_at, RecordRead}
 use Rattle.type_record.specs.RecordBytes.{size-some, size-most}
 use Rattle.type_record.specs.RecordReading.{ReadRecord, record-map, record-ordinary, record-read}
 use Rattle.membership.specs.Entries.{enter, ListFits, TableIn, RoomFor, SpareFor}
@@ -26,12 +24,14 @@ use Rattle.membership.specs.EnterLaws.{enter-few}
 use Rattle.entering.specs.Merging.{Enters}
 use Rattle.entering.specs.Entering.{CopyFits}
 use Rattle.membership.specs.TableLaws.{table_none, table-few, table-least, table-reaches, table-count, table-full, table-all, enter-table}
-use Rattle.schema.specs.declared.reading.Judgement.TheVariants.{Read, Refused}
-use Rattle.schema.specs.declared.reading.SchemaReading.{SchemaReading}
-use Rattle.schema.specs.Schema.{Records, follow, read_records, entries_of, maps_of, tabled, refused_schema, schema_reading, reading_of, EntriesStand}
+use Rattle.schema.specs.Schema.{Records, follow, read_records, entries_of, maps_of, tabled, refused_schema, schema_reading, reading_of, EntriesStand, Schema}
 use Rattle.schema.specs.RecordsLaws.{AllRecords}
 use Rattle.schema.specs.EntriesLaws.{maps_none}
 use Rattle.schema.proofs.OneMoreRecord.{all_more, entries-more, maps-more}
+use Rattle.std.specs.Prelude.{Result, Err, Ok}
+use Rattle.type_record.specs.declared.records.RecordHead.{RecordHead}
+use Rattle.schema.specs.Judgement.{Read, Refused}
+use Rattle.schema.specs.TableLaws.{refused-reading, refused-not}
 
 pub record Resumed (m : ℕ) (bytes special items : List ℕ) (found at r : ℕ) : Type 0 where
   -- the records of the relations before r
@@ -46,14 +46,10 @@ pub record Resumed (m : ℕ) (bytes special items : List ℕ) (found at r : ℕ)
   pub short : length (entries_of done) * 2 ≤ at
   pub rest : read_records m bytes ≡ precede_all done (read_records (m - r) (drop at bytes))
 
--- a refused schema has no entries to stand anywhere
-pub refused-free : {s : SchemaReading} (x : Refusal) (entries items spare : List ℕ) → s ≡ reading_of (refused_schema x) →
-    EntriesStand s.judgement entries items × (s.count ≤ length spare)
-unfolding reading_of refused_schema
-refused-free x entries items spare is = (λ read. absurd (never (sym (ap (λ (t : SchemaReading). t.judgement) is) ∙ read)), rw is (omega arith))
-  where
-    never : Refused x ≡ Read → ⊥
-    never same = let z : ◌≡◌ {A = ℕ} 0 1 = cc in omega arith
+-- a schema that is refused: the answer, and no entries to stand anywhere
+pub refused-so : (m : ℕ) (bytes items : List ℕ) (x : Refusal) → refused_schema x ≡ schema_reading m bytes →
+    (Err x ≡ reading_of (schema_reading m bytes)) × EntriesStand (schema_reading m bytes).judgement (schema_reading m bytes).entries items
+refused-so m bytes items x is = (sym (refused-reading x) ∙ ap reading_of is, λ read. absurd (refused-not x (ap (λ (s : Schema). s.judgement) is ∙ read)))
 
 pub resumed-start : (m : ℕ) (bytes items : List ℕ) → Resumed m bytes (replicate 8 0) items 0 0 0
 unfolding entries_of
@@ -72,20 +68,20 @@ resumed-start m bytes items =
 
 module _ {m : ℕ} {bytes special items : List ℕ} {found at r : ℕ} (h : Resumed m bytes special items found at r) (below : Bytes bytes) (few : m ≤ 8) where
   -- the record at `at` as the code reads it
-  abbrev Reads : RecordReading → Type 0
+  abbrev Reads : Result RecordHead Refusal → Type 0
   Reads x = read_record (take (length bytes - at) (drop at bytes)) ≡ x
 
-  one_more : (x : RecordReading) → r < m → Reads x → read_records (m - r) (drop at bytes) ≡ follow x (drop at bytes) (read_records (m - (r + 1)))
+  one_more : (x : Result RecordHead Refusal) → r < m → Reads x → read_records (m - r) (drop at bytes) ≡ follow x (drop at bytes) (read_records (m - (r + 1)))
   unfolding read_records
   one_more x more e =
       let left : m - r ≡ suc (m - (r + 1)) = omega arith in
       let reading : read_record (drop at bytes) ≡ x = rw part-from at e in
       rw (left, reading)
 
-  pub resumed-refused : {x : Refusal} → r < m → Reads (RecordRefused x) → reading_of (refused_schema x) ≡ reading_of (schema_reading m bytes)
+  pub resumed-refused : {x : Refusal} → r < m → Reads (Err x) → refused_schema x ≡ schema_reading m bytes
   unfolding schema_reading
-  resumed-refused {x} more e = sym (ap (λ (x : Records). reading_of (tabled x))
-      (h.rest ∙ ap (precede_all h.done) (one_more (RecordRefused x) more e) ∙ precede-refused h.done x))
+  resumed-refused {x} more e = sym (ap tabled
+      (h.rest ∙ ap (precede_all h.done) (one_more (Err x) more e) ∙ precede-refused h.done x))
 
   -- ---- one record more
 
@@ -206,11 +202,11 @@ module _ {m : ℕ} {bytes special items : List ℕ} {found at r : ℕ} (h : Resu
       let none : m - r ≡ 0 = omega arith in
       h.rest ∙ rw none
 
-  pub resumed-followed : m ≤ r → at < length bytes → reading_of (refused_schema InputFollowed) ≡ reading_of (schema_reading m bytes)
+  pub resumed-followed : m ≤ r → at < length bytes → refused_schema InputFollowed ≡ schema_reading m bytes
   unfolding schema_reading
   resumed-followed last more =
       sym
-      (ap (λ (x : Records). reading_of (tabled x))
+      (ap tabled
       (ended last
       ∙ ap (λ (l : List ℕ). precede_all h.done (at_end InputFollowed l)) (drop-cons bytes at 0 more)
       ∙ precede-refused h.done InputFollowed))
@@ -233,15 +229,15 @@ module _ {m : ℕ} {bytes special items : List ℕ} {found at r : ℕ} (h : Resu
       go (yes more) = let over = table-full h.table more in absurd (omega arith)
       go (no less) = omega arith
 
-  pub resumed-over : m ≤ r → length bytes ≤ at → 255 < found → reading_of (refused_schema TooManyAttributes) ≡ reading_of (schema_reading m bytes)
+  pub resumed-over : m ≤ r → length bytes ≤ at → 255 < found → refused_schema TooManyAttributes ≡ schema_reading m bytes
   unfolding schema_reading
-  resumed-over last none over = sym (ap (λ (x : Records). reading_of (tabled x)) (read_all last none) ∙ rw (lt-ltb 255 (length (entries_of h.done)) (full over)))
+  resumed-over last none over = sym (ap tabled (read_all last none) ∙ rw (lt-ltb 255 (length (entries_of h.done)) (full over)))
 
   pub resumed-end :
       m ≤ r
       → length bytes ≤ at
       → found ≤ 255
-      → (record { judgement = Read; special = special; count = found } ≡ reading_of (schema_reading m bytes))
+      → (Ok (record { special = special; count = found }) ≡ reading_of (schema_reading m bytes))
       × (take (length (schema_reading m bytes).entries) items ≡ (schema_reading m bytes).entries)
   unfolding schema_reading reading_of
   resumed-end last none under =
@@ -251,7 +247,7 @@ module _ {m : ℕ} {bytes special items : List ℕ} {found at r : ℕ} (h : Resu
       ∙ rw (le-ltb 255 (length (entries_of h.done)) small) in
       let number = table-count h.table small in
       let stands = table-all h.table small in
-      rw is (ap₂ (λ (s : List ℕ) (n : ℕ). record { judgement = Read; special = s; count = n }) h.maps number, rw (← number) stands)
+      rw is (ap₂ (λ (s : List ℕ) (n : ℕ). Ok (record { special = s; count = n })) h.maps number, rw (← number) stands)
 
   -- a slice with room for the bytes has room for the entries
   pub resumed-fits : found ≤ 255 → (slice : List ℕ) → SpareFor (length bytes) slice → found ≤ length slice

@@ -1,3 +1,4 @@
+pub mod Judgement
 pub mod Schema
 pub mod RecordsLaws
 pub mod EntriesLaws

@@ -1,11 +1,9 @@
 -- Laws of a schema's records: what is read are records, writing and reading undo each other, and each
 -- assignment has one schema.
-use Rattle.std.specs.Prelude.{ℕ, zero, suc, ◌+◌, ◌*◌, ◌≤◌, ◌<◌, ◌≡◌, refl, List, [], ◌∷◌, ◌++◌, length, get_or, drop}
+use Rattle.std.specs.Prelude.{ℕ, zero, suc, ◌+◌, ◌*◌, ◌≤◌, ◌<◌, ◌≡◌, refl, List, [], ◌∷◌, ◌++◌, length, get_or, drop, Result, Err, Ok}
 use Rattle.std.proofs.Common.{sym, ap, ap₂, ◌∙◌, arith, lit<, length-append, take-append-drop, get_or-drop, drop_at}
 use Rattle.bits.specs.Word.{Bytes, bytes-append}
-use Rattle.type_record.specs.declared.records.RecordReading.{RecordReading}
-use Rattle.type_record.specs.declared.records.RecordReading.TheVariants.{Read as RecordRead, Refused as RecordRefused}
-use Rattle.type_record.specs.Record.{TypeRecord, read_record, record_size, record_at, record_bytes, output_size}
+use Rattle.type_record.specs.Record.{TypeRecord, read_record, record_size, record_at, record_bytes, output_size, RecordRead}
 use Rattle.type_record.specs.RecordBytes.{IsRecord, size_none, size-most, record-length, record-bytes}
 use Rattle.type_record.specs.RecordReading.{record-map, record-read}
 use Rattle.type_record.specs.RecordRoundTrip.{read-written, written_read, written-record}
@@ -13,6 +11,8 @@ use Rattle.type_record.specs.RecordTypes.{type-once}
 use Rattle.schema.specs.Schema.{Records, follow, read_records, no_record, schema_bytes, assignment_of}
 use Rattle.refusal.specs.Several.{several_refused as records_refused, several_read as records_read, precede, at_end}
 use Rattle.refusal.specs.declared.Refusal.TheVariants.{InputFollowed}
+use Rattle.refusal.specs.declared.Refusal.{Refusal}
+use Rattle.type_record.specs.declared.records.RecordHead.{RecordHead}
 
 -- all of them are records
 abbrev pub AllRecords : List TypeRecord → Type 0
@@ -42,9 +42,9 @@ first m bytes ts e = go (read_record bytes) refl e
     others map n reading (records_refused r) rest h = absurd (let z : ◌≡◌ {A = ℕ} 0 1 = cc in omega arith)
     others map n reading (records_read us) rest h = record { map = map; count = n; others = us; reading = reading; rest = rest; is = cc }
 
-    go : (r : RecordReading) → read_record bytes ≡ r → follow r bytes (read_records m) ≡ records_read ts → First m bytes ts
-    go (RecordRefused r) reading h = absurd (let z : ◌≡◌ {A = ℕ} 0 1 = cc in omega arith)
-    go (RecordRead map n) reading h = others map n reading (read_records m (drop (record_size n) bytes)) refl h
+    go : (r : Result RecordHead Refusal) → read_record bytes ≡ r → follow r bytes (read_records m) ≡ records_read ts → First m bytes ts
+    go (Err r) reading h = absurd (let z : ◌≡◌ {A = ℕ} 0 1 = cc in omega arith)
+    go (Ok d) reading h = others d.special d.count reading (read_records m (drop (record_size d.count) bytes)) refl h
 
 bytes_after : (n : ℕ) (bytes : List ℕ) → Bytes bytes → Bytes (drop n bytes)
 bytes_after n bytes below i = rw get_or-drop (below (n + i))

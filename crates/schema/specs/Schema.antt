@@ -1,18 +1,16 @@
 -- Schemas (FORMAT 5.1 to 5.3, 8.4).
-use Rattle.std.specs.Prelude.{ℕ, zero, suc, ◌+◌, ◌%◌, ◌^◌, ◌≤◌, ◌≡◌, cond, List, [], ◌∷◌, ◌++◌, ltb, length, get_or, take, drop}
+use Rattle.std.specs.Prelude.{ℕ, zero, suc, ◌+◌, ◌%◌, ◌^◌, ◌≤◌, ◌≡◌, cond, List, [], ◌∷◌, ◌++◌, ltb, length, get_or, take, drop, Result, Err, Ok}
 use Rattle.bits.specs.Tab.{tab}
 use Rattle.types.specs.Types.{Assignment}
 use Rattle.refusal.specs.declared.Refusal.{Refusal}
 use Rattle.refusal.specs.declared.Refusal.TheVariants.{InputFollowed, TooManyAttributes}
 use Rattle.refusal.specs.Several.{Several, several_refused as records_refused, several_read as records_read, precede, at_end}
-use Rattle.type_record.specs.declared.records.RecordReading.{RecordReading}
-use Rattle.type_record.specs.declared.records.RecordReading.TheVariants.{Read as RecordRead, Refused as RecordRefused}
-use Rattle.type_record.specs.Record.{TypeRecord, read_record, record_size, record_at, record_bytes, type_of}
+use Rattle.type_record.specs.Record.{TypeRecord, read_record, record_size, record_at, record_bytes, type_of, RecordRead}
 use Rattle.membership.specs.Entries.{enter}
 use Rattle.membership.specs.Holders.{held_by, ItemsFit}
-use Rattle.schema.specs.declared.reading.Judgement.{Judgement}
-use Rattle.schema.specs.declared.reading.Judgement.TheVariants.{Read, Refused}
-use Rattle.schema.specs.declared.reading.SchemaReading.{SchemaReading}
+use Rattle.schema.specs.declared.reading.SchemaTable.{SchemaTable}
+use Rattle.type_record.specs.declared.records.RecordHead.{RecordHead}
+use Rattle.schema.specs.Judgement.{Judgement, Read, Refused}
 
 -- FORMAT 9.9: the bytes of the longest schema, and the least length of a slice for one
 abbrev pub schema_size : ℕ
@@ -25,9 +23,9 @@ abbrev pub Records : Type 0
 Records = Several TypeRecord
 
 -- what a record's reading gives, with the reading of what follows it
-abbrev pub follow : RecordReading → List ℕ → (List ℕ → Records) → Records
-follow (RecordRefused r) bytes rest = records_refused r
-follow (RecordRead map n) bytes rest = precede (record_at bytes map n) (rest (drop (record_size n) bytes))
+abbrev pub follow : Result RecordHead Refusal → List ℕ → (List ℕ → Records) → Records
+follow (Err r) bytes rest = records_refused r
+follow (Ok d) bytes rest = precede (record_at bytes d.special d.count) (rest (drop (record_size d.count) bytes))
 
 -- FORMAT 5.1, 8.4: so many records, each where the one before ends, and then 17
 unfoldable pub read_records : ℕ → List ℕ → Records
@@ -89,8 +87,13 @@ unfoldable pub schema_reading : ℕ → List ℕ → Schema
 schema_reading m bytes = tabled (read_records m bytes)
 
 -- the same as it is handed on, with the number of the entries
-unfoldable pub reading_of : Schema → SchemaReading
-reading_of s = record { judgement = s.judgement; special = s.special; count = length s.entries }
+abbrev pub handed : Judgement → Schema → Result SchemaTable Refusal
+handed Read s = Ok (record { special = s.special; count = length s.entries })
+handed (Refused r) s = Err r
+
+-- the same by its judgement
+unfoldable pub reading_of : Schema → Result SchemaTable Refusal
+reading_of s = handed s.judgement s
 
 -- if the input was read, its entries stand at the front of the slice; after a refusal the slice is free
 abbrev pub EntriesStand : Judgement → List ℕ → List ℕ → Type 0

@@ -1,6 +1,6 @@
 -- Laws of a schema that was read: its records, and the table that is made of them.
-use Rattle.std.specs.Prelude.{ℕ, zero, suc, ◌%◌, ◌≤◌, ◌<◌, ◌≡◌, refl, Bool, true, false, cond, List, [], ◌∷◌, ltb, length, get_or, take, replicate}
-use Rattle.std.proofs.Common.{ap, arith, le-ltb, ltb-false}
+use Rattle.std.specs.Prelude.{ℕ, zero, suc, ◌%◌, ◌≤◌, ◌<◌, ◌≡◌, refl, Bool, true, false, cond, List, [], ◌∷◌, ltb, length, get_or, take, replicate, Ok, Err}
+use Rattle.std.proofs.Common.{ap, arith, le-ltb, ltb-false, sym, ◌∙◌}
 use Rattle.std.proofs.Math.Decide.{dec_lt}
 use Rattle.std.proofs.Math.ListN.{get_or-eq_default}
 use Rattle.bits.specs.Tab.{tab, length-tab, get_or-tab}
@@ -9,12 +9,13 @@ use Rattle.refusal.specs.declared.Refusal.{Refusal}
 use Rattle.refusal.specs.declared.Refusal.TheVariants.{TooManyAttributes}
 use Rattle.refusal.specs.Several.{several_refused as records_refused, several_read as records_read}
 use Rattle.type_record.specs.Record.{TypeRecord}
+use Rattle.membership.specs.HolderLaws.{items-taken, taken-fit}
 use Rattle.membership.specs.TableLaws.{items-stand}
-use Rattle.schema.specs.Schema.{Schema, Records, read_records, no_record, entries_of, maps_of, refused_schema, tabled, schema_reading, reading_of, WritesFrom}
+use Rattle.schema.specs.Schema.{Schema, Records, read_records, no_record, entries_of, maps_of, refused_schema, tabled, schema_reading, reading_of, WritesFrom, handed}
 use Rattle.schema.specs.RecordsLaws.{AllRecords, records-read}
 use Rattle.schema.specs.EntriesLaws.{entries_below, maps_none}
-use Rattle.schema.specs.declared.reading.Judgement.TheVariants.{Read, Refused}
-use Rattle.schema.specs.declared.reading.SchemaReading.{SchemaReading}
+use Rattle.schema.specs.declared.reading.SchemaTable.{SchemaTable}
+use Rattle.schema.specs.Judgement.{Read, Refused, Judgement}
 
 -- a schema of m relations that was read from these bytes, with its records
 pub record ReadSchema (m : ℕ) (bytes : List ℕ) (s : Schema) (records : List TypeRecord) : Type 0 where
@@ -58,24 +59,37 @@ unfolding schema_reading
 read-schema m bytes ts read few = record { read = read; few = few; is = rw (read, le-ltb 255 (length (entries_of ts)) few) }
 
 -- what is handed on of a reading
-pub record Handed (s : Schema) (x : SchemaReading) : Type 0 where
-  pub judgement : x.judgement ≡ s.judgement
+pub record Handed (s : Schema) (x : SchemaTable) : Type 0 where
+  pub judgement : s.judgement ≡ Read
   pub special : x.special ≡ s.special
   pub count : x.count ≡ length s.entries
 
-pub handed-on : (s : Schema) (x : SchemaReading) → x ≡ reading_of s → Handed s x
+pub handed-on : (s : Schema) (x : SchemaTable) → Ok x ≡ reading_of s → Handed s x
 unfolding reading_of
-handed-on s x is =
-    record {
-      judgement = ap (λ (y : SchemaReading). y.judgement) is;
-      special = ap (λ (y : SchemaReading). y.special) is;
-      count = ap (λ (y : SchemaReading). y.count) is;
-    }
+handed-on s x = go s.judgement refl
+  where
+    go : (j : Judgement) → s.judgement ≡ j → Ok x ≡ handed j s → Handed s x
+    go Read read is =
+        let same : x ≡ record { special = s.special; count = length s.entries } = cc in
+        record {
+          judgement = read;
+          special = ap (λ (y : SchemaTable). y.special) same;
+          count = ap (λ (y : SchemaTable). y.count) same;
+        }
+    go (Refused r) read is = absurd (let z : ◌≡◌ {A = ℕ} 0 1 = cc in omega arith)
 
 -- and of a refused one
-pub refused-reading : (r : Refusal) → reading_of (refused_schema r) ≡ record { judgement = Refused r; special = replicate 8 0; count = 0 }
+pub refused-on : (s : Schema) (r : Refusal) → Err r ≡ reading_of s → s.judgement ≡ Refused r
+unfolding reading_of
+refused-on s r = go s.judgement refl
+  where
+    go : (j : Judgement) → s.judgement ≡ j → Err r ≡ handed j s → s.judgement ≡ Refused r
+    go Read read is = absurd (let z : ◌≡◌ {A = ℕ} 0 1 = cc in omega arith)
+    go (Refused q) read is = let same : q ≡ r = cc in read ∙ ap Refused same
+
+pub refused-reading : (r : Refusal) → reading_of (refused_schema r) ≡ Err r
 unfolding reading_of refused_schema
-refused-reading r = ap (λ (s : List ℕ). record { judgement = Refused r; special = s; count = 0 }) maps_none
+refused-reading r = refl
 
 -- ---- what stands in its table
 
@@ -126,4 +140,17 @@ read_table m bytes s ts items most below r stands =
       even = rw maps (maps-at ts read.1);
       few = omega arith;
       fit = items-stand items s.entries stands (rw is (entries_below ts (omega arith) read.1));
+    }
+
+-- ---- the entries of a table that was read, as a slice of their own
+
+pub writes-taken : {special items : List ℕ} {count : ℕ} → WritesFrom special items count → WritesFrom special (take count items) (length (take count items))
+writes-taken {special} {items} {count} w =
+    let size = items-taken w.fit in
+    let few = w.few in
+    record {
+      maps = w.maps;
+      even = w.even;
+      few = omega arith;
+      fit = taken-fit w.fit;
     }

@@ -4,7 +4,7 @@
 mod reading;
 mod writing;
 
-pub use reading::{Judgement, SchemaReading, read_schema};
+pub use reading::{SchemaTable, read_schema};
 pub use writing::write_schema;
 
 // FORMAT 9.9: the bytes of the longest schema, and the least length of a slice for one.

@@ -1,5 +1,5 @@
 // Writing a schema from the membership table (FORMAT 5.1).
-ghost use Rattle.std.specs.Prelude.{◌≡◌, ◌≤◌, length, take};
+ghost use Rattle.std.specs.Prelude.{◌≡◌, ◌≤◌, length};
 ghost use Rattle.bits.specs.Tab.{over};
 ghost use Rattle.schema.specs.Schema.{schema_bytes, records_of, WritesFrom, schema_size};
 
@@ -12,22 +12,19 @@ pub fn write_schema(
     out: &mut [u8],
     m: u8,
     special: &[u16],
-    items: &[u32],
-    count: usize,
+    entries: &[u32],
     list: &mut [u32],
 ) -> usize
     requires m_bound { m ≤ 8 }
-    requires writes_from { WritesFrom special.now items.now count }
-    requires schema_size_in_bounds { (schema_size ≤ length out.old) × (count ≤ length list.old) }
-    ensures value { result ≡ length (schema_bytes (records_of m special.now (take count items.now))) }
-    ensures out_after { out.new ≡ over (schema_bytes (records_of m special.now (take count items.now))) out.old }
+    requires writes_from { WritesFrom special.now entries.now (length entries.now) }
+    requires schema_size_in_bounds { (schema_size ≤ length out.old) × (length entries.now ≤ length list.old) }
+    ensures value { result ≡ length (schema_bytes (records_of m special.now entries.now)) }
+    ensures out_after { out.new ≡ over (schema_bytes (records_of m special.now entries.now)) out.old }
 {
     let mut at = 0;
-    let mut r = 0u8;
-    while r < m {
-        let n = held_by(items, count, r, list);
+    for r in 0u8..m {
+        let n = held_by(entries, r, list);
         at += write_record(&mut out[at..], special[r as usize], &list[..n]);
-        r += 1;
     }
     at
 }

@@ -1,15 +1,15 @@
 // The types of a file's nodes over a membership table, as sets in words of 64 bits, node by node.
 #![tactic(auto)]
 
-ghost use Rattle.std.specs.Prelude.{◌≡◌, ◌+◌, ◌*◌, ◌≤◌, ◌<◌, length, take};
-ghost use Rattle.expression_file.specs.declared.files.Acceptance.TheVariants.{Accepted};
-ghost use Rattle.expression_file.specs.ReadFile.{size_at, acceptance};
+ghost use Rattle.std.specs.Prelude.{◌≡◌, ◌+◌, ◌*◌, ◌≤◌, ◌<◌, length};
+ghost use Rattle.expression_file.specs.ReadFile.{size_at};
 ghost use Rattle.expression_file.specs.Walk.{Here};
 ghost use Rattle.node.specs.Legal.{LegalNode};
 ghost use Rattle.entry_columns.specs.EntryColumns.{Groups};
 ghost use Rattle.type_sets.specs.Sets.{width_of, NodeSets};
 ghost use Rattle.type_sets.specs.FilledSets.{Filled};
 
+use accepted_file::AcceptedFile;
 use entry_columns::gather_subsets;
 use node::Node;
 use node_reader::decode;
@@ -21,23 +21,22 @@ fn lay_node(
     m: u8,
     k: u8,
     special: &[u16],
-    items: &[u32],
-    count: usize,
+    entries: &[u32],
     groups: &[u64],
     width: usize,
     sets: &mut [u64],
 )
     requires m_bound { (m ≤ 8) × LegalNode m k node }
-    requires special_len { (length special.now ≡ 8) × (count ≤ length items.now) }
-    requires groups { Groups items.now count groups.now }
-    requires width_value { (width ≡ width_of count) × (k * width + width ≤ length sets.old) }
-    ensures { NodeSets special.now items.now count width k sets.old sets.new node }
+    requires special_len { length special.now ≡ 8 }
+    requires groups { Groups entries.now (length entries.now) groups.now }
+    requires width_value { (width ≡ width_of (length entries.now)) × (k * width + width ≤ length sets.old) }
+    ensures { NodeSets special.now entries.now (length entries.now) width k sets.old sets.new node }
 {
     let at = k as usize * width;
     match node {
         Node::Relation(r) => {
             let map = special[r as usize] as u64;
-            lay_relation(sets, map, items, count, groups, r, at, width);
+            lay_relation(sets, map, entries, groups, r, at, width);
         }
         Node::Binary(op, l, r) => {
             combine(sets, op, l as usize * width, r as usize * width, at, width);
@@ -57,55 +56,56 @@ fn lay_node(
 
 // Reads node k at byte `at` of the file, lays its words down, and gives the byte after it.
 fn fill_node(
-    file: &[u8],
-    m: u8,
+    file: &AcceptedFile<'_>,
     k: u8,
     at: usize,
     special: &[u16],
-    items: &[u32],
-    count: usize,
+    entries: &[u32],
     groups: &[u64],
     width: usize,
     sets: &mut [u64],
 ) -> usize
-    requires here { Here file.now m k at }
-    requires special_len { (length special.now ≡ 8) × (count ≤ length items.now) }
-    requires groups { Groups items.now count groups.now }
-    requires width_value { (width ≡ width_of count) × (k * width + width ≤ length sets.old) }
-    requires filled { Filled file.now special.now (take count items.now) width k sets.old }
-    ensures value { result ≡ at + size_at file.now k }
-    ensures filled_2 { Filled file.now special.now (take count items.now) width (k + 1) sets.new }
+    requires here { Here file.now.bytes.now file.now.header.relations k at }
+    requires special_len { length special.now ≡ 8 }
+    requires groups { Groups entries.now (length entries.now) groups.now }
+    requires width_value { (width ≡ width_of (length entries.now)) × (k * width + width ≤ length sets.old) }
+    requires filled { Filled file.now.bytes.now special.now entries.now width k sets.old }
+    ensures value { result ≡ at + size_at file.now.bytes.now k }
+    ensures filled_2 { Filled file.now.bytes.now special.now entries.now width (k + 1) sets.new }
 {
-    let decoding = decode(&file[at..]);
+    let decoding = decode(&file.bytes[at..]);
     let node = decoding.node;
-    lay_node(node, m, k, special, items, count, groups, width, sets);
+    lay_node(
+        node,
+        file.header.relations,
+        k,
+        special,
+        entries,
+        groups,
+        width,
+        sets,
+    );
     at + decoding.size
 }
 
 // The types of the nodes up to `node`, over a membership table.
 pub fn fill_sets(
-    file: &[u8],
-    m: u8,
-    n: u8,
+    file: &AcceptedFile<'_>,
     node: u8,
     special: &[u16],
-    items: &[u32],
-    count: usize,
+    entries: &[u32],
     width: usize,
     sets: &mut [u64],
 )
-    requires file_value { acceptance file.now ≡ Accepted m n }
-    requires node_lt_n { (node < n) × (length special.now ≡ 8) }
-    requires count_in_bounds { (count ≤ length items.now) × (count ≤ 255) }
-    requires width_value { (width ≡ width_of count) × ((node + 1) * width ≤ length sets.old) }
-    ensures { Filled file.now special.now (take count items.now) width (node + 1) sets.new }
+    requires node_lt_n { (node < file.now.header.nodes) × (length special.now ≡ 8) }
+    requires count_in_bounds { length entries.now ≤ 255 }
+    requires width_value { (width ≡ width_of (length entries.now)) × ((node + 1) * width ≤ length sets.old) }
+    ensures { Filled file.now.bytes.now special.now entries.now width (node + 1) sets.new }
 {
     let mut groups = [0u64; 32];
-    gather_subsets(items, count, &mut groups);
+    gather_subsets(entries, &mut groups);
     let mut at = 2;
-    let mut k = 0;
-    while k <= node {
-        at = fill_node(file, m, k, at, special, items, count, &groups, width, sets);
-        k += 1;
+    for k in 0..=node {
+        at = fill_node(file, k, at, special, entries, &groups, width, sets);
     }
 }

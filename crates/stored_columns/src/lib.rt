@@ -5,4 +5,4 @@ mod relation;
 mod storage;
 
 pub use relation::fill_relation;
-pub use storage::{read_column, write_column};
+pub use storage::{column_of, formula_of, read_column, write_column};

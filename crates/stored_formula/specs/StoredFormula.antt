@@ -10,8 +10,7 @@ use Rattle.principal.specs.Formula.{Formula, Fits}
 use Rattle.principal.specs.Instantiation.{Instantiation, InImage, HasImage, HasOutput, FilledImage}
 use Rattle.principal.specs.Principal as Principal
 use Rattle.principal.proofs.Principal as Theorem
-use Rattle.expression_file.specs.declared.files.Acceptance.TheVariants.{Accepted}
-use Rattle.expression_file.specs.ReadFile.{node_at, acceptance}
+use Rattle.expression_file.specs.ReadFile.{node_at, acceptance, Accepted}
 use Rattle.expression_file.specs.Accepted.{accepted-file}
 use Rattle.expression_file.specs.Walk.{nodes-legal}
 use Rattle.column.specs.Column.{allowed_in, output_in}

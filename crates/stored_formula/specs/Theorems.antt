@@ -12,8 +12,7 @@ use Rattle.bits.specs.Tab.{over}
 use Rattle.types.specs.Types.{Attrs, IsType, Assignment, IsAssignment, Filled}
 use Rattle.algebra.specs.Rules.{Typed}
 use Rattle.principal.specs.Instantiation.{Instantiation, InImage, HasImage, HasOutput, FilledImage}
-use Rattle.expression_file.specs.declared.files.Acceptance.TheVariants.{Accepted}
-use Rattle.expression_file.specs.ReadFile.{acceptance}
+use Rattle.expression_file.specs.ReadFile.{acceptance, Accepted}
 use Rattle.node_expression.specs.NodeExpression.{expression_at}
 use Rattle.stored_formula.specs.FormulaBytes.{formulas_of}
 use Rattle.stored_formula.specs.Formula.{formula_space}

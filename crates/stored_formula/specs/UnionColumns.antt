@@ -11,8 +11,7 @@ use Rattle.bits.specs.Tab.{over}
 use Rattle.node.specs.declared.nodes.Node.{Node}
 use Rattle.node.specs.declared.nodes.Node.TheVariants.{Binary}
 use Rattle.node.specs.declared.nodes.BinaryOp.TheVariants.{Union, Difference}
-use Rattle.expression_file.specs.declared.files.Acceptance.TheVariants.{Accepted}
-use Rattle.expression_file.specs.ReadFile.{node_at, acceptance}
+use Rattle.expression_file.specs.ReadFile.{node_at, acceptance, Accepted}
 use Rattle.column.specs.declared.steps.Combination.TheVariants.{Agreeing}
 use Rattle.column.specs.Column.{allowed_in, output_in, combined_column}
 use Rattle.column.specs.ColumnLaws.{combined-allowed, combined-output}

@@ -1,7 +1,5 @@
 // The type of a node over a membership table: as sets, for as many entries as there are.
-ghost use Rattle.std.specs.Prelude.{◌≡◌, ◌+◌, ◌*◌, ◌≤◌, ◌<◌, length, take};
-ghost use Rattle.expression_file.specs.declared.files.Acceptance.TheVariants.{Accepted};
-ghost use Rattle.expression_file.specs.ReadFile.{acceptance};
+ghost use Rattle.std.specs.Prelude.{◌≡◌, ◌+◌, ◌*◌, ◌≤◌, ◌<◌, length};
 ghost use Rattle.node_expression.specs.NodeExpression.{expression_at};
 ghost use Rattle.schema.specs.Schema.{WritesFrom};
 ghost use Rattle.typing_answer.specs.Typing.{table_answer, table_out};
@@ -9,96 +7,76 @@ ghost use Rattle.type_sets.specs.Sets.{width_of};
 ghost use Rattle.type_record.specs.Record.{output_size};
 
 use crate::output::list_output;
+use accepted_file::AcceptedFile;
 use set_filling::fill_sets;
 use type_record::write_record;
-use typing_answer::Answer;
 
 // A node over a membership table, with a slice for the types of the nodes up to it, and one for the output's
 // attributes. Both are free afterwards.
 fn type_within(
-    file: &[u8],
-    m: u8,
-    n: u8,
+    file: &AcceptedFile<'_>,
     node: u8,
     special: &[u16],
-    items: &[u32],
-    count: usize,
+    entries: &[u32],
     list: &mut [u32],
     sets: &mut [u64],
     out: &mut [u8],
-) -> Answer
-    requires file_value { acceptance file.now ≡ Accepted m n }
-    requires node_lt_n { (node < n) × (output_size ≤ length out.old) }
-    requires writes_from { WritesFrom special.now items.now count }
-    requires count_in_bounds { (count ≤ length list.old) × (node * width_of count + width_of count ≤ length sets.old) }
-    ensures value { result ≡ table_answer (expression_at file.now node) special.now (take count items.now) }
-    ensures out_after { out.new ≡ table_out (expression_at file.now node) special.now (take count items.now) out.old }
+) -> Option<usize>
+    requires node_lt_n { (node < file.now.header.nodes) × (output_size ≤ length out.old) }
+    requires writes_from { WritesFrom special.now entries.now (length entries.now) }
+    requires count_in_bounds { (length entries.now ≤ length list.old) × (node * width_of (length entries.now) + width_of (length entries.now) ≤ length sets.old) }
+    ensures value { result ≡ table_answer (expression_at file.now.bytes.now node) special.now entries.now }
+    ensures out_after { out.new ≡ table_out (expression_at file.now.bytes.now node) special.now entries.now out.old }
 {
-    let width = 2 + (count + 63) / 64;
-    fill_sets(file, m, n, node, special, items, count, width, sets);
+    let width = 2 + (entries.len() + 63) / 64;
+    fill_sets(file, node, special, entries, width, sets);
     let at = node as usize * width;
     if sets[at] != 0 {
-        return Answer::Untyped;
+        return None;
     }
     let map = sets[at + 1] as u16;
-    let listed = list_output(file, node, items, count, sets, at + 2, list);
-    Answer::Typed(write_record(out, map, &list[..listed]))
+    let listed = list_output(file.bytes, node, entries, sets, at + 2, list);
+    Some(write_record(out, map, &list[..listed]))
 }
 
-// A node over a membership table that needs many words. The larger slice begins as ones: no word is read before it is
-// written, and so many zeros would be a call of the C library.
-fn type_many(
-    file: &[u8],
-    m: u8,
-    n: u8,
+// The same with N words of its own for the types, which begin as FIRST: no word is read before it is written.
+fn type_sized<const N: usize, const FIRST: u64>(
+    file: &AcceptedFile<'_>,
     node: u8,
     special: &[u16],
-    items: &[u32],
-    count: usize,
+    entries: &[u32],
     list: &mut [u32],
     out: &mut [u8],
-) -> Answer
-    requires file_value { acceptance file.now ≡ Accepted m n }
-    requires node_lt_n { (node < n) × (output_size ≤ length out.old) }
-    requires writes_from { WritesFrom special.now items.now count × (count ≤ length list.old) }
-    ensures value { result ≡ table_answer (expression_at file.now node) special.now (take count items.now) }
-    ensures out_after { out.new ≡ table_out (expression_at file.now node) special.now (take count items.now) out.old }
+) -> Option<usize>
+    requires node_lt_n { (node < file.now.header.nodes) × (output_size ≤ length out.old) }
+    requires writes_from { WritesFrom special.now entries.now (length entries.now) }
+    requires count_in_bounds { (length entries.now ≤ length list.old) × (node * width_of (length entries.now) + width_of (length entries.now) ≤ N) }
+    requires size { N ≤ 384 }
+    ensures value { result ≡ table_answer (expression_at file.now.bytes.now node) special.now entries.now }
+    ensures out_after { out.new ≡ table_out (expression_at file.now.bytes.now node) special.now entries.now out.old }
 {
-    if (node as usize + 1) * (2 + (count + 63) / 64) <= 192 {
-        let mut sets = [0u64; 192];
-        return type_within(
-            file, m, n, node, special, items, count, list, &mut sets, out,
-        );
-    }
-    let mut sets = [1u64; 384];
-    type_within(
-        file, m, n, node, special, items, count, list, &mut sets, out,
-    )
+    let mut sets = [FIRST; N];
+    type_within(file, node, special, entries, list, &mut sets, out)
 }
 
-// A node over a membership table, with a slice for the output's attributes: few words for few nodes and entries.
+// A node over a membership table, with a slice for the output's attributes: few words for few nodes and entries. The
+// largest slice begins as ones, since so many zeros would be a call of the C library.
 pub fn type_table(
-    file: &[u8],
-    m: u8,
-    n: u8,
+    file: &AcceptedFile<'_>,
     node: u8,
     special: &[u16],
-    items: &[u32],
-    count: usize,
+    entries: &[u32],
     list: &mut [u32],
     out: &mut [u8],
-) -> Answer
-    requires file_value { acceptance file.now ≡ Accepted m n }
-    requires node_lt_n { (node < n) × (output_size ≤ length out.old) }
-    requires writes_from { WritesFrom special.now items.now count × (count ≤ length list.old) }
-    ensures value { result ≡ table_answer (expression_at file.now node) special.now (take count items.now) }
-    ensures out_after { out.new ≡ table_out (expression_at file.now node) special.now (take count items.now) out.old }
+) -> Option<usize>
+    requires node_lt_n { (node < file.now.header.nodes) × (output_size ≤ length out.old) }
+    requires writes_from { WritesFrom special.now entries.now (length entries.now) × (length entries.now ≤ length list.old) }
+    ensures value { result ≡ table_answer (expression_at file.now.bytes.now node) special.now entries.now }
+    ensures out_after { out.new ≡ table_out (expression_at file.now.bytes.now node) special.now entries.now out.old }
 {
-    if (node as usize + 1) * (2 + (count + 63) / 64) <= 24 {
-        let mut sets = [0u64; 24];
-        return type_within(
-            file, m, n, node, special, items, count, list, &mut sets, out,
-        );
+    match (node as usize + 1) * (2 + (entries.len() + 63) / 64) {
+        0..=24 => type_sized::<24, 0>(file, node, special, entries, list, out),
+        25..=192 => type_sized::<192, 0>(file, node, special, entries, list, out),
+        _ => type_sized::<384, 1>(file, node, special, entries, list, out),
     }
-    type_many(file, m, n, node, special, items, count, list, out)
 }

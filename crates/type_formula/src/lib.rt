@@ -16,7 +16,6 @@ ghost use Rattle.expression_file.specs.Numbers.{acceptance_number, relations_or,
 ghost use Rattle.node_word.specs.NodeWord.{reading_number};
 
 use answer_numbers::write_acceptance;
-use node::Reading;
 
 // Accept (FORMAT 7.3): 0 with the counts m and n written, or the number of the first refusal of 1 to
 // 10 with nothing written.
@@ -48,7 +47,7 @@ pub extern "C" fn type_formula_read_node(relations: u8, number: u8, bytes: &[u8]
     ensures { result ≡ reading_number (read_node relations number bytes.now) }
 {
     match node_reader::read_node(relations, number, bytes) {
-        Reading::Read(node, size) => node_word::read_word(node, (size % 256) as u8),
-        Reading::Refused(r) => r.number() as u64,
+        Ok(decoding) => node_word::read_word(decoding.node, (decoding.size % 256) as u8),
+        Err(r) => r.number() as u64,
     }
 }

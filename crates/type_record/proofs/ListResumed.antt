@@ -10,14 +10,14 @@ use lib.Dec.{ltb}
 use lib.ListN.{length, get_or}
 use Rattle.refusal.specs.Chain.{refuse, refuse-stops, refuse-passes}
 use Rattle.refusal.specs.declared.Refusal.TheVariants.{InputTruncated, ListedAttribute}
-use Rattle.type_record.specs.declared.lists.ListReading.{ListReading}
-use Rattle.type_record.specs.declared.lists.ListReading.TheVariants.{Listed, Refused}
 use Rattle.type_record.specs.Lists.{attribute_at, read_from, read_list}
 use Rattle.type_record.specs.ListLaws.{read_next}
+use Rattle.std.specs.Prelude.{Result, ℕ, Ok, Err}
+use Rattle.refusal.specs.declared.Refusal.{Refusal}
 
 -- the answer at attribute i: the reading resumed here while the attributes before it rise, and refusal 16 once one of them does not
-abbrev resumed : List ℕ → ℕ → Bool → ℕ → ℕ → ListReading
-resumed bytes n rises previous i = refuse Refused (not rises) ListedAttribute (read_from bytes (n - i) i previous)
+abbrev resumed : List ℕ → ℕ → Bool → ℕ → ℕ → Result ℕ Refusal
+resumed bytes n rises previous i = refuse Err (not rises) ListedAttribute (read_from bytes (n - i) i previous)
 
 -- one more attribute, which is above the one before it or not
 tested :
@@ -63,10 +63,10 @@ module _ {bytes : List ℕ} {n whole previous i : ℕ} {rises : Bool} (so_far : 
         answer = rw is (sym (tested bytes n previous i rises _ (omega arith) (omega arith) refl) ∙ so_far.answer);
       }
 
-  pub resumed-refused : not rises ≡ true → Refused ListedAttribute ≡ read_list bytes
+  pub resumed-refused : not rises ≡ true → Err ListedAttribute ≡ read_list bytes
   resumed-refused one = sym (refuse-stops _ _ _ _ one) ∙ so_far.answer
 
-  pub resumed-truncated : not rises ≡ false → whole ≤ i → whole < n → Refused InputTruncated ≡ read_list bytes
+  pub resumed-truncated : not rises ≡ false → whole ≤ i → whole < n → Err InputTruncated ≡ read_list bytes
   unfolding read_from
   resumed-truncated all over short =
       let complete = so_far.complete in
@@ -74,10 +74,10 @@ module _ {bytes : List ℕ} {n whole previous i : ℕ} {rises : Bool} (so_far : 
       let cut : length bytes < i * 2 + 3 = omega arith in
       sym (refuse-passes _ _ _ _ all ∙ rw left (refuse-stops _ _ _ _ (lt-ltb (length bytes) (i * 2 + 3) cut))) ∙ so_far.answer
 
-  pub resumed-end : not rises ≡ false → whole ≤ i → n ≤ whole → Listed n ≡ read_list bytes
+  pub resumed-end : not rises ≡ false → whole ≤ i → n ≤ whole → Ok n ≡ read_list bytes
   unfolding read_from
   resumed-end all over full =
       let complete = so_far.complete in
       let none : n - i ≡ 0 = omega arith in
       let end : i ≡ n = omega arith in
-      sym (refuse-passes _ _ _ _ all ∙ rw none (ap Listed end)) ∙ so_far.answer
+      sym (refuse-passes _ _ _ _ all ∙ rw none (ap Ok end)) ∙ so_far.answer

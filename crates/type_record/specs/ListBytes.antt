@@ -1,11 +1,10 @@
 -- The bytes of one list: what stands in them, and that reading and writing undo each other.
-use Rattle.std.specs.Prelude.{ℕ, zero, suc, ◌+◌, ◌*◌, ◌/◌, ◌%◌, ◌≤◌, ◌<◌, ◌≡◌, refl, List, [], ◌∷◌, ◌++◌, length, get_or, take}
+use Rattle.std.specs.Prelude.{ℕ, zero, suc, ◌+◌, ◌*◌, ◌/◌, ◌%◌, ◌≤◌, ◌<◌, ◌≡◌, refl, List, [], ◌∷◌, ◌++◌, length, get_or, take, Ok}
 use Rattle.std.proofs.Common.{sym, subst, ◌∙◌, arith, length-append, ext_get_or, get_or-take, length-take-le}
 use Rattle.std.proofs.Math.ListN.{get_or-append}
 use Rattle.bits.specs.Rising.{Rising}
 use Rattle.bits.specs.Tab.{tab-is}
 use Rattle.bits.specs.Word.{Bytes}
-use Rattle.type_record.specs.declared.lists.ListReading.TheVariants.{Listed}
 use Rattle.type_record.specs.Lists.{attribute_at, read_list, listed, word_bytes, list_bytes}
 use Rattle.type_record.specs.ListLaws.{attribute-is, HoldsList, list-holds, holds-list, listed-tab, listed-length, listed_at, listed_below}
 
@@ -75,7 +74,7 @@ list-bytes l few below =
 
 -- ---- reading, and writing what was read
 
-module _ (bytes : List ℕ) (n : ℕ) (below : Bytes bytes) (e : read_list bytes ≡ Listed n) where
+module _ (bytes : List ℕ) (n : ℕ) (below : Bytes bytes) (e : read_list bytes ≡ Ok n) where
   holds : HoldsList bytes n
   holds = list-holds bytes n e
 
@@ -140,7 +139,7 @@ module _ (l rest : List ℕ) (some : 1 ≤ length l) where
       omega arith))
 
   -- and as many
-  pub written-list : Rising 15 l → read_list written ≡ Listed (length l)
+  pub written-list : Rising 15 l → read_list written ≡ Ok (length l)
   written-list rising =
       let size = bytes-length l some in
       let whole = length-append (list_bytes l) rest in

@@ -1,6 +1,6 @@
 -- Laws of lists of attributes: one attribute more, and what is read against what stands in the bytes.
 use Prim.Native.Nat.{ℕ, zero, suc, ◌+◌, ◌*◌, ◌≤◌, ◌<◌}
-use Rattle.std.specs.Prelude.{◌≡◌, Bool, false, List, [], ◌∷◌, eqb, ltb, leb}
+use Rattle.std.specs.Prelude.{◌≡◌, Bool, false, List, [], ◌∷◌, eqb, ltb, leb, Result, ℕ, Ok, Err}
 use Rattle.std.proofs.Math.Path.{refl, ap, subst}
 use Rattle.std.proofs.Common.{sym, ◌∙◌, add-zero, lit≤}
 use Rattle.std.proofs.Math.Decide.{dec_le}
@@ -15,13 +15,11 @@ use Rattle.refusal.specs.Chain.{refuse, refuse-passes, refuse-past, refuse-has}
 use Rattle.refusal.specs.Number.{number_of}
 use Rattle.refusal.specs.declared.Refusal.{Refusal}
 use Rattle.refusal.specs.declared.Refusal.TheVariants.{InputTruncated, CountZero, ListedAttribute}
-use Rattle.type_record.specs.declared.lists.ListReading.{ListReading}
-use Rattle.type_record.specs.declared.lists.ListReading.TheVariants.{Listed, Refused}
 use Rattle.type_record.specs.Lists.{attribute_at, read_from, read_list, listed}
 
 -- a list that is read gets past the test
-passed : (t : Bool) (r : Refusal) {next : ListReading} {n : ℕ} → refuse Refused t r next ≡ Listed n → (t ≡ false) × (next ≡ Listed n)
-passed t r {next} = refuse-past Refused t r next (λ e. let z : ◌≡◌ {A = ℕ} 0 1 = cc in omega arith)
+passed : (t : Bool) (r : Refusal) {next : Result ℕ Refusal} {n : ℕ} → refuse Err t r next ≡ Ok n → (t ≡ false) × (next ≡ Ok n)
+passed t r {next} = refuse-past Err t r next (λ e. let z : ◌≡◌ {A = ℕ} 0 1 = cc in omega arith)
 
 module _ (bytes : List ℕ) where
   -- an attribute's two bytes
@@ -49,7 +47,7 @@ module _ (bytes : List ℕ) where
     fits : (i + left) * 2 + 1 ≤ length bytes
     rising : Rising previous (from left i)
 
-  read-from : (left i previous n : ℕ) → i * 2 + 1 ≤ length bytes → read_from bytes left i previous ≡ Listed n → ReadFrom left i previous n
+  read-from : (left i previous n : ℕ) → i * 2 + 1 ≤ length bytes → read_from bytes left i previous ≡ Ok n → ReadFrom left i previous n
   unfolding read_from
   read-from zero i previous n inside e =
       let same : i ≡ n = cc in
@@ -67,15 +65,15 @@ module _ (bytes : List ℕ) where
 
   -- ---- and attributes that rise and lie within the bytes are read
 
-  from-read : (left i previous : ℕ) → (i + left) * 2 + 1 ≤ length bytes → Rising previous (from left i) → read_from bytes left i previous ≡ Listed (i + left)
+  from-read : (left i previous : ℕ) → (i + left) * 2 + 1 ≤ length bytes → Rising previous (from left i) → read_from bytes left i previous ≡ Ok (i + left)
   unfolding read_from
-  from-read zero i previous fits rising = ap Listed (sym (add-zero i))
+  from-read zero i previous fits rising = ap Ok (sym (add-zero i))
   from-read (suc left) i previous fits rising =
       let more = rw from_more at rising in
       let end : i + 1 + left ≡ i + suc left = omega arith in
       read_next left i previous (omega arith) more.0
       ∙ from-read left (i + 1) (attribute_at bytes i) (omega arith) more.1
-      ∙ ap Listed end
+      ∙ ap Ok end
 
   -- ---- the whole list
 
@@ -90,7 +88,7 @@ module _ (bytes : List ℕ) where
   unfolding listed
   from_start n = simp zero-add
 
-  pub list-holds : (n : ℕ) → read_list bytes ≡ Listed n → HoldsList n
+  pub list-holds : (n : ℕ) → read_list bytes ≡ Ok n → HoldsList n
   unfolding read_list
   list-holds n e =
       let enough = passed _ _ e in
@@ -108,13 +106,13 @@ module _ (bytes : List ℕ) where
         rising = rw (from_start count) at from.rising;
       })
 
-  pub holds-list : (n : ℕ) → HoldsList n → read_list bytes ≡ Listed n
+  pub holds-list : (n : ℕ) → HoldsList n → read_list bytes ≡ Ok n
   unfolding read_list
   holds-list n h =
       refuse-passes _ _ _ _ (le-ltb (length bytes) 1 (omega arith))
       ∙ refuse-passes _ _ _ _ (ne_eqb (get_or bytes 0 0) 0 (λ z. omega (arith, h.count)))
       ∙ rw h.count
-      (from-read n 0 15 (omega arith) (rw from_start h.rising) ∙ ap Listed (zero-add n))
+      (from-read n 0 15 (omega arith) (rw from_start h.rising) ∙ ap Ok (zero-add n))
 
   -- ---- the attributes of a list
 
@@ -144,20 +142,20 @@ module _ (bytes : List ℕ) where
 -- ---- a list is refused by 14, 15 or 16
 
 -- a list, or a refusal of at most 16
-abbrev Early : ListReading → Type 0
-Early (Listed n) = Unit {0}
-Early (Refused r) = number_of r ≤ 16
+abbrev Early : Result ℕ Refusal → Type 0
+Early (Ok n) = Unit {0}
+Early (Err r) = number_of r ≤ 16
 
 from-early : (bytes : List ℕ) (left i previous : ℕ) → Early (read_from bytes left i previous)
 unfolding read_from
 from-early bytes zero i previous = tt
 from-early bytes (suc left) i previous =
-    refuse-has Early Refused (ltb (length bytes) (i * 2 + 3)) InputTruncated _ (lit≤ tt)
-    (λ long. refuse-has Early Refused (leb (attribute_at bytes i) previous) ListedAttribute _ (lit≤ tt) (λ above. from-early bytes left (i + 1) (attribute_at bytes i)))
+    refuse-has Early Err (ltb (length bytes) (i * 2 + 3)) InputTruncated _ (lit≤ tt)
+    (λ long. refuse-has Early Err (leb (attribute_at bytes i) previous) ListedAttribute _ (lit≤ tt) (λ above. from-early bytes left (i + 1) (attribute_at bytes i)))
 
-pub list-number : (bytes : List ℕ) (r : Refusal) → read_list bytes ≡ Refused r → number_of r ≤ 16
+pub list-number : (bytes : List ℕ) (r : Refusal) → read_list bytes ≡ Err r → number_of r ≤ 16
 unfolding read_list
 list-number bytes r e =
     subst Early e
-    (refuse-has Early Refused (ltb (length bytes) 1) InputTruncated _ (lit≤ tt)
-    (λ long. refuse-has Early Refused (eqb (get_or bytes 0 0) 0) CountZero _ (lit≤ tt) (λ some. from-early bytes (get_or bytes 0 0) 0 15)))
+    (refuse-has Early Err (ltb (length bytes) 1) InputTruncated _ (lit≤ tt)
+    (λ long. refuse-has Early Err (eqb (get_or bytes 0 0) 0) CountZero _ (lit≤ tt) (λ some. from-early bytes (get_or bytes 0 0) 0 15)))

@@ -1,5 +1,5 @@
 -- Type records (FORMAT 4.1 to 4.5, 8.4).
-use Rattle.std.specs.Prelude.{ℕ, ◌+◌, ◌-◌, ◌*◌, ◌/◌, ◌%◌, cond, List, ◌∷◌, eqb, ltb, length, drop}
+use Rattle.std.specs.Prelude.{ℕ, ◌+◌, ◌-◌, ◌*◌, ◌/◌, ◌%◌, cond, List, ◌∷◌, eqb, ltb, length, drop, Result, Ok, Err}
 use Rattle.bits.specs.Bit.{bit}
 use Rattle.bits.specs.Rising.{member}
 use Rattle.bits.specs.Word.{word}
@@ -7,11 +7,9 @@ use Rattle.attribute_set.specs.AttrSet.{special}
 use Rattle.types.specs.Types.{Attrs}
 use Rattle.refusal.specs.Chain.{refuse}
 use Rattle.refusal.specs.declared.Refusal.TheVariants.{InputTruncated}
-use Rattle.type_record.specs.declared.lists.ListReading.{ListReading}
-use Rattle.type_record.specs.declared.lists.ListReading.TheVariants.{Listed, Refused as ListRefused}
-use Rattle.type_record.specs.declared.records.RecordReading.{RecordReading}
-use Rattle.type_record.specs.declared.records.RecordReading.TheVariants.{Read, Refused}
 use Rattle.type_record.specs.Lists.{read_list, listed, list_bytes}
+use Rattle.refusal.specs.declared.Refusal.{Refusal}
+use Rattle.type_record.specs.declared.records.RecordHead.{RecordHead}
 
 -- FORMAT 9.8: the bytes of the longest record, and the least length of a slice for one
 abbrev pub output_size : ℕ
@@ -19,17 +17,21 @@ output_size = 513
 
 -- ---- reading
 
+-- the front of a record that was read
+abbrev pub RecordRead : ℕ → ℕ → Result RecordHead Refusal
+RecordRead map n = Ok (record { special = map; count = n })
+
 -- a record's reading, once its list is read
-abbrev pub with_list : ℕ → ListReading → RecordReading
-with_list map (Listed n) = Read map n
-with_list map (ListRefused r) = Refused r
+abbrev pub with_list : ℕ → Result ℕ Refusal → Result RecordHead Refusal
+with_list map (Ok n) = RecordRead map n
+with_list map (Err r) = Err r
 
 -- FORMAT 8.4: the record at the front of the bytes: its special attributes, bit 0 clear, and the
 -- number of its ordinary ones
-unfoldable pub read_record : List ℕ → RecordReading
+unfoldable pub read_record : List ℕ → Result RecordHead Refusal
 read_record bytes =
-    refuse Refused (ltb (length bytes) 2) InputTruncated
-    (cond (eqb (word bytes 0 % 2) 0) (Read (word bytes 0) 0) (with_list (word bytes 0 - 1) (read_list (drop 2 bytes))))
+    refuse Err (ltb (length bytes) 2) InputTruncated
+    (cond (eqb (word bytes 0 % 2) 0) (RecordRead (word bytes 0) 0) (with_list (word bytes 0 - 1) (read_list (drop 2 bytes))))
 
 -- FORMAT 4.5: the bytes of a record with n ordinary attributes
 unfoldable pub record_size : ℕ → ℕ

@@ -1,20 +1,18 @@
 -- Writing a type record that was read and reading one that was written give the same.
-use Rattle.std.specs.Prelude.{ℕ, zero, suc, ◌+◌, ◌*◌, ◌/◌, ◌%◌, ◌≤◌, ◌≡◌, List, [], ◌∷◌, ◌++◌, length, take}
+use Rattle.std.specs.Prelude.{ℕ, zero, suc, ◌+◌, ◌*◌, ◌/◌, ◌%◌, ◌≤◌, ◌≡◌, List, [], ◌∷◌, ◌++◌, length, take, Ok}
 use Rattle.std.proofs.Common.{sym, ap, ap₂, ◌∙◌, arith}
 use Rattle.bits.specs.Word.{Bytes, word_bytes}
-use Rattle.type_record.specs.declared.lists.ListReading.TheVariants.{Listed}
-use Rattle.type_record.specs.declared.records.RecordReading.TheVariants.{Read}
 use Rattle.type_record.specs.Lists.{read_list, listed, list_bytes}
 use Rattle.type_record.specs.ListLaws.{listed-none, listed-length}
 use Rattle.type_record.specs.ListBytes.{list_written, written_listed, written-list}
-use Rattle.type_record.specs.Record.{TypeRecord, read_record, record_size, record_at, follows, record_bytes}
+use Rattle.type_record.specs.Record.{TypeRecord, read_record, record_size, record_at, follows, record_bytes, RecordRead}
 use Rattle.type_record.specs.RecordBytes.{IsRecord, follows-most, size_none, size-some}
-use Rattle.type_record.specs.RecordReading.{holds-record, record-holds}
+use Rattle.type_record.specs.RecordReading.{holds-record, record-holds, reading-parts}
 
 -- ---- writing what was read
 
 -- the list behind the two bytes of the map
-list_same : (low high : ℕ) (bytes : List ℕ) (n : ℕ) → Bytes bytes → (1 ≤ n → read_list bytes ≡ Listed n) → low ∷ high ∷ list_bytes (listed n bytes) ≡ take (record_size n) (low ∷ high ∷ bytes)
+list_same : (low high : ℕ) (bytes : List ℕ) (n : ℕ) → Bytes bytes → (1 ≤ n → read_list bytes ≡ Ok n) → low ∷ high ∷ list_bytes (listed n bytes) ≡ take (record_size n) (low ∷ high ∷ bytes)
 list_same low high bytes zero below read = rw (listed-none, size_none)
 list_same low high bytes (suc k) below read =
     let size = size-some (suc k) (omega arith) in
@@ -22,7 +20,7 @@ list_same low high bytes (suc k) below read =
     rw long (ap (λ (l : List ℕ). low ∷ high ∷ l) (list_written bytes (suc k) below (read (omega arith))))
 
 -- writing what was read gives the same bytes
-pub read-written : (bytes : List ℕ) (map n : ℕ) → Bytes bytes → read_record bytes ≡ Read map n → record_bytes map (record_at bytes map n).ordinary ≡ take (record_size n) bytes
+pub read-written : (bytes : List ℕ) (map n : ℕ) → Bytes bytes → read_record bytes ≡ RecordRead map n → record_bytes map (record_at bytes map n).ordinary ≡ take (record_size n) bytes
 unfolding record_at record_bytes
 read-written [] map n below e = let enough = (record-holds [] map n e).enough in absurd (omega arith)
 read-written (low ∷ []) map n below e = let enough = (record-holds (low ∷ []) map n e).enough in absurd (omega arith)
@@ -40,7 +38,7 @@ read-written (low ∷ high ∷ bytes) map n below e =
 -- ---- reading what was written
 
 -- reading what was written gives the same record, whatever follows it
-pub written_read : (t : TypeRecord) (rest : List ℕ) → IsRecord t → read_record (record_bytes t.map t.ordinary ++ rest) ≡ Read t.map (length t.ordinary)
+pub written_read : (t : TypeRecord) (rest : List ℕ) → IsRecord t → read_record (record_bytes t.map t.ordinary ++ rest) ≡ RecordRead t.map (length t.ordinary)
 unfolding record_bytes
 written_read t rest is =
     let first = word_bytes (record_bytes t.map t.ordinary ++ rest) 0 in
@@ -58,9 +56,10 @@ written-record t rest is = ap (λ (l : List ℕ). record { map = t.map; ordinary
 -- two records with the same bytes are one
 pub bytes-once : (t u : TypeRecord) → IsRecord t → IsRecord u → record_bytes t.map t.ordinary ≡ record_bytes u.map u.ordinary → t ≡ u
 bytes-once t u t-is u-is e =
-    let reading : Read t.map (length t.ordinary) ≡ Read u.map (length u.ordinary) =
+    let reading : RecordRead t.map (length t.ordinary) ≡ RecordRead u.map (length u.ordinary) =
     sym (written_read t [] t-is) ∙ ap (λ (b : List ℕ). read_record (b ++ [])) e ∙ written_read u [] u-is
     in
-    let map_is : t.map ≡ u.map = cc in
-    let count-is : length t.ordinary ≡ length u.ordinary = cc in
+    let parts = reading-parts reading in
+    let map_is : t.map ≡ u.map = parts.0 in
+    let count-is : length t.ordinary ≡ length u.ordinary = parts.1 in
     sym (written-record t [] t-is) ∙ rw (e, map_is, count-is) (written-record u [] u-is)

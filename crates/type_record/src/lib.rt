@@ -5,8 +5,8 @@ mod lists;
 mod records;
 mod writing;
 
-pub use lists::{ListReading, read_list};
-pub use records::{RecordReading, read_record, record_size};
+pub use lists::read_list;
+pub use records::{RecordHead, read_record, record_size};
 pub use writing::write_record;
 
 // FORMAT 9.8: the bytes of the longest record, and the least length of a slice for one.

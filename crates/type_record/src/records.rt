@@ -2,31 +2,36 @@
 ghost use Rattle.std.specs.Prelude.{◌≡◌, ◌≤◌};
 ghost use Rattle.type_record.specs.Record.{read_record, record_size};
 
-use crate::lists::{ListReading, read_list};
+use crate::lists::read_list;
+use bits::word_at;
 use refusal::Refusal;
 
-// The special attributes, bit 0 clear, and the number of ordinary ones; or the first refusal of 14 to 16.
+// The front of a record: the special attributes, bit 0 clear, and the number of ordinary ones.
 #[derive(Clone, Copy)]
-pub enum RecordReading {
-    Read(u16, usize),
-    Refused(Refusal),
+pub struct RecordHead {
+    pub special: u16,
+    pub count: usize,
 }
 
-// The record at the front of the bytes (FORMAT 8.4).
-pub fn read_record(bytes: &[u8]) -> RecordReading
+// The record at the front of the bytes, or the first refusal of 14 to 16 (FORMAT 8.4).
+pub fn read_record(bytes: &[u8]) -> Result<RecordHead, Refusal>
     ensures { result ≡ read_record bytes.now }
 {
     if bytes.len() < 2 {
-        return RecordReading::Refused(Refusal::InputTruncated);
+        return Err(Refusal::InputTruncated);
     }
-    let map = bytes[0] as u16 + bytes[1] as u16 * 256;
+    let map = word_at(bytes, 0);
     if map % 2 == 0 {
-        return RecordReading::Read(map, 0);
+        return Ok(RecordHead {
+            special: map,
+            count: 0,
+        });
     }
-    match read_list(&bytes[2..]) {
-        ListReading::Listed(count) => RecordReading::Read(map - 1, count),
-        ListReading::Refused(r) => RecordReading::Refused(r),
-    }
+    let count = read_list(&bytes[2..])?;
+    Ok(RecordHead {
+        special: map - 1,
+        count,
+    })
 }
 
 // The bytes of a record with so many ordinary attributes (FORMAT 4.5).

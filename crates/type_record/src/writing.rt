@@ -23,11 +23,9 @@ pub fn write_record(out: &mut [u8], special: u16, listed: &[u32]) -> usize
     }
     out[0] = low + 1;
     out[2] = count as u8;
-    let mut i = 0;
-    while i < count {
+    for i in 0..count {
         out[i * 2 + 3] = (listed[i] % 256) as u8;
         out[i * 2 + 4] = (listed[i] / 256) as u8;
-        i += 1;
     }
     record_size(count)
 }

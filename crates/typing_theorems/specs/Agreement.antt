@@ -8,9 +8,8 @@ use Rattle.stored_formula.specs.FormulaLaws.{answer-filled, space-filled}
 use Rattle.stored_formula.specs.StoredFormula.{formula_in, typed-fits}
 use Rattle.type_record.specs.Record.{TypeRecord}
 use Rattle.schema.specs.Schema.{assignment_of}
-use Rattle.typing_answer.specs.Typing.{typing_answer, typing_out}
+use Rattle.typing_answer.specs.Typing.{typing_answer, typing_out, Typed as TypedAnswer}
 use Rattle.typing_theorems.specs.Theorems.{RecordOf, Unrefused, typing-typed}
-use Rattle.typing_answer.specs.declared.Answer.TheVariants.{Typed as TypedAnswer}
 use Rattle.admission.specs.Admission.{formula_size}
 
 -- Typing, where nothing is refused, and a work space that Formula has filled from the file

@@ -1,10 +1,8 @@
 -- Where Typing answers typed or untyped, nothing was refused: what there was to read, from the answer itself.
-use Rattle.std.specs.Prelude.{ℕ, ◌≡◌, refl, List, length}
+use Rattle.std.specs.Prelude.{ℕ, ◌≡◌, refl, List, length, Result, Err, Ok}
 use Rattle.std.proofs.Common.{sym, ◌∙◌, arith}
 use Rattle.bits.specs.Word.{Bytes}
 use Rattle.refusal.specs.declared.Refusal.{Refusal}
-use Rattle.expression_file.specs.declared.files.Acceptance.{Acceptance}
-use Rattle.expression_file.specs.declared.files.Acceptance.TheVariants.{Accepted, Refused as FileRefused}
 use Rattle.expression_file.specs.Accepted.{accepted-file}
 use Rattle.admission.specs.Admission.{asked, sliced}
 use Rattle.admission.specs.AdmissionLaws.{sliced-passed, asked-passed}
@@ -14,19 +12,19 @@ use Rattle.schema.specs.RecordsLaws.{records-read}
 use Rattle.filled_schema.specs.FilledSchema.{filled_reading}
 use Rattle.filled_schema.specs.FilledRecords.{table_filled_lem}
 use Rattle.filled_schema.specs.FilledLaws.{filled-schema}
-use Rattle.schema.specs.declared.reading.Judgement.{Judgement}
-use Rattle.schema.specs.declared.reading.Judgement.TheVariants.{Read, Refused as SchemaRefused}
-use Rattle.typing_answer.specs.Typing.{typing_answer}
+use Rattle.typing_answer.specs.Typing.{typing_answer, Typed, Untyped}
 use Rattle.typing_answer.proofs.TypingLaws.{schema-stops, typing-stops, typing-goes}
 use Rattle.typing_theorems.specs.Theorems.{Unrefused}
-use Rattle.typing_answer.specs.declared.Answer.TheVariants.{Typed, Untyped, Refused}
+use Rattle.expression_file.specs.declared.files.Header.{Header}
+use Rattle.expression_file.specs.ReadFile.{Accepted}
+use Rattle.schema.specs.Judgement.{Judgement, Read, Refused as SchemaRefused}
 
 module _ (file : List ℕ) (k : ℕ) (schema out : List ℕ) (below : Bytes schema) where
   -- what there was to read
   abbrev pub Found : Type 0
   Found = (m : ℕ) × ((n : ℕ) × ((ts : List TypeRecord) × Unrefused file k schema (length out) m n ts))
 
-  pub answered-unrefused : ((r : Refusal) → typing_answer file k schema (length out) ≡ Refused r → ⊥) → Found
+  pub answered-unrefused : ((r : Refusal) → typing_answer file k schema (length out) ≡ Err r → ⊥) → Found
   answered-unrefused other = admission (sliced (asked file k) (length out) output_size) refl
     where
       read : (m n : ℕ) → sliced (asked file k) (length out) output_size ≡ Accepted m n → (j : Judgement) → (filled_reading m schema).judgement ≡ j → Found
@@ -55,9 +53,9 @@ module _ (file : List ℕ) (k : ℕ) (schema out : List ℕ) (below : Bytes sche
             ),
           )
 
-      admission : (a : Acceptance) → sliced (asked file k) (length out) output_size ≡ a → Found
-      admission (FileRefused r) is = absurd (other r (sym (typing-stops file k schema out r is).0))
-      admission (Accepted m n) is = read m n is (filled_reading m schema).judgement refl
+      admission : (a : Result Header Refusal) → sliced (asked file k) (length out) output_size ≡ a → Found
+      admission (Err r) is = absurd (other r (sym (typing-stops file k schema out r is).0))
+      admission (Ok h) is = read h.relations h.nodes is (filled_reading h.relations schema).judgement refl
 
   -- typed was answered
   pub typed-unrefused : (size : ℕ) → typing_answer file k schema (length out) ≡ Typed size → Found

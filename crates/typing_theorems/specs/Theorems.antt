@@ -7,7 +7,7 @@
 --   Filled                every relation has an attribute                   (crate types, Types)
 --   type_of, record_bytes   the type of a record, and its bytes               (crate type_record, Record)
 --   typing_answer, typing_out     what Typing leaves, by its contract         (crate typing_answer, Typing)
-use Rattle.std.specs.Prelude.{ℕ, ◌≤◌, ◌<◌, ◌≡◌, refl, ◌↔◌, Bool, true, false, List, length, take}
+use Rattle.std.specs.Prelude.{ℕ, ◌≤◌, ◌<◌, ◌≡◌, refl, ◌↔◌, Bool, true, false, List, length, take, Ok}
 use Rattle.std.proofs.Common.{sym, ap, ap₂, subst, ◌∙◌, arith}
 use Rattle.std.proofs.Math.Path.{fun_ext}
 use Rattle.bits.specs.Tab.{over, take-over}
@@ -15,8 +15,7 @@ use Rattle.bits.specs.Word.{Bytes}
 use Rattle.types.specs.Types.{Attrs, Filled}
 use Rattle.algebra.specs.Expression.{Legal}
 use Rattle.algebra.specs.Rules.{Typed}
-use Rattle.expression_file.specs.declared.files.Acceptance.TheVariants.{Accepted}
-use Rattle.expression_file.specs.ReadFile.{acceptance}
+use Rattle.expression_file.specs.ReadFile.{acceptance, Accepted}
 use Rattle.expression_file.specs.Accepted.{accepted-file}
 use Rattle.admission.specs.Admission.{asked}
 use Rattle.admission.specs.AdmissionLaws.{sliced-passes, asked-passes}
@@ -31,9 +30,8 @@ use Rattle.filled_schema.specs.FilledRecords.{table_filled_lem}
 use Rattle.table_types.specs.Output.{typed_in, output_map, output_list}
 use Rattle.table_types.specs.OutputRecord.{output_record, output-parts}
 use Rattle.typing_theorems.specs.TableTyped.{table-rules, rules-table, rules-output, output-record}
-use Rattle.typing_answer.specs.Typing.{table_answer, table_out, typing_answer, typing_out}
+use Rattle.typing_answer.specs.Typing.{table_answer, table_out, typing_answer, typing_out, Typed as TypedAnswer, Untyped}
 use Rattle.typing_answer.proofs.TypingLaws.{answer_typed, answer-untyped, out-typed, typing-records}
-use Rattle.typing_answer.specs.declared.Answer.TheVariants.{Typed as TypedAnswer, Untyped}
 use Rattle.refusal.specs.Several.{several_read as records_read}
 
 -- these bytes are the type record of t
@@ -78,7 +76,7 @@ module _ (file : List ℕ) (k : ℕ) (schema out : List ℕ) (m n : ℕ) (ts : L
   read : (length ts ≡ m) × AllRecords ts
   read = records-read m schema ts un.bytes un.read
 
-  results : (typing_answer file k schema (length out) ≡ table_answer (expression_at file k) (maps_of ts) (entries_of ts)) × (typing_out file k schema out ≡ table_out (expression_at file k) (maps_of ts) (entries_of ts) out)
+  results : (typing_answer file k schema (length out) ≡ Ok (table_answer (expression_at file k) (maps_of ts) (entries_of ts))) × (typing_out file k schema out ≡ table_out (expression_at file k) (maps_of ts) (entries_of ts) out)
   results = typing-records file k schema out m n ts (sliced-passes (asked file k) (length out) output_size (asked-passes file k un.accepted un.node) un.slice) un.read un.few ((table_filled_lem m few ts read.0 read.1).1 un.filled)
 
   -- the output record of the schema's table
@@ -91,10 +89,10 @@ module _ (file : List ℕ) (k : ℕ) (schema out : List ℕ) (m n : ℕ) (ts : L
       → (typing_answer file k schema (length out) ≡ TypedAnswer (record_size (length (output_list (expression_at file k) (entries_of ts)))))
       × (typing_out file k schema out
       ≡ over (record_bytes (output_map (expression_at file k) (maps_of ts)) (output_list (expression_at file k) (entries_of ts))) out)
-  typed-results t = (results.0 ∙ answer_typed (expression_at file k) (maps_of ts) (entries_of ts) t, results.1 ∙ out-typed (expression_at file k) (maps_of ts) (entries_of ts) out t)
+  typed-results t = (results.0 ∙ ap Ok (answer_typed (expression_at file k) (maps_of ts) (entries_of ts) t), results.1 ∙ out-typed (expression_at file k) (maps_of ts) (entries_of ts) out t)
 
   untyped-result : typed_in (expression_at file k) (maps_of ts) (entries_of ts) ≡ false → typing_answer file k schema (length out) ≡ Untyped
-  untyped-result t = results.0 ∙ answer-untyped (expression_at file k) (maps_of ts) (entries_of ts) t
+  untyped-result t = results.0 ∙ ap Ok (answer-untyped (expression_at file k) (maps_of ts) (entries_of ts) t)
 
   -- the record that is written, where the rules derive t
   written : (t : Attrs) → Typed (assignment_of ts) (expression_at file k) t → (size : ℕ) × ((typing_answer file k schema (length out) ≡ TypedAnswer size) × RecordOf t (take size (typing_out file k schema out)))

@@ -1,5 +1,5 @@
 -- Typing answers typed for the witness that Verdict writes, with the record of a type that the rules derive.
-use Rattle.std.specs.Prelude.{ℕ, ◌≤◌, ◌≡◌, List, length, take}
+use Rattle.std.specs.Prelude.{ℕ, ◌≤◌, ◌≡◌, List, length, take, Ok}
 use Rattle.std.proofs.Common.{sym, ◌∙◌, arith}
 use Rattle.types.specs.Types.{Attrs}
 use Rattle.admission.specs.AdmissionLaws.{sliced-passed, admitted-passed}
@@ -8,9 +8,8 @@ use Rattle.verdict_theorems.specs.Theorems.{verdict-witness}
 use Rattle.verdict_answer.specs.Verdict.{verdict_answer, verdict_schema}
 use Rattle.verdict_answer.proofs.VerdictLaws.{verdict-unrefused}
 use Rattle.verdict_answer.specs.declared.Outcome.TheVariants.{Typable}
-use Rattle.typing_answer.specs.Typing.{typing_answer, typing_out}
+use Rattle.typing_answer.specs.Typing.{typing_answer, typing_out, Typed as TypedAnswer}
 use Rattle.typing_theorems.specs.Theorems.{RecordOf, typing-typed}
-use Rattle.typing_answer.specs.declared.Answer.TheVariants.{Typed as TypedAnswer}
 use Rattle.type_record.specs.Record.{output_size}
 use Rattle.schema.specs.Schema.{schema_size}
 
@@ -20,7 +19,7 @@ TypesAs file k bytes out = (t : Attrs) × ((width : ℕ) × ((typing_answer file
 
 module _ (file : List ℕ) (k : ℕ) (work schema : List ℕ) (out : List ℕ) (slice : output_size ≤ length out) where
   -- Verdict said typable, and wrote a schema of so many bytes
-  pub verdict-typing : (size count : ℕ) → verdict_answer file k (length work) (length schema) ≡ Typable size count → TypesAs file k (take size (verdict_schema file k (length work) schema)) out
+  pub verdict-typing : (size count : ℕ) → verdict_answer file k (length work) (length schema) ≡ Ok (Typable size count) → TypesAs file k (take size (verdict_schema file k (length work) schema)) out
   verdict-typing size count said =
       let found = verdict-unrefused file k work schema (λ r refused. let both = sym said ∙ refused in let z : ◌≡◌ {A = ℕ} 0 1 = cc in omega arith) in
       let admits = admitted-passed file k (length work) (sliced-passed (admitted file k (length work)) (length schema) schema_size found.1.1).0 in

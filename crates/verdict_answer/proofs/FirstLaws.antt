@@ -1,6 +1,6 @@
 -- Laws of the first subsets: their search, and that a work space says the same as the expression whose columns it
 -- holds.
-use Prim.Native.Nat.{ℕ, ◌-◌, ◌<◌}
+use Prim.Native.Nat.{ℕ, ◌<◌}
 use Rattle.std.specs.Prelude.{◌≡◌, Bool}
 use Rattle.verdict_answer.specs.First.{first_in, blocked_in}
 use Rattle.verdict_answer.specs.FewestLaws.{first-same}

@@ -1,5 +1,5 @@
 -- Laws of Verdict: the outcome, by what the code finds; the three results after each refusal, and after none.
-use Rattle.std.specs.Prelude.{ℕ, ◌-◌, ◌^◌, ◌≤◌, ◌<◌, ◌≡◌, Bool, ltb, get_or, drop, []}
+use Rattle.std.specs.Prelude.{ℕ, ◌-◌, ◌^◌, ◌≤◌, ◌<◌, ◌≡◌, Bool, ltb, get_or, drop, [], Result, Err, Ok}
 use Rattle.std.proofs.Math.Path.{refl, sym, ap, ap₂}
 use Rattle.std.proofs.Common.{◌∙◌, lt_of_lt_of_le, arith, pow_mono}
 use Rattle.std.proofs.Math.Bool.{cond}
@@ -9,8 +9,6 @@ use borrow.Author.Tests.{lt-ltb, le-ltb}
 use Rattle.std.proofs.Math.ListN.{length}
 use Rattle.bits.specs.Tab.{over}
 use Rattle.refusal.specs.declared.Refusal.{Refusal}
-use Rattle.expression_file.specs.declared.files.Acceptance.{Acceptance}
-use Rattle.expression_file.specs.declared.files.Acceptance.TheVariants.{Accepted, Refused as FileRefused}
 use Rattle.admission.specs.Admission.{sliced, admitted}
 use Rattle.admission.specs.AdmissionLaws.{Admits, sliced-passed, admitted-passed, admits-few}
 use Rattle.node_expression.specs.NodeExpression.{expression_at}
@@ -22,18 +20,20 @@ use Rattle.set_cover.specs.Least.{infinity}
 use Rattle.set_cover.specs.SameCost.{cost-same, best-same}
 use Rattle.set_cover.specs.Choice.{uncovered}
 use Rattle.set_cover.specs.FirstCover.{firsts}
-use Rattle.verdict_answer.specs.First.{allowed_at, first_in, blocked_in, chosen_by, subsets_by}
-use Rattle.verdict_answer.specs.FirstLaws.{subsets-blocked, subsets-chosen, chosen-size, chosen_none, stored-cells}
+use Rattle.stored_formula.specs.ColumnPlace.{column_at}
+use Rattle.verdict_answer.specs.First.{allowed_at, first_in, blocked_in, chosen_by, subsets_by, Subsets}
+use Rattle.verdict_answer.specs.FirstLaws.{subsets-blocked, subsets-chosen, chosen-size, chosen_none, formula-cells, stored-cells}
 use Rattle.verdict_answer.proofs.FirstLaws.{blocked-in-same}
 use Rattle.verdict_answer.specs.Formed.{Formed}
 use Rattle.verdict_answer.specs.FirstChoice.{memberships_of, memberships-few, chosen-firsts}
 use Rattle.verdict_answer.proofs.FirstChoice.{covers-cost, covers-specials, covers-ordinaries}
 use Rattle.verdict_answer.specs.Witness.{cost_in, choice_in, specials_of, ordinaries_of, witness_bytes}
 use Rattle.verdict_answer.specs.Verdict.{attribute_by, untypable_in, outcome, outcome_in, schema_in, verdict_answer, verdict_space, verdict_schema}
-use Rattle.verdict_answer.specs.declared.Subsets.{Subsets}
 use Rattle.verdict_answer.specs.declared.Outcome.{Outcome}
-use Rattle.verdict_answer.specs.declared.Outcome.TheVariants.{Typable, Untypable, Refused}
+use Rattle.verdict_answer.specs.declared.Outcome.TheVariants.{Typable, Untypable}
 use Rattle.verdict_answer.specs.VerdictLaws.{stored-open}
+use Rattle.expression_file.specs.declared.files.Header.{Header}
+use Rattle.expression_file.specs.ReadFile.{Accepted}
 
 -- ---- the attribute that is said
 
@@ -163,7 +163,18 @@ module _ (m : ℕ) (few : m ≤ 8) (f g : ℕ → ℕ → Bool) (same : (i s : �
   unfolding schema_in
   same-schema schema = ap₂ (λ (a : ℕ) (l : List ℕ). cond (ltb a 16) schema (over (witness_bytes m l) schema)) same-untypable same-choice
 
--- so the outcome off the work space is that of the node's expression
+-- so the outcome of a formula by itself is that of the node at which it stands
+pub formula-outcome :
+    (formula work : List ℕ) (k m : ℕ)
+    → m ≤ 8
+    → ((c : ℕ) → c < 16 → column_at formula 0 c ≡ column_at work k c)
+    → (outcome_in m (allowed_at formula 0) ≡ outcome_in m (allowed_at work k))
+    × ((schema : List ℕ) → schema_in m (allowed_at formula 0) schema ≡ schema_in m (allowed_at work k) schema)
+formula-outcome formula work k m few columns =
+    let same = formula-cells formula work k columns in
+    (same_outcome m few (allowed_at formula 0) (allowed_at work k) same, same-schema m few (allowed_at formula 0) (allowed_at work k) same)
+
+-- and the outcome off the work space is that of the node's expression
 pub filled-outcome :
     (file : List ℕ) (k : ℕ) (work filled : List ℕ) (m n : ℕ)
     → Admits file k (length work) m n
@@ -179,13 +190,13 @@ filled-outcome file k work filled m n admits is =
 
 module _ (file : List ℕ) (k : ℕ) (work schema : List ℕ) where
   -- the answer and the slices are as the definitions say
-  abbrev Results : Outcome → List ℕ → List ℕ → Type 0
+  abbrev Results : Result Outcome Refusal → List ℕ → List ℕ → Type 0
   Results o filled written =
       (o ≡ verdict_answer file k (length work) (length schema))
       × ((filled ≡ verdict_space file k work (length schema))
       × (written ≡ verdict_schema file k (length work) schema))
 
-  pub verdict-stops : (r : Refusal) → sliced (admitted file k (length work)) (length schema) schema_size ≡ FileRefused r → Results (Refused r) work schema
+  pub verdict-stops : (r : Refusal) → sliced (admitted file k (length work)) (length schema) schema_size ≡ Err r → Results (Err r) work schema
   unfolding verdict_answer verdict_space verdict_schema
   verdict-stops r e = rw e (refl, (refl, refl))
 
@@ -193,7 +204,7 @@ module _ (file : List ℕ) (k : ℕ) (work schema : List ℕ) where
   pub verdict-passes :
       (m n : ℕ)
       → sliced (admitted file k (length work)) (length schema) schema_size ≡ Accepted m n
-      → Results (outcome_in m (allowed_bit m (expression_at file k))) (over (formulas_of file m n) work) (schema_in m (allowed_bit m (expression_at file k)) schema)
+      → Results (Ok (outcome_in m (allowed_bit m (expression_at file k)))) (over (formulas_of file m n) work) (schema_in m (allowed_bit m (expression_at file k)) schema)
   unfolding verdict_answer verdict_space verdict_schema
   verdict-passes m n e = rw e (refl, (refl, refl))
 
@@ -204,17 +215,17 @@ module _ (file : List ℕ) (k : ℕ) (work schema : List ℕ) where
       → filled ≡ over (formulas_of file m n) work
       → o ≡ outcome_in m (allowed_at filled k)
       → written ≡ schema_in m (allowed_at filled k) schema
-      → Results o filled written
+      → Results (Ok o) filled written
   verdict-goes m n filled written o e is answered wrote =
       let admits = admitted-passed file k (length work) (sliced-passed (admitted file k (length work)) (length schema) schema_size e).0 in
       let same = filled-outcome file k work filled m n admits is in
       let results = verdict-passes m n e in
-      (answered ∙ same.0 ∙ results.0, (is ∙ results.1.0, wrote ∙ same.1 schema ∙ results.1.1))
+      (ap Ok (answered ∙ same.0) ∙ results.0, (is ∙ results.1.0, wrote ∙ same.1 schema ∙ results.1.1))
 
   -- where it is not refused, none of 1 to 13 applies
-  pub verdict-unrefused : ((r : Refusal) → verdict_answer file k (length work) (length schema) ≡ Refused r → ⊥) → (m : ℕ) × ((n : ℕ) × (sliced (admitted file k (length work)) (length schema) schema_size ≡ Accepted m n))
+  pub verdict-unrefused : ((r : Refusal) → verdict_answer file k (length work) (length schema) ≡ Err r → ⊥) → (m : ℕ) × ((n : ℕ) × (sliced (admitted file k (length work)) (length schema) schema_size ≡ Accepted m n))
   verdict-unrefused other = go (sliced (admitted file k (length work)) (length schema) schema_size) refl
     where
-      go : (a : Acceptance) → sliced (admitted file k (length work)) (length schema) schema_size ≡ a → (m : ℕ) × ((n : ℕ) × (sliced (admitted file k (length work)) (length schema) schema_size ≡ Accepted m n))
-      go (FileRefused r) is = absurd (other r (sym (verdict-stops r is).0))
-      go (Accepted m n) is = (m, (n, is))
+      go : (a : Result Header Refusal) → sliced (admitted file k (length work)) (length schema) schema_size ≡ a → (m : ℕ) × ((n : ℕ) × (sliced (admitted file k (length work)) (length schema) schema_size ≡ Accepted m n))
+      go (Err r) is = absurd (other r (sym (verdict-stops r is).0))
+      go (Ok h) is = (h.relations, (h.nodes, is))

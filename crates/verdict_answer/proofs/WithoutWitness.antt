@@ -1,19 +1,18 @@
 -- The verdict without its witness (FORMAT 7.28), and how code finds it.
-use Rattle.std.specs.Prelude.{ℕ, ◌-◌, ◌^◌, ◌≤◌, ◌<◌, ◌≡◌, refl, Bool, ltb, drop, []}
+use Rattle.std.specs.Prelude.{ℕ, ◌-◌, ◌^◌, ◌≤◌, ◌<◌, ◌≡◌, refl, Bool, ltb, drop, [], Ok, Err}
 use Rattle.std.proofs.Common.{sym, ap, ◌∙◌, arith, lt-ltb, le-ltb}
 use Rattle.std.proofs.Math.Decide.{dec_lt}
 use Rattle.refusal.specs.declared.Refusal.{Refusal}
 use Rattle.set_cover.specs.Least.{infinity}
 use Rattle.set_cover.specs.Choice.{uncovered}
-use Rattle.verdict_answer.specs.First.{first_in, blocked_in, subsets_by}
+use Rattle.verdict_answer.specs.First.{first_in, blocked_in, subsets_by, Subsets}
 use Rattle.verdict_answer.specs.Formed.{Formed}
 use Rattle.verdict_answer.specs.FirstChoice.{memberships_of}
 use Rattle.verdict_answer.specs.Witness.{cost_in}
 use Rattle.verdict_answer.specs.Verdict.{untypable_in, outcome_in}
 use Rattle.verdict_answer.proofs.VerdictLaws.{untypable-none, outcome-untypable, outcome-typable, stored-blocked, stored-unfilled, first-typable}
-use Rattle.verdict_answer.specs.declared.Subsets.{Subsets}
 use Rattle.verdict_answer.specs.declared.Outcome.{Outcome}
-use Rattle.verdict_answer.specs.declared.Typability.TheVariants.{Typable, Untypable, Refused}
+use Rattle.verdict_answer.specs.declared.Typability.TheVariants.{Typable, Untypable}
 use Rattle.verdict_answer.specs.Typability.{says_untypable, without_witness}
 
 -- ---- by what the columns of a node allow
@@ -49,12 +48,8 @@ module _ (m : ℕ) (allowed : ℕ → ℕ → Bool) where
   -- ---- what is said
 
   -- a verdict is given
-  pub typability-given : (r : Refusal) → without_witness (outcome_in m allowed) ≡ Refused r → ⊥
-  typability-given r said = go (dec_lt (untypable_in m allowed) 16)
-    where
-      go : Dec (untypable_in m allowed < 16) → ⊥
-      go (yes h) = let both = sym (ap without_witness (outcome-untypable m allowed [] h).0) ∙ said in let z : ◌≡◌ {A = ℕ} 0 1 = cc in omega arith
-      go (no h) = let both = sym (ap without_witness (outcome-typable m allowed [] (omega arith)).0) ∙ said in let z : ◌≡◌ {A = ℕ} 0 1 = cc in omega arith
+  pub typability-given : (r : Refusal) → Ok (without_witness (outcome_in m allowed)) ≡ Err r → ⊥
+  typability-given r said = let z : ◌≡◌ {A = ℕ} 0 1 = cc in omega arith
 
   -- untypable is said exactly where it is
   pub says-untypable : says_untypable (without_witness (outcome_in m allowed)) ≡ ltb (untypable_in m allowed) 16

@@ -18,8 +18,7 @@ use Rattle.column.specs.Column.{allowed_in}
 use Rattle.stored_formula.specs.ColumnPlace.{column_at}
 use Rattle.stored_formula.specs.FormulaBytes.{allowed_bit, cell_column}
 use Rattle.stored_formula.specs.NodeColumn.{cell-allowed}
-use Rattle.verdict_answer.specs.First.{allowed_at, blocked_by, chosen_by, subsets_by}
-use Rattle.verdict_answer.specs.declared.Subsets.{Subsets}
+use Rattle.verdict_answer.specs.First.{allowed_at, blocked_by, chosen_by, subsets_by, Subsets}
 
 -- ---- the subsets chosen
 
@@ -109,6 +108,16 @@ module _ (f g : ℕ → ℕ) (same : (i : ℕ) → i < 16 → f i ≡ g i) where
   blocked-same = lowest-same 15 1 (λ i. eqb (f i) 256) (λ i. eqb (g i) 256) (λ i low high. ap (λ (x : ℕ). eqb x 256) (same i high))
 
 -- ---- columns that allow the same
+
+-- a formula by itself, and a work space in which it stands at node k
+pub formula-cells :
+    (formula work : List ℕ) (k : ℕ)
+    → ((c : ℕ) → c < 16 → column_at formula 0 c ≡ column_at work k c)
+    → (i s : ℕ)
+    → i < 16
+    → s < 256
+    → allowed_at formula 0 i s ≡ allowed_at work k i s
+formula-cells formula work k columns i s h below = ap (λ (column : List ℕ). allowed_in column s) (columns i h)
 
 -- a work space that holds the columns of expression e at node k
 pub stored-cells :

@@ -11,7 +11,7 @@ use Rattle.stored_formula.specs.ColumnPlace.{column_at}
 use Rattle.stored_formula.specs.FormulaBytes.{allowed_bit, cell_column}
 use Rattle.stored_formula.specs.FormulaBytesLaws.{allowed-is, allowed-below}
 use Rattle.verdict_answer.specs.First.{allowed_at}
-use Rattle.verdict_answer.specs.FirstLaws.{stored-cells}
+use Rattle.verdict_answer.specs.FirstLaws.{formula-cells, stored-cells}
 
 pub record Formed (m : ℕ) (allowed : ℕ → ℕ → Bool) : Type 0 where
   -- a column allows subsets of the m relations alone
@@ -26,6 +26,14 @@ cells-formed m e legal =
     record {
       below = λ i s h small is. allowed-below m e i s is;
       grounded = allowed-is m e 0 0 (pow_pos m) ∙ rw nobody (cell-none plain refl refl m e legal).0;
+    }
+
+-- of a formula by itself that stands in a work space at node k
+pub formula-formed : (formula work : List ℕ) (k m : ℕ) → ((c : ℕ) → c < 16 → column_at formula 0 c ≡ column_at work k c) → Formed m (allowed_at work k) → Formed m (allowed_at formula 0)
+formula-formed formula work k m columns formed =
+    record {
+      below = λ i s h small is. formed.below i s h small (sym (formula-cells formula work k columns i s h small) ∙ is);
+      grounded = formula-cells formula work k columns 0 0 (lit< tt) (lit< tt) ∙ formed.grounded;
     }
 
 -- off a work space that holds its columns

@@ -1,5 +1,5 @@
 -- Verdict: a witness schema, or the attribute that leaves none (FORMAT 7.7, 7.8, 7.26).
-use Rattle.std.specs.Prelude.{ℕ, Bool, true, false, cond, List, ltb, length}
+use Rattle.std.specs.Prelude.{ℕ, Bool, true, false, cond, List, ltb, length, Result, Ok, Err, Option, Some, None}
 use Rattle.bits.specs.Tab.{over}
 use Rattle.admission.specs.Admission.{after, sliced, admitted}
 use Rattle.node_expression.specs.NodeExpression.{expression_at}
@@ -9,7 +9,8 @@ use Rattle.set_cover.specs.Least.{infinity}
 use Rattle.verdict_answer.specs.First.{blocked_in}
 use Rattle.verdict_answer.specs.Witness.{cost_in, choice_in, witness_bytes}
 use Rattle.verdict_answer.specs.declared.Outcome.{Outcome}
-use Rattle.verdict_answer.specs.declared.Outcome.TheVariants.{Typable, Untypable, Refused}
+use Rattle.verdict_answer.specs.declared.Outcome.TheVariants.{Typable, Untypable}
+use Rattle.refusal.specs.declared.Refusal.{Refusal}
 
 -- ---- by what the columns of a node allow, for m relations
 
@@ -38,8 +39,8 @@ schema_in m allowed schema = cond (ltb (untypable_in m allowed) 16) schema (over
 -- ---- the operation: 1 to 13 (FORMAT 8.5), and then the outcome by the node's expression
 
 -- FORMAT 7.7: the answer, for a work space and a schema slice of so many bytes
-unfoldable pub verdict_answer : List ℕ → ℕ → ℕ → ℕ → Outcome
-verdict_answer file k space size = after (sliced (admitted file k space) size schema_size) Refused (λ m n. outcome_in m (allowed_bit m (expression_at file k)))
+unfoldable pub verdict_answer : List ℕ → ℕ → ℕ → ℕ → Result Outcome Refusal
+verdict_answer file k space size = after (sliced (admitted file k space) size schema_size) Err (λ m n. Ok (outcome_in m (allowed_bit m (expression_at file k))))
 
 -- FORMAT 7.7, 8.7: the schema slice afterwards
 unfoldable pub verdict_schema : List ℕ → ℕ → ℕ → List ℕ → List ℕ

@@ -1,5 +1,5 @@
 -- Laws of Verdict: the outcome, by what the code finds; the three results after each refusal, and after none.
-use Rattle.std.specs.Prelude.{ℕ, ◌-◌, ◌≤◌, ◌≡◌, Bool, get_or}
+use Rattle.std.specs.Prelude.{ℕ, ◌≤◌, ◌≡◌, Bool, get_or}
 use Rattle.std.proofs.Common.{arith}
 use mathlib.Core.List.{List}
 use Rattle.std.proofs.Math.ListN.{length}
@@ -12,10 +12,9 @@ use Rattle.special_maps.specs.Special.{maps_from}
 use Rattle.special_maps.specs.SpecialLaws.{maps-length, maps-even}
 use Rattle.membership.specs.Holders.{ItemsFit}
 use Rattle.schema.specs.Schema.{WritesFrom}
-use Rattle.verdict_answer.specs.First.{allowed_at, first_in, blocked_in, subsets_by}
+use Rattle.verdict_answer.specs.First.{allowed_at, first_in, blocked_in, subsets_by, Subsets}
 use Rattle.verdict_answer.specs.FirstLaws.{subsets-blocked}
 use Rattle.verdict_answer.specs.Formed.{Formed, stored-formed}
-use Rattle.verdict_answer.specs.declared.Subsets.{Subsets}
 
 -- ---- the attribute that is said
 

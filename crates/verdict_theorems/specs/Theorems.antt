@@ -13,7 +13,7 @@
 --   formula_in        the formula that stands in a work space                (crate stored_formula, StoredFormula)
 -- What the work space holds afterwards is verdict-space (crate verdict_answer, WorkSpace); how memberships are counted off
 -- the records of a schema is schema-memberships (SchemaMemberships).
-use Rattle.std.specs.Prelude.{ℕ, ◌*◌, ◌^◌, ◌≤◌, ◌<◌, ◌≡◌, refl, ◌↔◌, true, List, [], length, take}
+use Rattle.std.specs.Prelude.{ℕ, ◌*◌, ◌^◌, ◌≤◌, ◌<◌, ◌≡◌, refl, ◌↔◌, true, List, [], length, take, Ok, Err}
 use Rattle.std.proofs.Common.{sym, ap, ◌∙◌, lt_of_lt_of_le, arith, pow_mono}
 use Rattle.std.proofs.Math.Decide.{dec_lt}
 use Rattle.bits.specs.Tab.{take-over}
@@ -23,9 +23,8 @@ use Rattle.algebra.specs.Expression.{Legal}
 use Rattle.principal.specs.Principal.{FilledTyping}
 use Rattle.refusal.specs.declared.Refusal.{Refusal}
 use Rattle.refusal.specs.Number.{number_of}
-use Rattle.expression_file.specs.declared.files.Acceptance.TheVariants.{Accepted}
-use Rattle.expression_file.specs.ReadFile.{acceptance}
-use Rattle.expression_file.specs.Accepted.{accepted-file}
+use Rattle.expression_file.specs.ReadFile.{acceptance, Accepted}
+use Rattle.expression_file.specs.Accepted.{accepted-file, accepted-parts}
 use Rattle.admission.specs.Admission.{sliced, admitted, formula_size}
 use Rattle.admission.specs.AdmissionLaws.{sliced-passed, sliced-refused, admitted-passed, admitted-refused}
 use Rattle.record.specs.Record.{record_of}
@@ -40,7 +39,7 @@ use Rattle.verdict_theorems.specs.MembershipLaws.{witness-memberships, witness-s
 use Rattle.verdict_answer.specs.Witness.{cost_in, choice_in, witness_records, witness_bytes}
 use Rattle.verdict_answer.specs.Verdict.{untypable_in, outcome_in, schema_in, verdict_answer, verdict_space, verdict_schema}
 use Rattle.verdict_answer.proofs.VerdictLaws.{outcome-untypable, outcome-typable, verdict-stops, verdict-passes, verdict-unrefused}
-use Rattle.verdict_answer.specs.declared.Outcome.TheVariants.{Typable, Untypable, Refused}
+use Rattle.verdict_answer.specs.declared.Outcome.TheVariants.{Typable, Untypable}
 use Rattle.type_record.specs.Record.{TypeRecord}
 use Rattle.schema.specs.Schema.{schema_size, assignment_of}
 
@@ -54,17 +53,18 @@ module _ (file : List ℕ) (m n : ℕ) (accepted : acceptance file ≡ Accepted 
 
   -- ---- a verdict that is given: Verdict does not refuse
 
-  module _ (work schema : List ℕ) (given : (r : Refusal) → verdict_answer file k (length work) (length schema) ≡ Refused r → ⊥) where
+  module _ (work schema : List ℕ) (given : (r : Refusal) → verdict_answer file k (length work) (length schema) ≡ Err r → ⊥) where
     passes : sliced (admitted file k (length work)) (length schema) schema_size ≡ Accepted m n
     passes =
         let found = verdict-unrefused file k work schema given in
         let counts = sym (admitted-passed file k (length work) (sliced-passed (admitted file k (length work)) (length schema) schema_size found.1.1).0).accepted ∙ accepted in
-        let relations : found.0 ≡ m = cc in
-        let nodes : found.1.0 ≡ n = cc in
+        let parts = accepted-parts counts in
+        let relations : found.0 ≡ m = parts.0 in
+        let nodes : found.1.0 ≡ n = parts.1 in
         rw (← relations, ← nodes) found.1.1
 
     -- the outcome by the node's expression
-    answer : verdict_answer file k (length work) (length schema) ≡ outcome_in m (allowed_bit m (expression_at file k))
+    answer : verdict_answer file k (length work) (length schema) ≡ Ok (outcome_in m (allowed_bit m (expression_at file k)))
     answer = sym (verdict-passes file k work schema m n passes).0
 
     -- what is written to the schema slice
@@ -72,21 +72,21 @@ module _ (file : List ℕ) (m n : ℕ) (accepted : acceptance file ≡ Accepted 
     written = sym (verdict-passes file k work schema m n passes).1.1
 
     -- the attribute that is said
-    attribute-said : (a : ℕ) → verdict_answer file k (length work) (length schema) ≡ Untypable a → (untypable_in m (allowed_bit m (expression_at file k)) ≡ a) × (a < 16)
+    attribute-said : (a : ℕ) → verdict_answer file k (length work) (length schema) ≡ Ok (Untypable a) → (untypable_in m (allowed_bit m (expression_at file k)) ≡ a) × (a < 16)
     attribute-said a said = go (dec_lt (untypable_in m (allowed_bit m (expression_at file k))) 16)
       where
         go : Dec (untypable_in m (allowed_bit m (expression_at file k)) < 16) → (untypable_in m (allowed_bit m (expression_at file k)) ≡ a) × (a < 16)
         go (yes h) =
-            let both = sym (outcome-untypable m (allowed_bit m (expression_at file k)) schema h).0 ∙ sym answer ∙ said in
+            let both = sym (ap Ok (outcome-untypable m (allowed_bit m (expression_at file k)) schema h).0) ∙ sym answer ∙ said in
             let same : untypable_in m (allowed_bit m (expression_at file k)) ≡ a = cc in
             (same, rw same at h)
-        go (no h) = absurd (let other = sym said ∙ answer ∙ (outcome-typable m (allowed_bit m (expression_at file k)) schema (omega arith)).0 in let z : ◌≡◌ {A = ℕ} 0 1 = cc in omega arith)
+        go (no h) = absurd (let other = sym said ∙ answer ∙ ap Ok (outcome-typable m (allowed_bit m (expression_at file k)) schema (omega arith)).0 in let z : ◌≡◌ {A = ℕ} 0 1 = cc in omega arith)
 
-    said-attribute : (a : ℕ) → untypable_in m (allowed_bit m (expression_at file k)) ≡ a → a < 16 → verdict_answer file k (length work) (length schema) ≡ Untypable a
-    said-attribute a is less = answer ∙ (outcome-untypable m (allowed_bit m (expression_at file k)) schema (rw is less)).0 ∙ ap Untypable is
+    said-attribute : (a : ℕ) → untypable_in m (allowed_bit m (expression_at file k)) ≡ a → a < 16 → verdict_answer file k (length work) (length schema) ≡ Ok (Untypable a)
+    said-attribute a is less = answer ∙ ap Ok (outcome-untypable m (allowed_bit m (expression_at file k)) schema (rw is less)).0 ∙ ap (λ (a : ℕ). Ok (Untypable a)) is
 
     -- untypable is said exactly where no filled assignment types the node
-    pub verdict-untypable : ((a : ℕ) × (verdict_answer file k (length work) (length schema) ≡ Untypable a)) ↔ (FilledTyping m (expression_at file k) → ⊥)
+    pub verdict-untypable : ((a : ℕ) × (verdict_answer file k (length work) (length schema) ≡ Ok (Untypable a))) ↔ (FilledTyping m (expression_at file k) → ⊥)
     verdict-untypable =
         let right = untypable-is m few (expression_at file k) legal in (
           (λ said. let found = attribute-said said.0 said.1 in right.0 (rw found.0 found.1)),
@@ -109,11 +109,11 @@ module _ (file : List ℕ) (m n : ℕ) (accepted : acceptance file ≡ Accepted 
 
     -- attribute 0 is said exactly where each special column allows something and no filled assignment types the node
     pub verdict-unfilled :
-        (verdict_answer file k (length work) (length schema) ≡ Untypable 0)
+        (verdict_answer file k (length work) (length schema) ≡ Ok (Untypable 0))
         ↔ ((i : ℕ) → 1 ≤ i → i ≤ 15 → AllowsSome i) × (FilledTyping m (expression_at file k) → ⊥)
     verdict-unfilled = (out, into)
       where
-        out : verdict_answer file k (length work) (length schema) ≡ Untypable 0 → ((i : ℕ) → 1 ≤ i → i ≤ 15 → AllowsSome i) × (FilledTyping m (expression_at file k) → ⊥)
+        out : verdict_answer file k (length work) (length schema) ≡ Ok (Untypable 0) → ((i : ℕ) → 1 ≤ i → i ≤ 15 → AllowsSome i) × (FilledTyping m (expression_at file k) → ⊥)
         out said =
             let found = attribute-said 0 said in (
               (λ i some most.
@@ -122,7 +122,7 @@ module _ (file : List ℕ) (m n : ℕ) (accepted : acceptance file ≡ Accepted 
               verdict-untypable.0 (0, said),
             )
 
-        into : ((i : ℕ) → 1 ≤ i → i ≤ 15 → AllowsSome i) × (FilledTyping m (expression_at file k) → ⊥) → verdict_answer file k (length work) (length schema) ≡ Untypable 0
+        into : ((i : ℕ) → 1 ≤ i → i ≤ 15 → AllowsSome i) × (FilledTyping m (expression_at file k) → ⊥) → verdict_answer file k (length work) (length schema) ≡ Ok (Untypable 0)
         into (columns, none) =
             said-attribute 0
             (blocked-attribute m few (expression_at file k) legal ((untypable-is m few (expression_at file k) legal).1 none)
@@ -137,17 +137,17 @@ module _ (file : List ℕ) (m n : ℕ) (accepted : acceptance file ≡ Accepted 
     counted : count ≡ cost_in m (allowed_bit m (expression_at file k))
     bytes : take size (verdict_schema file k (length work) schema) ≡ witness_bytes m (choice_in m (allowed_bit m (expression_at file k)))
 
-  said-typable : (work schema : List ℕ) (size count : ℕ) → verdict_answer file k (length work) (length schema) ≡ Typable size count → SaidTypable work schema size count
+  said-typable : (work schema : List ℕ) (size count : ℕ) → verdict_answer file k (length work) (length schema) ≡ Ok (Typable size count) → SaidTypable work schema size count
   said-typable work schema size count said = go (dec_lt (untypable_in m (allowed_bit m (expression_at file k))) 16)
     where
-      given : (r : Refusal) → verdict_answer file k (length work) (length schema) ≡ Refused r → ⊥
+      given : (r : Refusal) → verdict_answer file k (length work) (length schema) ≡ Err r → ⊥
       given r refused = let both = sym said ∙ refused in let z : ◌≡◌ {A = ℕ} 0 1 = cc in omega arith
 
       go : Dec (untypable_in m (allowed_bit m (expression_at file k)) < 16) → SaidTypable work schema size count
-      go (yes h) = absurd (let other = sym said ∙ answer work schema given ∙ (outcome-untypable m (allowed_bit m (expression_at file k)) schema h).0 in let z : ◌≡◌ {A = ℕ} 0 1 = cc in omega arith)
+      go (yes h) = absurd (let other = sym said ∙ answer work schema given ∙ ap Ok (outcome-untypable m (allowed_bit m (expression_at file k)) schema h).0 in let z : ◌≡◌ {A = ℕ} 0 1 = cc in omega arith)
       go (no h) =
           let gives = outcome-typable m (allowed_bit m (expression_at file k)) schema (omega arith) in
-          let whole = sym said ∙ answer work schema given ∙ gives.0 in
+          let whole = sym said ∙ answer work schema given ∙ ap Ok gives.0 in
           let size_is : size ≡ length (witness_bytes m (choice_in m (allowed_bit m (expression_at file k)))) = cc in
           record {
             free = omega arith;
@@ -155,7 +155,7 @@ module _ (file : List ℕ) (m n : ℕ) (accepted : acceptance file ≡ Accepted 
             bytes = rw (size_is, written work schema given ∙ gives.1) (take-over (witness_bytes m (choice_in m (allowed_bit m (expression_at file k)))) schema);
           }
 
-  module _ (work schema : List ℕ) (size count : ℕ) (said : verdict_answer file k (length work) (length schema) ≡ Typable size count) where
+  module _ (work schema : List ℕ) (size count : ℕ) (said : verdict_answer file k (length work) (length schema) ≡ Ok (Typable size count)) where
     -- the part of the schema slice that Verdict wrote
     abbrev pub witness_part : List ℕ
     witness_part = take size (verdict_schema file k (length work) schema)
@@ -211,7 +211,7 @@ module _ (file : List ℕ) (m n : ℕ) (accepted : acceptance file ≡ Accepted 
 
 -- ---- Record: where it is empty, Verdict gives the number of the refusal, whatever its slices are
 
-pub record-number : (file : List ℕ) (k : ℕ) → record_of file k ≡ [] → (work schema : List ℕ) → (r : Refusal) × (verdict_answer file k (length work) (length schema) ≡ Refused r) × (number_of r ≤ 11)
+pub record-number : (file : List ℕ) (k : ℕ) → record_of file k ≡ [] → (work schema : List ℕ) → (r : Refusal) × (verdict_answer file k (length work) (length schema) ≡ Err r) × (number_of r ≤ 11)
 record-number file k empty work schema =
     let found = record-empty file k empty in
     let refused = sliced-refused (admitted file k (length work)) (length schema) schema_size (admitted-refused file k (length work) found.1) in

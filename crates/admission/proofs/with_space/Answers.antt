@@ -1,12 +1,13 @@
+use Rattle.std.proofs.lemmas.Result.{err_from_is_err_and}
 use mathlib.Core.Path.{sym}
 use Rattle.admission.specs.AdmissionLaws.{spaced-refused, spaced-stops, spaced-passes}
 use Rattle.admission.proofs.with_space.Goals as goal
 
-pub returns-then-space-n : goal.returns-then-space-n
-returns-then-space-n c = sym (spaced-stops _ _ c.in-Accepted.is c.if-space-n.true)
+pub returns-then-space-header : goal.returns-then-space-header
+returns-then-space-header c = sym (spaced-stops _ _ c.in_ok-header.was c.if-space-header.true)
 
-pub returns-in-Refused : goal.returns-in-Refused
-returns-in-Refused c = sym (spaced-refused _ _ c.in-Refused.is)
+pub returns-in_err-header : goal.returns-in_err-header
+returns-in_err-header c = let p = err_from_is_err_and c.from_residual.result c.from_residual.ensures.1 in rw (p.1, p.2) (sym (spaced-refused _ _ c.in_err-header.was))
 
-pub returns-else-space-n : goal.returns-else-space-n
-returns-else-space-n c = sym (spaced-passes _ _ c.in-Accepted.is c.if-space-n.false)
+pub returns : goal.returns
+returns c = sym (spaced-passes _ _ c.in_ok-header.was c.if-space-header.false)

@@ -1,14 +1,14 @@
 use mathlib.Core.Path.{refl}
 use Rattle.answer_numbers.proofs.write_parsing.Goals as goal
 
-pub returns-in-Written : goal.returns-in-Written
-returns-in-Written c = rw c.in-Written.is (record {
+pub returns-in-Ok : goal.returns-in-Ok
+returns-in-Ok c = rw c.in-Ok.is (record {
   value = refl;
   size_after = refl;
 })
 
-pub returns-in-Refused : goal.returns-in-Refused
-returns-in-Refused c = rw c.in-Refused.is (record {
+pub returns-in-Err : goal.returns-in-Err
+returns-in-Err c = rw c.in-Err.is (record {
   value = c.number.ensures;
   size_after = refl;
 })

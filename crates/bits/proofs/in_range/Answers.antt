@@ -2,10 +2,10 @@ use borrow.Author.Tests.{lt-leb, le-leb}
 use Rattle.bits.specs.Range.{in_range}
 use Rattle.bits.proofs.in_range.Goals as goal
 
-pub returns-then-x-low : goal.returns-then-x-low
+pub returns-then-low-x : goal.returns-then-low-x
 unfolding in_range
-returns-then-x-low c = simp (lt-leb _ _ c.if-x-low.true)
+returns-then-low-x c = simp (le-leb _ _ c.if-low-x.true)
 
-pub returns : goal.returns
+pub returns-else-low-x : goal.returns-else-low-x
 unfolding in_range
-returns c = simp (le-leb _ _ c.if-x-low.false)
+returns-else-low-x c = simp (lt-leb _ _ c.if-low-x.false)

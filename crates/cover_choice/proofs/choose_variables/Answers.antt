@@ -13,18 +13,7 @@ ne-zero : (n : ℕ) → (n ≡ 0 → ⊥) → 1 ≤ n
 ne-zero n other = ⊎_elim (λ e. absurd (other e)) (λ h. h) (eq-zero-or-pos n)
 
 pub loop-need-init : goal.loop-need-init
-loop-need-init c = let pre = c.requires in numbering-first _ _ pre.all_lt_count.1 _ _ pre.formula_size_in_bounds.1 pre.all_lt_count.0 pre.all_bound
-
-pub bounds-next-need : goal.bounds-next-need
-bounds-next-need c = let long = c.requires.all_lt_count.2.long in let below = c.loop-need.invariant.below in omega arith
-
-pub pick-v-requires : goal.pick-v-requires
-pick-v-requires c =
-    let pre = c.requires in
-    let below = pre.all_lt_count.0 in
-    let need = c.loop-need.invariant.below in
-    let long = pre.all_lt_count.2.long in
-    (omega arith, pre.all_lt_count.1, omega arith, (pre.all_lt_count.2).costs c.loop-need.need need)
+loop-need-init c = let pre = c.requires in numbering-first _ _ pre.all_lt_count.1 _ _ c.told-items pre.all_lt_count.0 pre.all_bound
 
 pub overflow_cast-v : goal.overflow_cast-v
 overflow_cast-v c =
@@ -32,19 +21,12 @@ overflow_cast-v c =
     let loop = c.loop-need in
     let few = pre.all_lt_count.1 in
     let holds = pre.all_lt_count.2.holds in
-    let small = variable-below _ _ few _ loop.n loop.items loop.need loop.invariant c.loop-need-test.true _ _ _ _ (λ s h. ap (λ (l : List _). allowed_in l s) c.read_column-column.ensures)
+    let small = variable-below _ _ few _ loop.n loop.items loop.need loop.invariant c.loop-need-test.true _ _ _ _ (λ s h. ap (λ (l : List _). allowed_in l s) c.column_of-column.ensures)
     holds (holds loop.need loop.invariant.below) c.pick-v.ensures in
     omega arith
 
 pub bounds-items-n : goal.bounds-items-n
-bounds-items-n c = room _ _ c.requires.all_lt_count.1 _ _ _ _ c.loop-need.invariant c.loop-need-test.true
-
-pub loop-need-smaller : goal.loop-need-smaller
-loop-need-smaller c =
-    let loop = c.loop-need in
-    let fuel = loop.invariant.fuel in
-    let some = ne-zero loop.need c.loop-need-test.true in
-    omega arith
+bounds-items-n c = let small = room _ _ c.requires.all_lt_count.1 _ _ _ _ c.loop-need.invariant c.loop-need-test.true in omega arith
 
 pub loop-need-preserved : goal.loop-need-preserved
 loop-need-preserved c =
@@ -52,7 +34,7 @@ loop-need-preserved c =
     let loop = c.loop-need in
     let few = pre.all_lt_count.1 in
     let holds = pre.all_lt_count.2.holds in
-    numbering-next _ _ few _ loop.n loop.items loop.need loop.invariant c.loop-need-test.true _ _ _ _ (λ s h. ap (λ (l : List _). allowed_in l s) c.read_column-column.ensures)
+    numbering-next _ _ few _ loop.n loop.items loop.need loop.invariant c.loop-need-test.true _ _ _ _ (λ s h. ap (λ (l : List _). allowed_in l s) c.column_of-column.ensures)
     holds (holds loop.need loop.invariant.below) c.pick-v.ensures _ _ refl refl
 
 pub returns : goal.returns

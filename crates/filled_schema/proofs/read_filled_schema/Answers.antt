@@ -1,47 +1,36 @@
-use native.Mathlib.Omega.{arith}
+use Rattle.std.proofs.Common.{sym, ◌∙◌, arith, length-take-le}
+use Rattle.std.proofs.lemmas.Result.{err_from_is_err_and}
 use Rattle.filled_schema.proofs.Tested.{tested-refused, handed-table, tested-empty, tested-read}
 use Rattle.filled_schema.proofs.read_filled_schema.Goals as goal
 
 pub is_filled-requires : goal.is_filled-requires
 is_filled-requires c =
-    let read = c.read_schema-schema in
-    let pre = c.requires in
-    let bytes = c.shared_slice_known-1 in
-    let table = handed-table _ _ _ _ read.ensures.value pre.m_bound (λ x. omega (arith, bytes.given x)) read.ensures.entries_stand c.in-Read.is in
-    (pre.m_bound, table.maps, table.fit.enough)
+    let table = handed-table _ _ _ _ c.in_ok-schema.ensures.value c.requires.m_bound (λ x. omega (arith, c.type_inv.bytes x)) c.read_schema.ensures.entries_stand in
+    (c.requires.m_bound, table.maps)
+
+pub slice_bounds-is_filled-end-2 : goal.slice_bounds-is_filled-end-2
+slice_bounds-is_filled-end-2 c =
+    (handed-table _ _ _ _ c.in_ok-schema.ensures.value c.requires.m_bound (λ x. omega (arith, c.type_inv.bytes x)) c.read_schema.ensures.entries_stand).fit.enough
+
+pub slice_bounds-is_filled-end-3 : goal.slice_bounds-is_filled-end-3
+slice_bounds-is_filled-end-3 c =
+    let table = handed-table _ _ _ _ c.in_ok-schema.ensures.value c.requires.m_bound (λ x. omega (arith, c.type_inv.bytes x)) c.read_schema.ensures.entries_stand in
+    sym (length-take-le c.in_ok-schema.schema.count c.read_schema.new.items table.fit.enough)
+
+pub returns-in_err-schema : goal.returns-in_err-schema
+returns-in_err-schema c =
+    let gives = tested-refused _ _ c.read_schema.new.items _ (sym c.in_err-schema.was ∙ c.read_schema.ensures.value) in
+    let p = err_from_is_err_and c.from_residual.result c.from_residual.ensures.1 in
+    rw (p.1, p.2) (record { value = gives.0; entries_stand = gives.1; count_in_bounds = tt })
 
 pub returns-then-not-is_filled : goal.returns-then-not-is_filled
 returns-then-not-is_filled c =
-    let read = c.read_schema-schema in
-    let pre = c.requires in
-    let bytes = c.shared_slice_known-1 in
-    let gives = tested-empty _ _ _ _ read.ensures.value pre.m_bound (λ x. omega (arith, bytes.given x)) read.ensures.entries_stand c.in-Read.is _
+    let gives = tested-empty _ _ _ _ c.in_ok-schema.ensures.value c.requires.m_bound (λ x. omega (arith, c.type_inv.bytes x)) c.read_schema.ensures.entries_stand _
     c.if-not-is_filled.true c.is_filled.ensures in
-    record {
-      value = gives.0;
-      entries_stand = gives.1;
-      count_in_bounds = omega arith;
-    }
+    record { value = gives.0; entries_stand = gives.1; count_in_bounds = tt }
 
-pub returns-in-Refused : goal.returns-in-Refused
-returns-in-Refused c =
-    let read = c.read_schema-schema in
-    let gives = tested-refused _ _ _ _ read.ensures.value _ c.in-Refused.is in
-    record {
-      value = gives.0;
-      entries_stand = gives.1;
-      count_in_bounds = read.ensures.count_in_bounds;
-    }
-
-pub returns-else-not-is_filled : goal.returns-else-not-is_filled
-returns-else-not-is_filled c =
-    let read = c.read_schema-schema in
-    let pre = c.requires in
-    let bytes = c.shared_slice_known-1 in
-    let gives = tested-read _ _ _ _ read.ensures.value pre.m_bound (λ x. omega (arith, bytes.given x)) read.ensures.entries_stand c.in-Read.is _
+pub returns : goal.returns
+returns c =
+    let gives = tested-read _ _ _ _ c.in_ok-schema.ensures.value c.requires.m_bound (λ x. omega (arith, c.type_inv.bytes x)) c.read_schema.ensures.entries_stand _
     c.if-not-is_filled.false c.is_filled.ensures in
-    record {
-      value = gives.0;
-      entries_stand = gives.1;
-      count_in_bounds = read.ensures.count_in_bounds;
-    }
+    record { value = gives.0; entries_stand = gives.1; count_in_bounds = c.in_ok-schema.ensures.count_in_bounds }

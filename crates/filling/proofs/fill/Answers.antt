@@ -7,16 +7,15 @@ use Rattle.bits.specs.Written.{written_none, written-self, written-again}
 use Rattle.filling.proofs.fill.Goals as goal
 
 pub loop-k-init : goal.loop-k-init
-loop-k-init c = (omega arith, walk_first _ _ _ c.requires.file_value, written_none _ _)
+loop-k-init c = (omega arith, walk_first _ _ _ c.args.file.now.accepted, written_none _ _)
 
 pub fill_node-at-requires : goal.fill_node-at-requires
 fill_node-at-requires c =
     let loop = c.loop-k in
-    let pre = c.requires in
     let size = loop.invariant.2.size in
     record {
-      here = walk_here _ _ _ _ _ pre.file_value c.loop-k-test.true loop.invariant.1;
-      formula_size_in_bounds = let fits = pre.formula_size_in_bounds in omega arith;
+      here = walk_here _ _ _ _ _ c.args.file.now.accepted c.loop-k-test.true loop.invariant.1;
+      formula_size_in_bounds = let fits = c.requires.formula_size_in_bounds in omega arith;
       filled_to = written-self _ _ _ _ loop.invariant.2;
     }
 
@@ -32,5 +31,5 @@ loop-k-preserved c =
 
 pub returns : goal.returns
 returns c =
-    let all : c.loop-k.k ≡ c.args.n = omega arith in
+    let all : c.loop-k.k ≡ c.args.file.now.header.nodes = omega arith in
     filled-all _ _ _ _ _ c.requires.formula_size_in_bounds (rw all at c.loop-k.invariant.2)

@@ -1,27 +1,20 @@
-use mathlib.Core.Path.{◌≡◌, refl, sym, ◌∙◌}
-use native.Mathlib.Omega.{arith}
-use lib.ListN.{get_or}
-use Rattle.bits.specs.AllBelow.{all-next, not-all}
+use Rattle.std.specs.Prelude.{ℕ, ◌<◌, ◌≡◌, Bool, true, false, List, length, get_or, MatchBool}
+use Rattle.std.proofs.Common.{sym, rules, arith}
+use Rattle.std.specs.List.{AllWithin, HoldsAt}
+use Rattle.std.proofs.lemmas.Iterator.{cases_from_all, YieldsList-from_slice}
+use Rattle.bits.specs.AllBelow.{all_below, in_all, not-all}
 use Rattle.stored_formula.specs.ColumnPlace.{column_at}
 use Rattle.membership.specs.Entries.{subset_of}
 use Rattle.states.specs.Formula.{type_variable}
 use Rattle.column.specs.Column.{allowed_in}
 use Rattle.fitting.proofs.entries_allowed.Goals as goal
 
-pub loop-i-init : goal.loop-i-init
-loop-i-init c = (omega arith, refl)
-
-pub returns-then-not-is_variable : goal.returns-then-not-is_variable
-returns-then-not-is_variable c = sym (not-all _ _ _ c.loop-i-test.true (sym c.is_variable.ensures ∙ c.if-not-is_variable.true))
-
-pub loop-i-preserved : goal.loop-i-preserved
-loop-i-preserved c =
-    let loop = c.loop-i in
-    let args = c.args in (
-      omega arith,
-      all-next loop.i (λ x. type_variable (allowed_in (column_at args.work.now args.node 0)) (subset_of (get_or args.items.now x 0)))
-          loop.invariant.1 (sym c.is_variable.ensures ∙ c.if-not-is_variable.false),
-    )
+tested : (test : ℕ → Bool) (es : List ℕ) (r : Bool) → MatchBool r (AllWithin (λ e. test e ≡ true) es 0 (length es)) ((k : ℕ) × (k < length es) × HoldsAt (λ e. test e ≡ false) es k) → r ≡ all_below (length es) (λ i. test (get_or es i 0))
+tested test es true all = sym (in_all (length es) (λ i. test (get_or es i 0)) (λ i h. all i 0 (omega arith) h))
+tested test es false one = sym (not-all (length es) (λ i. test (get_or es i 0)) one.0 one.1 (one.2 0))
 
 pub returns : goal.returns
-returns c = let all : c.loop-i.i ≡ c.args.count = omega arith in sym (rw all at c.loop-i.invariant.1)
+returns c =
+    let test = λ (e : ℕ). type_variable (allowed_in (column_at c.args.formula.now 0 0)) (subset_of e) in
+    tested test c.args.entries.now _
+    (cases_from_all _ _ _ (λ e. test e ≡ true) (λ e. test e ≡ false) c.all.ensures.ran (YieldsList-from_slice c.args.entries.now cc) (λ x q k. search rules) (λ x q k. search rules))

@@ -1,4 +1,4 @@
-use Prim.Native.Nat.{◌+◌, ◌-◌, ◌≤◌}
+use Prim.Native.Nat.{◌+◌}
 use mathlib.Core.Path.{◌≡◌}
 use mathlib.Core.Bool.{true}
 use lib.ListN.{get_or}
@@ -8,7 +8,4 @@ use Rattle.stored_formula.specs.ColumnPlace.{column_at}
 use Rattle.fitting.proofs.specials_allowed.Given as goal
 
 abbrev pub invariant-loop-i : goal.invariant-loop-i
-invariant-loop-i l = (l.i ≤ 15) × (all_below l.i (λ x. allowed_in (column_at l.work l.node (x + 1)) (get_or l.subsets (x + 1) 0)) ≡ true)
-
-abbrev pub decreases-loop-i : goal.decreases-loop-i
-decreases-loop-i l = 15 - l.i
+invariant-loop-i l = all_below l.i (λ x. allowed_in (column_at l.formula 0 (x + 1)) (get_or l.subsets (x + 1) 0)) ≡ true

@@ -1,50 +1,81 @@
-use Rattle.apply_answer.specs.ApplyLaws.{filled-space, read-subsets, read-stopped, read-stops, read_goes}
+use Rattle.std.proofs.lemmas.Result.{err_from_is_err_and}
+use Rattle.std.specs.Prelude.{ℕ, List, length, take}
+use mathlib.Core.Path.{sym}
+use Rattle.membership.specs.HolderLaws.{items-taken, taken-fit}
+use Rattle.apply_answer.specs.ApplyLaws.{ReadSubsets, filled-space, read-subsets, read-stopped, read-stops, read_goes}
 use native.Mathlib.Omega.{arith}
 use Rattle.instantiation_application.proofs.apply_instantiation.Goals as goal
+use Rattle.std.proofs.Common.{◌∙◌}
 
-pub read_instantiation-read-requires : goal.read_instantiation-read-requires
-read_instantiation-read-requires c = c.requires.room_for
+pub read_instantiation-requires : goal.read_instantiation-requires
+read_instantiation-requires c = c.requires.room_for
 
 pub fill-requires : goal.fill-requires
 fill-requires c =
     let pre = c.requires in
     record {
-      file_value = pre.file_value;
       formula_size_in_bounds = pre.node_lt_n.1;
     }
 
-pub apply_table-requires : goal.apply_table-requires
-apply_table-requires c =
-    let fill = c.fill in
-    let read-instantiation = c.read_instantiation-read in
-    let pre = c.requires in
+-- the first of the entries are a slice of their own
+subsets-taken : {subsets items : List ℕ} {count : ℕ} → ReadSubsets subsets items count → ReadSubsets subsets (take count items) (length (take count items))
+subsets-taken table =
+    let size = items-taken table.fit in
+    let few = table.few in
     record {
-      file_value = pre.file_value;
-      node_lt_n = pre.node_lt_n.0;
-      filled = (filled-space _ _ _ _ _ _ pre.node_lt_n.0 pre.node_lt_n.1 fill.ensures fill.auto.work);
-      read_subsets = (read-subsets _ _ _ (λ x. omega (arith, c.type_inv.bytes x)) read-instantiation.ensures.value
-          read-instantiation.ensures.entries_stand c.in-Read.is).table;
-      schema_size_in_bounds = (pre.schema_size_in_bounds.0, pre.schema_size_in_bounds.1, read-instantiation.ensures.count_in_bounds);
+      special = table.special;
+      small = table.small;
+      none = table.none;
+      few = omega arith;
+      fit = taken-fit table.fit;
     }
 
-pub returns-in-Refused : goal.returns-in-Refused
-returns-in-Refused c =
-    let both = read-stops _ _ _ _ _ _ _ _ _ (read-stopped _ _ _ c.read_instantiation-read.ensures.value
-    c.in-Refused.is) in
+pub slice_bounds-apply_table-end-2 : goal.slice_bounds-apply_table-end-2
+slice_bounds-apply_table-end-2 c =
+    let table = (read-subsets _ _ _ (λ x. omega (arith, c.type_inv.bytes x)) c.in_ok-read.ensures.value
+    c.read_instantiation.ensures.entries_stand).table in
+    table.fit.enough
+
+pub slice_bounds-apply_table-end-3 : goal.slice_bounds-apply_table-end-3
+slice_bounds-apply_table-end-3 c =
+    let table = (read-subsets _ _ _ (λ x. omega (arith, c.type_inv.bytes x)) c.in_ok-read.ensures.value
+    c.read_instantiation.ensures.entries_stand).table in
+    sym (items-taken table.fit)
+
+pub apply_table-requires : goal.apply_table-requires
+apply_table-requires c =
+    let table = (read-subsets _ _ _ (λ x. omega (arith, c.type_inv.bytes x)) c.in_ok-read.ensures.value
+    c.read_instantiation.ensures.entries_stand).table in
+    let size = items-taken table.fit in
+    let room = c.in_ok-read.ensures.count_in_bounds in
+    let fill = c.fill in
+    let pre = c.requires in
     record {
+      node_lt_n = pre.node_lt_n.0;
+      filled = (filled-space _ _ _ _ _ _ pre.node_lt_n.0 pre.node_lt_n.1 fill.ensures fill.auto.work);
+      read_subsets = subsets-taken table;
+      schema_size_in_bounds = (pre.schema_size_in_bounds.0, pre.schema_size_in_bounds.1, omega arith);
+    }
+
+pub returns-in_err-read : goal.returns-in_err-read
+returns-in_err-read c =
+    let both = read-stops _ _ _ _ _ _ _ _ _ (read-stopped _ _ (sym c.in_err-read.was ∙ c.read_instantiation.ensures.value)) in
+    let p = err_from_is_err_and c.from_residual.result c.from_residual.ensures.1 in
+    rw (p.1, p.2)
+    (record {
       value = both.0;
       work_after = both.1.0;
       schema_after = both.1.1.0;
       out_after = both.1.1.1;
-    }
+    })
 
-pub returns-in-Read : goal.returns-in-Read
-returns-in-Read c =
+pub returns : goal.returns
+returns c =
     let apply-table = c.apply_table in
-    let read-instantiation = c.read_instantiation-read in
+    let read-instantiation = c.read_instantiation in
     let table = (read-subsets _ _ _
     (λ x. omega (arith, c.type_inv.bytes x))
-    read-instantiation.ensures.value read-instantiation.ensures.entries_stand c.in-Read.is) in
+    c.in_ok-read.ensures.value read-instantiation.ensures.entries_stand) in
     let both = read_goes _ _ _ _ _ _ _ _ table.judged _ _ _ _ c.fill.ensures (rw (← table.subsets, ← table.entries) apply-table.ensures.value)
     (rw (← table.subsets, ← table.entries) apply-table.ensures.schema_after) (rw (← table.subsets, ← table.entries) apply-table.ensures.out_after) in
     record {

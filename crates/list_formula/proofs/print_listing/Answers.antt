@@ -7,10 +7,10 @@ pub slice_bounds-text-end : goal.slice_bounds-text-end
 slice_bounds-text-end g c =
     listed-fits c.args.file.now _ _ _ _
     c.write_listing.ensures.text_after
-    (sym c.write_listing.ensures.value ∙ c.in-Text.is)
+    (sym c.write_listing.ensures.value ∙ c.in-Ok.is)
 
 pub slice_bounds-write_all-end : goal.slice_bounds-write_all-end
 slice_bounds-write_all-end g c =
     let write-listing = c.write_listing in
     sym (length-take-le _ _ (listed-fits c.args.file.now _ _ _ _
-    write-listing.ensures.text_after (sym write-listing.ensures.value ∙ c.in-Text.is)))
+    write-listing.ensures.text_after (sym write-listing.ensures.value ∙ c.in-Ok.is)))

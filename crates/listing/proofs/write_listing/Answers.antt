@@ -1,6 +1,10 @@
 use mathlib.Core.Path.{sym, ◌∙◌}
 use native.Mathlib.Omega.{arith}
+use Rattle.std.proofs.Common.{rules, length, ap}
 use Rattle.stored_formula.specs.FormulaLaws.{answer-file}
+use Rattle.verdict_answer.specs.Formed.{formula-formed}
+use Rattle.listing_lines.specs.LineLaws.{lines-alone}
+use Rattle.text.specs.Written.{writes-as, writes-front}
 use Rattle.listing.specs.ListingLaws.{filled-counts, last-formed, wrote-listing, wrote-refusal, listed-work, listed-text, listed-done}
 use Rattle.listing.proofs.write_listing.Goals as goal
 
@@ -22,50 +26,60 @@ returns-then-text-lt32768 c =
       work_after = both.1.1;
     }
 
-pub named_attributes-named-requires : goal.named_attributes-named-requires
-named_attributes-named-requires c = (answer-file _ _ _ _ (sym c.formula.ensures.value ∙ c.in-Accepted.is)).0
+pub invariant_of-accepted : goal.invariant_of-accepted
+invariant_of-accepted c = record {
+  accepted = (answer-file _ _ _ _ (sym c.formula.ensures.value ∙ c.in-Ok.is)).0;
+}
 
-pub overflow_sub-n : goal.overflow_sub-n
-overflow_sub-n c =
+pub overflow_sub-node : goal.overflow_sub-node
+overflow_sub-node c =
     let counts = filled-counts _ _ _ _ (sym c.formula.ensures.value
-    ∙ c.in-Accepted.is) in
+    ∙ c.in-Ok.is) in
     let least = counts.1 in omega arith
+
+pub formula_of-last-requires : goal.formula_of-last-requires
+formula_of-last-requires c =
+    let counts = filled-counts _ _ _ _ (sym c.formula.ensures.value ∙ c.in-Ok.is) in
+    let least = counts.1 in
+    let most = counts.2 in
+    let size = c.formula.auto.work in
+    omega arith
 
 pub write_lines-requires : goal.write_lines-requires
 write_lines-requires c =
     let formula = c.formula in
-    let answered = sym formula.ensures.value ∙ c.in-Accepted.is in
+    let answered = sym formula.ensures.value ∙ c.in-Ok.is in
     let counts = filled-counts _ _ _ _ answered in
     let least = counts.1 in
     let most = counts.2 in
-    let size = formula.auto.work in
+    let text = ap length c.new-writer.ensures.same_text in
     record {
-      m_bound = (counts.0, omega arith, omega arith, c.if-text-lt32768.false);
-      formed = last-formed _ _ _ _ _ c.if-work-lt65536.false answered formula.ensures.work_after;
+      m_bound = (counts.0, omega arith, omega arith);
+      formed = formula-formed _ _ _ _ c.formula_of-last.ensures (last-formed _ _ _ _ _ c.if-work-lt65536.false answered formula.ensures.work_after);
     }
 
-pub write_refused-requires : goal.write_refused-requires
-write_refused-requires c = let t = c.if-text-lt32768.false in omega arith
-
-pub returns-in-Accepted : goal.returns-in-Accepted
-returns-in-Accepted c =
+pub returns-in-Ok : goal.returns-in-Ok
+returns-in-Ok c =
     let formula = c.formula in
     let if1 = c.if-work-lt65536 in
+    let answered = sym formula.ensures.value ∙ c.in-Ok.is in
+    let lines = lines-alone _ _ _ _ _ (filled-counts _ _ _ _ answered).0 c.formula_of-last.ensures in
+    let wrote = writes-front (writes-as lines c.write_lines.ensures) c.new-writer.ensures.same_text c.new-writer.ensures.front (search rules) c.len.ensures in
     let both = listed-done _ _ _ _ _ _ if1.false c.if-text-lt32768.false formula.ensures.work_after
-    (wrote-listing _ _ _ _ _ _ _ _ _ if1.false (sym formula.ensures.value ∙ c.in-Accepted.is) formula.ensures.work_after
-    c.named_attributes-named.ensures c.write_lines.ensures) in
+    (wrote-listing _ _ _ _ _ _ _ _ _ if1.false answered formula.ensures.work_after
+    c.named_attributes-named.ensures wrote) in
     record {
       value = both.0;
       text_after = both.1.0;
       work_after = both.1.1;
     }
 
-pub returns-in-Refused : goal.returns-in-Refused
-returns-in-Refused c =
+pub returns-in-Err : goal.returns-in-Err
+returns-in-Err c =
     let formula = c.formula in
     let if1 = c.if-work-lt65536 in
     let both = listed-done _ _ _ _ _ _ if1.false c.if-text-lt32768.false formula.ensures.work_after
-    (wrote-refusal _ _ _ _ _ _ if1.false (sym formula.ensures.value ∙ c.in-Refused.is)
+    (wrote-refusal _ _ _ _ _ _ if1.false (sym formula.ensures.value ∙ c.in-Err.is)
     c.write_refused.ensures) in
     record {
       value = both.0;

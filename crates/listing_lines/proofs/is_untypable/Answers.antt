@@ -6,8 +6,5 @@ use Rattle.listing_lines.proofs.is_untypable.Goals as goal
 pub returns-in-Untypable : goal.returns-in-Untypable
 returns-in-Untypable c = ap says_untypable (sym c.in-Untypable.is ∙ c.typability.ensures) ∙ says-untypable _ _
 
-pub returns-in-Typable : goal.returns-in-Typable
-returns-in-Typable c = ap says_untypable (sym c.in-Typable.is ∙ c.typability.ensures) ∙ says-untypable _ _
-
-pub returns-in-Refused : goal.returns-in-Refused
-returns-in-Refused c = ap says_untypable (sym c.in-Refused.is ∙ c.typability.ensures) ∙ says-untypable _ _
+pub returns-in_default : goal.returns-in_default
+returns-in_default c = ap says_untypable (sym c.in_default.is ∙ c.typability.ensures) ∙ says-untypable _ _

@@ -1,39 +1,4 @@
-use mathlib.Core.Path.{ap₂, ◌∙◌}
-use Rattle.column.specs.declared.steps.Combination.TheVariants.{Merging}
-use Rattle.column.specs.Column.{combined_column}
-use Rattle.stored_formula.specs.WrittenColumns.{columns-first, columns-read, columns-start, columns-write, columns-next, columns-end}
-use borrow.Author.Rules.{rules}
 use Rattle.node_columns.proofs.fill_join.Goals as goal
 
-pub loop-c-init : goal.loop-c-init
-loop-c-init c = columns-first _ _ _ c.requires.formula_size_in_bounds
-
-pub read_column-requires : goal.read_column-requires
-read_column-requires c = columns-read c.loop-c.invariant _ c.requires.l_lt_k.0 c.loop-c-test.true
-
-pub read_column-requires-in-loop-c : goal.read_column-requires-in-loop-c
-read_column-requires-in-loop-c c =
-    columns-read c.loop-c.invariant _ c.requires.l_lt_k.1
-    c.loop-c-test.true
-
-pub slice_bounds-write_column-count : goal.slice_bounds-write_column-count
-slice_bounds-write_column-count c = columns-start c.loop-c.invariant
-
-pub slice_bounds-write_column-start : goal.slice_bounds-write_column-start
-slice_bounds-write_column-start c = columns-start c.loop-c.invariant
-
-pub write_column-requires : goal.write_column-requires
-write_column-requires c =
-    columns-write c.loop-c.invariant c.loop-c-test.true
-
-pub loop-c-preserved : goal.loop-c-preserved
-loop-c-preserved c =
-    let pre = c.requires in
-    columns-next c.loop-c.invariant _ _ c.loop-c-test.true (search rules)
-    (λ earlier. c.combined_column-column.ensures
-    ∙ ap₂ (combined_column Merging) (c.read_column.ensures ∙ earlier _ pre.l_lt_k.0)
-    (c.read_column-in-loop-c.ensures ∙ earlier _ pre.l_lt_k.1))
-    c.write_column.ensures
-
 pub returns : goal.returns
-returns c = columns-end c.loop-c.invariant c.loop-c-test.false
+returns c = c.fill_combined.ensures _ (λ i y h made. made.2)

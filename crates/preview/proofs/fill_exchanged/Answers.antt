@@ -23,21 +23,20 @@ write_exchanged-size-requires c =
       replacement_in_bounds = omega arith;
     }
 
-pub slice_bounds-fill-end : goal.slice_bounds-fill-end
-slice_bounds-fill-end c =
+pub slice_bounds-accepted-end : goal.slice_bounds-accepted-end
+slice_bounds-accepted-end c =
     let wrote = c.write_exchanged-size.ensures in
     let fits = wrote.fits in
     let same = wrote.size in
     sym (length-take-le _ _ (omega arith))
 
-pub fill-requires : goal.fill-requires
-fill-requires c =
+pub invariant_of-accepted : goal.invariant_of-accepted
+invariant_of-accepted c =
     let wrote = wrote-front c.write_exchanged-size.ensures in
     let bytes = exchanged c.args.file.now c.args.node c.args.replacement.now in
     let part = ap₂ (λ (n : ℕ) (l : List ℕ). take n l) wrote.1 wrote.0 ∙ take-over bytes _ in
     record {
-      file_value = rw part (edited-accepted c.requires.exchanges);
-      formula_size_in_bounds = c.requires.formula_size_in_bounds;
+      accepted = rw part (edited-accepted c.requires.exchanges);
     }
 
 pub returns : goal.returns
@@ -45,4 +44,4 @@ returns c =
     let wrote = wrote-front c.write_exchanged-size.ensures in
     let bytes = exchanged c.args.file.now c.args.node c.args.replacement.now in
     let part = ap₂ (λ (n : ℕ) (l : List ℕ). take n l) wrote.1 wrote.0 ∙ take-over bytes _ in
-    c.fill.ensures ∙ ap (λ (l : List ℕ). over (formulas_of l c.args.m c.args.n) c.args.work.now) part
+    c.fill.ensures ∙ ap (λ (l : List ℕ). over (formulas_of l c.args.header.relations c.args.header.nodes) c.args.work.now) part

@@ -26,25 +26,25 @@ returns-then-text-lt32768 c =
 
 pub slice_bounds-file-end : goal.slice_bounds-file-end
 slice_bounds-file-end c =
-    answer-fits _ _ (replicate 322 0) _ _ c.parse_query.ensures.file_after (sym c.parse_query.ensures.value ∙ c.in-Written.is)
+    answer-fits _ _ (replicate 322 0) _ _ c.parse_query.ensures.file_after (sym c.parse_query.ensures.value ∙ c.in-Ok.is)
 
 pub slice_bounds-write_listing-end : goal.slice_bounds-write_listing-end
 slice_bounds-write_listing-end c =
-    sym (length-take-le _ _ (answer-fits _ _ (replicate 322 0) _ _ c.parse_query.ensures.file_after (sym c.parse_query.ensures.value ∙ c.in-Written.is)))
+    sym (length-take-le _ _ (answer-fits _ _ (replicate 322 0) _ _ c.parse_query.ensures.file_after (sym c.parse_query.ensures.value ∙ c.in-Ok.is)))
 
-pub returns-in-Written : goal.returns-in-Written
-returns-in-Written c =
+pub returns-in-Ok : goal.returns-in-Ok
+returns-in-Ok c =
     let listing = rw c.parse_query.ensures.file_after at c.write_listing.ensures in
-    let both = listed-file _ _ _ _ c.if-work-lt65536.false c.if-text-lt32768.false (replicate 322 0) refl (sym c.parse_query.ensures.value ∙ c.in-Written.is) listing.value listing.text_after listing.work_after in
+    let both = listed-file _ _ _ _ c.if-work-lt65536.false c.if-text-lt32768.false (replicate 322 0) refl (sym c.parse_query.ensures.value ∙ c.in-Ok.is) listing.value listing.text_after listing.work_after in
     record {
       value = both.0;
       text_after = both.1.0;
       work_after = both.1.1;
     }
 
-pub returns-in-Refused : goal.returns-in-Refused
-returns-in-Refused c =
-    let both = listed-refused _ _ _ _ c.if-work-lt65536.false c.if-text-lt32768.false (replicate 322 0) refl (sym c.parse_query.ensures.value ∙ c.in-Refused.is) c.write_refused.ensures in
+pub returns-in-Err : goal.returns-in-Err
+returns-in-Err c =
+    let both = listed-refused _ _ _ _ c.if-work-lt65536.false c.if-text-lt32768.false (replicate 322 0) refl (sym c.parse_query.ensures.value ∙ c.in-Err.is) c.write_refused.ensures in
     record {
       value = both.0;
       text_after = both.1.0;

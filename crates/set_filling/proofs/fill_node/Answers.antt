@@ -1,6 +1,7 @@
 use Prim.Native.Nat.{ℕ, ◌+◌}
 use mathlib.Core.Path.{sym, ap, subst, ◌∙◌}
 use native.Mathlib.Omega.{arith}
+use Rattle.std.proofs.Math.Seq.{take-length}
 use Rattle.node.specs.Legal.{LegalNode}
 use Rattle.expression_file.specs.Walk.{here-decoded}
 use Rattle.type_sets.proofs.FilledSets.{filled-node}
@@ -32,12 +33,12 @@ returns c =
     let decode = c.decode-decoding in
     let args = c.args in
     let pre = c.requires in
-    let here = here-decoded args.file.now args.m args.k args.at pre.here in
+    let here = here-decoded args.file.now.bytes.now args.file.now.header.relations args.k args.at pre.here in
     let node = decode.ensures.node_value ∙ here.node-is in
     let size = decode.ensures.size_value ∙ here.decoding-size in
     let wide = pre.width_value.0 in
     record {
       value = ap (λ (n : ℕ). args.at + n) size;
-      filled_2 = filled-node args.file.now args.special.now args.items.now args.count args.width args.m args.k args.sets.now _ _ (omega arith) pre.special_len.1 node pre.here.legal
-          (λ p. omega (arith, c.slice_known-1.given p)) pre.filled c.lay_node.ensures;
+      filled_2 = rw take-length at (filled-node args.file.now.bytes.now args.special.now args.entries.now _ args.width args.file.now.header.relations args.k args.sets.now _ _ (omega arith) (omega arith) node pre.here.legal
+          (λ p. omega (arith, c.slice_known-1.given p)) (rw take-length pre.filled) c.lay_node.ensures);
     }

@@ -7,7 +7,7 @@ table_typability-requires c =
     let width = width_few c.args.m c.if-m-le4.true in
     record {
       m_bound = (c.requires.m_bound.0, c.requires.m_bound.1, omega arith);
-      formula_size_in_bounds = c.requires.formula_size_in_bounds;
+      formed = c.requires.formed;
     }
 
 pub table_typability-requires-2 : goal.table_typability-requires-2
@@ -15,5 +15,5 @@ table_typability-requires-2 c =
     let width = width-most c.args.m c.requires.m_bound.0 in
     record {
       m_bound = (c.requires.m_bound.0, c.requires.m_bound.1, omega arith);
-      formula_size_in_bounds = c.requires.formula_size_in_bounds;
+      formed = c.requires.formed;
     }

@@ -1,18 +1,9 @@
-use mathlib.Core.Path.{refl, sym, ◌∙◌}
+use mathlib.Core.Path.{sym, ◌∙◌}
 use native.Mathlib.Omega.{arith}
-use Rattle.planes.specs.PlaneLaws.{filling-none, stepped-is2}
+use Rattle.planes.specs.PlaneLaws.{stepped-is2}
 use Rattle.column.specs.ColumnLaws.{plain-combined, filling-both, filling-end}
 use Rattle.column.specs.ColumnBytes.{combined-map}
 use Rattle.column.proofs.columns.combined_column.Goals as goal
-
-pub loop-j-init : goal.loop-j-init
-loop-j-init c = (omega arith, filling-none 2 _ _ refl)
-
-pub bounds-column-j : goal.bounds-column-j
-bounds-column-j c = omega arith
-
-pub bounds-column-j-in-loop-j : goal.bounds-column-j-in-loop-j
-bounds-column-j-in-loop-j c = omega arith
 
 pub loop-j-preserved : goal.loop-j-preserved
 loop-j-preserved c =

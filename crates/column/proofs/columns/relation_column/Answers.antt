@@ -1,23 +1,13 @@
 use Prim.Native.Nat.{ℕ}
-use mathlib.Core.Path.{refl, sym, ap, ap₂, ◌∙◌}
+use mathlib.Core.Path.{sym, ap, ap₂, ◌∙◌}
 use mathlib.Core.List.{List}
 use native.Mathlib.Omega.{arith}
 use lib.Bits.{bit_and}
 use lib.ListN.{get_or}
 use Rattle.bits.specs.Tab.{get_or-tab}
-use Rattle.planes.specs.PlaneLaws.{filling-none}
 use Rattle.column.specs.ColumnLaws.{plain-relation, filling-both, filling-end}
 use Rattle.column.specs.ColumnBytes.{relation-allowed, relation-output}
 use Rattle.column.proofs.columns.relation_column.Goals as goal
-
-pub loop-j-init : goal.loop-j-init
-loop-j-init c = (omega arith, filling-none 2 _ _ refl, c.member_map-members.ensures)
-
-pub bounds-column-i : goal.bounds-column-i
-bounds-column-i c = omega arith
-
-pub bounds-column-i-in-loop-j : goal.bounds-column-i-in-loop-j
-bounds-column-i-in-loop-j c = omega arith
 
 pub loop-j-preserved : goal.loop-j-preserved
 loop-j-preserved c =

@@ -1,4 +1,4 @@
-use Prim.Native.Nat.{◌-◌, ◌≤◌}
+use Prim.Native.Nat.{◌≤◌}
 use mathlib.Core.Path.{◌≡◌}
 use mathlib.Core.Bool.{◌&&◌}
 use lib.Dec.{ltb}
@@ -12,6 +12,3 @@ use Rattle.column.proofs.columns.relation_column.Given as goal
 abbrev pub invariant-loop-j : goal.invariant-loop-j
 invariant-loop-j l =
     (l.j ≤ 32) × Filling 2 (pair (λ s. ltb s l.count) (λ s. ltb s l.count && bit s l.r)) l.j 0 l.column × (l.members ≡ tab 32 (member_byte l.r))
-
-abbrev pub decreases-loop-j : goal.decreases-loop-j
-decreases-loop-j l = 32 - l.j

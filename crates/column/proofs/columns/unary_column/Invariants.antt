@@ -1,4 +1,4 @@
-use Prim.Native.Nat.{◌-◌, ◌≤◌}
+use Prim.Native.Nat.{◌≤◌}
 use Rattle.planes.specs.Planes.{bit_in}
 use Rattle.planes.specs.PlaneLaws.{Filling}
 use Rattle.column.specs.Steps.{unary_step}
@@ -6,6 +6,3 @@ use Rattle.column.proofs.columns.unary_column.Given as goal
 
 abbrev pub invariant-loop-j : goal.invariant-loop-j
 invariant-loop-j l = (l.j ≤ 32) × Filling 2 (λ p s. unary_step l.u (bit_in l.operand s) p) l.j 0 l.column
-
-abbrev pub decreases-loop-j : goal.decreases-loop-j
-decreases-loop-j l = 32 - l.j

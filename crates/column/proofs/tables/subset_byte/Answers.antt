@@ -1,13 +1,9 @@
 use mathlib.Core.Path.{◌≡◌, ap, ◌∙◌}
 use Prim.Native.Nat.{ℕ, ◌*◌, ◌-◌, ◌^◌, ◌%◌}
 use native.Mathlib.Omega.{arith}
-use lib.Pow.{pow_pos}
 use Rattle.bits.specs.Bit.{shifted_one}
 use Rattle.column.specs.TableLaws.{none_left, eight-left, some_left}
 use Rattle.column.proofs.tables.subset_byte.Goals as goal
-
-pub overflow_sub-partial : goal.overflow_sub-partial
-overflow_sub-partial c = rw (shifted_one 8 (c.args.count % 8) (omega arith)) (pow_pos _)
 
 pub returns-then-j-whole : goal.returns-then-j-whole
 returns-then-j-whole c = eight-left _ _ (let below = c.if-j-whole.true in omega arith)

@@ -1,12 +1,9 @@
-use mathlib.Core.Path.{refl, sym, ◌∙◌}
+use mathlib.Core.Path.{◌≡◌, sym, ◌∙◌}
 use native.Mathlib.Omega.{arith}
 use borrow.Author.Tests.{eq-eqb, ne_eqb}
 use Rattle.bits.specs.Lowest.{search-found, search-next, search-ended}
 use Rattle.cover_rows.proofs.picking.pick.Invariants.{test}
 use Rattle.cover_rows.proofs.picking.pick.Goals as goal
-
-pub loop-s-init : goal.loop-s-init
-loop-s-init c = (omega arith, refl)
 
 pub returns-then-price-target : goal.returns-then-price-target
 returns-then-price-target c =
@@ -25,4 +22,7 @@ loop-s-preserved c =
 pub returns : goal.returns
 returns c =
     let args = c.args in
-    search-ended args.count _ _ (test args.column.now args.next.now args.need args.target) c.loop-s.invariant.1 c.loop-s-test.false
+    let past = c.loop-s-test.false in
+    let most = c.loop-s.invariant.0 in
+    let all : c.loop-s.s ≡ args.count = omega arith in
+    sym all ∙ search-ended args.count _ _ (test args.column.now args.next.now args.need args.target) c.loop-s.invariant.1 c.loop-s-test.false

@@ -14,6 +14,3 @@ test column next need target s = eqb (price_in column next need s) target
 abbrev pub invariant-loop-s : goal.invariant-loop-s
 invariant-loop-s l =
     (l.s ≤ l.count) × (lowest_from (l.count - l.s) l.s (test l.column l.next l.need l.target) ≡ lowest_from (l.count - l.from) l.from (test l.column l.next l.need l.target))
-
-abbrev pub decreases-loop-s : goal.decreases-loop-s
-decreases-loop-s l = l.count - l.s

@@ -8,15 +8,6 @@ use Rattle.set_cover.specs.Remainder.{rest-and}
 use Rattle.cover_rows.specs.Rows.{price-allowed, price-forbidden}
 use Rattle.cover_rows.proofs.picking.price.Goals as goal
 
-pub overflow_cast-result : goal.overflow_cast-result
-overflow_cast-result c = let args = c.args in let few = ones-most args.s (omega arith) in omega arith
-
-pub overflow_cast-result-then-allowed_in : goal.overflow_cast-result-then-allowed_in
-overflow_cast-result-then-allowed_in c = let args = c.args in omega (arith, and_le_l args.need (255 - args.s))
-
-pub bounds-next-need : goal.bounds-next-need
-bounds-next-need c = let args = c.args in omega (arith, and_le_l args.need (255 - args.s))
-
 pub overflow_add-result : goal.overflow_add-result
 overflow_add-result c =
     let args = c.args in

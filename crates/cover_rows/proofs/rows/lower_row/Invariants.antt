@@ -1,4 +1,4 @@
-use Prim.Native.Nat.{◌-◌, ◌*◌, ◌≤◌}
+use Prim.Native.Nat.{◌*◌, ◌≤◌}
 use mathlib.Core.Path.{◌≡◌}
 use lib.ListN.{length}
 use Rattle.bits.specs.Written.{Written}
@@ -8,6 +8,3 @@ use Rattle.cover_rows.proofs.rows.lower_row.Given as goal
 abbrev pub invariant-loop-h : goal.invariant-loop-h
 invariant-loop-h l =
     (l.h ≤ l.blocks) × (length l.row ≡ 256) × Written (lowered_row l.initial.row l.table l.high l.members) (l.h * 16) l.initial.row l.row
-
-abbrev pub decreases-loop-h : goal.decreases-loop-h
-decreases-loop-h l = l.blocks - l.h

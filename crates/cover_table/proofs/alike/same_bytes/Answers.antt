@@ -1,4 +1,3 @@
-use mathlib.Core.Path.{◌≡◌}
 use native.Mathlib.Omega.{arith}
 use lib.Dec.{eqb}
 use lib.ListN.{get_or}
@@ -8,16 +7,6 @@ use Rattle.cover_table.proofs.alike.same_bytes.Goals as goal
 pub loop-i-init : goal.loop-i-init
 loop-i-init c = (omega arith, omega arith, alike-none _ _)
 
-pub overflow_add-differences : goal.overflow_add-differences
-overflow_add-differences c =
-    let args = c.args in
-    let loop = c.loop-i in
-    let below = c.loop-i-test.true in
-    let few = c.requires.0 in
-    let one = one_at_most (eqb (get_or args.a.now loop.i 0) (get_or args.b.now loop.i 0)) in
-    let is = c.difference-differences.ensures in
-    omega arith
-
 pub loop-i-preserved : goal.loop-i-preserved
 loop-i-preserved c =
     let args = c.args in
@@ -26,6 +15,3 @@ loop-i-preserved c =
     let one = one_at_most (eqb (get_or args.a.now loop.i 0) (get_or args.b.now loop.i 0)) in
     let is = c.difference-differences.ensures in
     (omega arith, omega arith, rw is (alike_next loop.i args.a.now args.b.now loop.differences loop.invariant.2))
-
-pub returns : goal.returns
-returns c = let most = c.loop-i.invariant.0 in let past = c.loop-i-test.false in let all : c.loop-i.i ≡ c.args.n = omega arith in rw all at c.loop-i.invariant.2

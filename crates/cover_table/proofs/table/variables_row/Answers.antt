@@ -1,31 +1,13 @@
 use Prim.Native.Nat.{◌*◌}
 use mathlib.Core.Path.{◌≡◌, refl, sym, ap, ◌∙◌}
 use native.Mathlib.Omega.{arith}
-use lib.ListN.{length}
 use Rattle.column.specs.Column.{allowed_in}
-use Rattle.cover_rows.specs.Rows.{row-length}
 use Rattle.cover_table.specs.Alike.{alike}
 use Rattle.cover_table.specs.Table.{start-row, settled-row, covering-more}
 use Rattle.cover_table.proofs.table.variables_row.Goals as goal
 
 pub loop-j-init : goal.loop-j-init
 loop-j-init c = let pre = c.requires in (omega arith, start-row _ _ (omega arith))
-
-pub cost_row-requires : goal.cost_row-requires
-cost_row-requires c = let pre = c.requires in (pre.0, omega arith, c.loop-j.invariant.1.costs, refl)
-
-pub slice_bounds-same_bytes-end : goal.slice_bounds-same_bytes-end
-slice_bounds-same_bytes-end c = sym c.loop-j.invariant.1.size
-
-pub slice_bounds-same_bytes-end-in-loop-j : goal.slice_bounds-same_bytes-end-in-loop-j
-slice_bounds-same_bytes-end-in-loop-j c = sym (rw c.cost_row.ensures (row-length _ _ _ _))
-
-pub same_bytes-requires : goal.same_bytes-requires
-same_bytes-requires c =
-    let pre = c.requires in
-    let size = c.loop-j.invariant.1.size in
-    let made : length c.cost_row.new.row ≡ 256 = rw c.cost_row.ensures (row-length _ _ _ _) in
-    (omega arith, omega arith, omega arith)
 
 pub returns-then-same_bytes : goal.returns-then-same_bytes
 returns-then-same_bytes c =

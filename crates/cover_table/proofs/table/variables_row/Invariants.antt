@@ -1,4 +1,4 @@
-use Prim.Native.Nat.{◌-◌, ◌≤◌}
+use Prim.Native.Nat.{◌≤◌}
 use Rattle.column.specs.Column.{allowed_in}
 use Rattle.set_cover.specs.Shortcuts.{covering}
 use Rattle.cover_table.specs.Table.{IsRow}
@@ -6,6 +6,3 @@ use Rattle.cover_table.proofs.table.variables_row.Given as goal
 
 abbrev pub invariant-loop-j : goal.invariant-loop-j
 invariant-loop-j l = (l.j ≤ 8) × IsRow l.count (covering l.count (allowed_in l.column) l.j) l.row
-
-abbrev pub decreases-loop-j : goal.decreases-loop-j
-decreases-loop-j l = 8 - l.j

@@ -16,20 +16,6 @@ append_listed-end-requires c =
       count_bound = (pre.enters.few, omega arith);
     }
 
-pub copy_run-requires : goal.copy_run-requires
-copy_run-requires c =
-    let pre = c.requires in
-    let b = bounds c.args.subset pre.enters c.merge-merged.ensures.merge in
-    let listed = b.0 in
-    let up_to = b.1 in
-    let fewer = b.2 in
-    let size = b.3 in
-    let ensures = c.append_listed-end.ensures in
-    record {
-      from_le_end = (up_to, pre.enters.enough);
-      from_in_bounds = omega arith;
-    }
-
 pub returns : goal.returns
 returns c =
     let merge = c.merge-merged in

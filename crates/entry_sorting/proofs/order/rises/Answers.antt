@@ -1,23 +1,30 @@
-use Rattle.entry_sorting.specs.Order.{ascending-first, ascending-stop, ascending-next, ascending-end}
-use native.Mathlib.Omega.{arith}
+use Rattle.std.proofs.Common.{ℕ, zero, suc, List, [], ◌∷◌, Bool, true, false, cond, ltb, leb, length, get_or, ◌≡◌, ◌/◌, ◌≤◌, ◌<◌, sym, refl, arith, rules, add-one, le-leb}
+use Rattle.std.specs.List.{IsAllAdjacentAnswer}
+use Rattle.std.proofs.lemmas.Bool.{lt-leb, ltb-true, ltb-false}
+use Rattle.std.proofs.lemmas.List.Sorted.{answers_always}
+use Rattle.membership.specs.Entries.{attribute_of}
+use Rattle.entry_sorting.specs.Order.{ascending, ascending_from}
 use Rattle.entry_sorting.proofs.order.rises.Goals as goal
 
-pub loop-i-init : goal.loop-i-init
-loop-i-init c = ascending-first _
+up : (e : ℕ) (es : List ℕ) → ((k : ℕ) → k < length es → attribute_of (get_or (e ∷ es) k 0) < attribute_of (get_or es k 0)) → ascending_from (attribute_of e) es ≡ true
+up e [] all = refl
+up e (f ∷ es) all = rw (lt-leb (attribute_of f) (attribute_of e) (all 0 (omega arith))) (up f es (λ k h. all (suc k) (omega arith)))
 
-pub overflow_sub-i : goal.overflow_sub-i
-overflow_sub-i c = let from = c.loop-i.invariant.from in omega arith
+down : (e : ℕ) (es : List ℕ) (k : ℕ) → k < length es → attribute_of (get_or es k 0) ≤ attribute_of (get_or (e ∷ es) k 0) → ascending_from (attribute_of e) es ≡ false
+down e [] k inside stop = absurd (omega arith)
+down e (f ∷ es) zero inside stop = rw (le-leb (attribute_of f) (attribute_of e) stop)
+down e (f ∷ es) (suc k) inside stop = go (leb (attribute_of f) (attribute_of e)) (down f es k (omega arith) stop)
+  where
+    go : (t : Bool) → ascending_from (attribute_of f) es ≡ false → cond t false (ascending_from (attribute_of f) es) ≡ false
+    go true rest = refl
+    go false rest = rest
 
-pub returns-then-items-i : goal.returns-then-items-i
-returns-then-items-i c =
-    let args = c.args in
-    let less = c.if-items-i.true in
-    ascending-stop args.items.now args.count (c.requires) c.loop-i.invariant c.loop-i-test.true (omega arith)
-
-pub loop-i-preserved : goal.loop-i-preserved
-loop-i-preserved c =
-    ascending-next _ _ (c.requires) c.loop-i.invariant
-    c.loop-i-test.true c.if-items-i.false
+risen : (es : List ℕ) (r : Bool) → IsAllAdjacentAnswer (λ x y b. b ≡ ltb (x / 256) (y / 256)) es r → r ≡ ascending es
+unfolding ascending
+risen [] true h = refl
+risen [] false h = let inside = h.1 in absurd (omega arith)
+risen (e ∷ es) true h = sym (up e es (λ k less. ltb-true _ _ (sym (rw (add-one k) at (h k 0 (omega arith))))))
+risen (e ∷ es) false h = let inside = h.1 in sym (down e es h.0 (omega arith) (ltb-false _ _ (sym (rw (add-one h.0) at (h.2 0)))))
 
 pub returns : goal.returns
-returns c = ascending-end _ _ c.requires c.loop-i.invariant c.loop-i-test.false
+returns c = risen _ _ (c.is_sorted_by.ensures.cases (λ x y. ltb (x / 256) (y / 256)) (answers_always _ _ _ (λ f a r f' h. search rules)))

@@ -1,4 +1,4 @@
-use Prim.Native.Nat.{◌-◌, ◌≤◌}
+use Prim.Native.Nat.{◌≤◌}
 use mathlib.Core.Path.{◌≡◌}
 use lib.ListN.{drop}
 use Rattle.column.specs.Column.{allowed_in}
@@ -8,6 +8,3 @@ use Rattle.first_subsets.proofs.list.first_listed.Given as goal
 
 abbrev pub invariant-loop-j : goal.invariant-loop-j
 invariant-loop-j l = (l.j ≤ 256) × (first_listed (drop l.j l.list) (allowed_in l.column) ≡ fewest_in (allowed_in l.column))
-
-abbrev pub decreases-loop-j : goal.decreases-loop-j
-decreases-loop-j l = 256 - l.j

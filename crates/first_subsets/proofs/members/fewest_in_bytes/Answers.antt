@@ -1,17 +1,8 @@
 use native.Mathlib.Omega.{arith}
 use Rattle.types.specs.Memberships.{ones-most}
-use Rattle.first_subsets.specs.ByteMembers.{fewest-none, fewest-all}
+use Rattle.first_subsets.specs.ByteMembers.{fewest-all}
 use Rattle.first_subsets.proofs.ByteMembers.{byte-most, fewest-next}
 use Rattle.first_subsets.proofs.members.fewest_in_bytes.Goals as goal
-
-pub loop-i-init : goal.loop-i-init
-loop-i-init c = fewest-none _
-
-pub overflow_cast-i-in-loop-i : goal.overflow_cast-i-in-loop-i
-overflow_cast-i-in-loop-i c =
-    let below = c.loop-i-test.true in
-    let few = ones-most c.loop-i.i (omega arith) in
-    omega arith
 
 pub overflow_add-i : goal.overflow_add-i
 overflow_add-i c =
@@ -26,7 +17,7 @@ pub loop-i-preserved : goal.loop-i-preserved
 loop-i-preserved c =
     let i = c.loop-i.i in
     let below = c.loop-i-test.true in
-    rw (c.lesser-fewest.ensures, c.fewest_in_byte-here.ensures)
+    rw (c.min-fewest.ensures, c.fewest_in_byte-here.ensures)
     (fewest-next _ i _ c.loop-i.invariant (omega arith) (c.type_inv.column i).fits)
 
 pub returns : goal.returns

@@ -1,3 +1,4 @@
+use Rattle.std.proofs.lemmas.Result.{err_from_is_err_and}
 use Rattle.instantiation_reader.proofs.EntriesResumed.{resumed-start, resumed-byte, resumed-clear, resumed-refused, resumed-appends, resumed-next, resumed-followed, resumed-end}
 use Rattle.instantiation.specs.ListsResumed.{list_inside}
 use Rattle.bits.specs.Bit.{bit_test}
@@ -21,14 +22,12 @@ slice_bounds-read_list-count c = let inside = c.loop-s.invariant.walk.inside in 
 pub slice_bounds-read_list-start : goal.slice_bounds-read_list-start
 slice_bounds-read_list-start c = let inside = c.loop-s.invariant.walk.inside in omega arith
 
-pub returns-in-Refused : goal.returns-in-Refused
-returns-in-Refused c =
+pub returns-in_err-count : goal.returns-in_err-count
+returns-in_err-count c =
     let both = resumed-refused c.loop-s.invariant c.loop-s-test.true
-    (sym (bit_test _ _) ∙ eq-eqb _ _ c.if-rest-eq1.true) (sym c.read_list.ensures ∙ c.in-Refused.is) in
-    record {
-      value = both.0;
-      gathered_in = both.1;
-    }
+    (sym (bit_test _ _) ∙ eq-eqb _ _ c.if-rest-eq1.true) (sym c.read_list.ensures ∙ c.in_err-count.was) in
+    let p = err_from_is_err_and c.from_residual.result c.from_residual.ensures.1 in
+    rw (p.1, p.2) (record { value = both.0; gathered_in = both.1 })
 
 pub slice_bounds-append-count : goal.slice_bounds-append-count
 slice_bounds-append-count c = let inside = c.loop-s.invariant.walk.inside in omega arith
@@ -39,32 +38,32 @@ slice_bounds-append-start c = let inside = c.loop-s.invariant.walk.inside in ome
 pub append-k-requires : goal.append-k-requires
 append-k-requires c =
     resumed-appends c.loop-s.invariant (λ x. omega (arith, c.shared_slice_known-1.given x))
-    (sym c.read_list.ensures ∙ c.in-Listed.is) c.requires.room_for
+    (sym c.read_list.ensures ∙ c.in_ok-count.was) c.requires.room_for
 
 pub overflow_mul-at : goal.overflow_mul-at
 overflow_mul-at c =
     let few = (list_inside c.loop-s.invariant.walk (λ x. omega (arith, c.shared_slice_known-1.given x))
-    (sym c.read_list.ensures ∙ c.in-Listed.is)).0 in
+    (sym c.read_list.ensures ∙ c.in_ok-count.was)).0 in
     omega arith
 
 pub overflow_add-at : goal.overflow_add-at
 overflow_add-at c =
     let few = (list_inside c.loop-s.invariant.walk (λ x. omega (arith, c.shared_slice_known-1.given x))
-    (sym c.read_list.ensures ∙ c.in-Listed.is)).0 in
+    (sym c.read_list.ensures ∙ c.in_ok-count.was)).0 in
     omega arith
 
-pub overflow_add-at-in-Listed : goal.overflow_add-at-in-Listed
-overflow_add-at-in-Listed c =
+pub overflow_add-at-then-rest-eq1 : goal.overflow_add-at-then-rest-eq1
+overflow_add-at-then-rest-eq1 c =
     let fits = list_inside c.loop-s.invariant.walk (λ x. omega (arith, c.shared_slice_known-1.given x))
-    (sym c.read_list.ensures ∙ c.in-Listed.is) in
+    (sym c.read_list.ensures ∙ c.in_ok-count.was) in
     let few = fits.0 in
     let end = fits.1 in
     omega arith
 
-pub loop-s-preserved-in-Listed : goal.loop-s-preserved-in-Listed
-loop-s-preserved-in-Listed c =
+pub loop-s-preserved-then-rest-eq1 : goal.loop-s-preserved-then-rest-eq1
+loop-s-preserved-then-rest-eq1 c =
     resumed-next c.loop-s.invariant (λ x. omega (arith, c.shared_slice_known-1.given x))
-    (sym c.read_list.ensures ∙ c.in-Listed.is) c.loop-s-test.true
+    (sym c.read_list.ensures ∙ c.in_ok-count.was) c.loop-s-test.true
     (sym (bit_test _ _) ∙ eq-eqb _ _ c.if-rest-eq1.true) c.append-k.auto.items c.append-k.ensures
 
 pub loop-s-preserved : goal.loop-s-preserved

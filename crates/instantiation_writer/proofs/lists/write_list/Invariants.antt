@@ -1,10 +1,10 @@
 use Rattle.instantiation_writer.proofs.OneList.{Following}
-use lib.ListN.{take}
+use lib.ListN.{length, take}
 use Prim.Native.Nat.{◌-◌}
 use Rattle.instantiation_writer.proofs.lists.write_list.Given as goal
 
 abbrev pub invariant-loop-j : goal.invariant-loop-j
-invariant-loop-j l = Following (take l.count l.sorted) l.i l.initial.out l.out l.j
+invariant-loop-j l = Following (take (length l.sorted) l.sorted) l.i l.initial.out l.out l.j
 
 abbrev pub decreases-loop-j : goal.decreases-loop-j
-decreases-loop-j l = l.count - l.j
+decreases-loop-j l = length l.sorted - l.j

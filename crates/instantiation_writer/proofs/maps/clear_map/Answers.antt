@@ -1,21 +1,16 @@
-use Rattle.bits.specs.Written.{written_none, written-more, written_all}
-use native.Mathlib.Omega.{arith}
-use mathlib.Core.Path.{◌≡◌, refl}
+use Rattle.std.proofs.Common.{ℕ, List, ◌++◌, ◌≤◌, ◌≡◌, length, drop, replicate, take, ap, ◌∙◌, rules, length-take-le}
+use Rattle.std.proofs.lemmas.List.{length-replicate, get_or-replicate}
+use Rattle.bits.specs.Tab.{tab, tab-is, length-tab, over}
 use Rattle.instantiation_writer.proofs.maps.clear_map.Goals as goal
 
-pub loop-j-init : goal.loop-j-init
-loop-j-init c = (omega arith, written_none _ _)
+zeros : (n : ℕ) → replicate {A = ℕ} n 0 ≡ tab n (λ j. 0)
+zeros n = tab-is n (λ j. 0) 0 (replicate {A = ℕ} n 0) (length-replicate {A = ℕ} n 0) (λ i h. get_or-replicate {A = ℕ} n i 0 0 h)
 
-pub bounds-out-j : goal.bounds-out-j
-bounds-out-j c = let size = c.loop-j.invariant.1.size in let room = c.requires in omega arith
-
-pub loop-j-preserved : goal.loop-j-preserved
-loop-j-preserved c =
-    let size = c.loop-j.invariant.1.size in
-    let room = c.requires in
-    (omega arith, written-more _ _ _ _ _ (omega arith) c.loop-j.invariant.1 refl)
+part-cleared : (out part : List ℕ) (n : ℕ) → n ≤ length out → part ≡ replicate {A = ℕ} (length (take n out)) 0 → part ++ drop n out ≡ over (tab n (λ j. 0)) out
+unfolding over
+part-cleared out part n room is =
+    rw (length-tab {A = ℕ} n (λ j. 0))
+    (ap (λ (l : List ℕ). l ++ drop n out) (is ∙ ap (λ (k : ℕ). replicate {A = ℕ} k 0) (length-take-le n out room) ∙ zeros n))
 
 pub returns : goal.returns
-returns c =
-    let all : c.loop-j.j ≡ 32 = omega arith in
-    written_all _ 32 _ _ c.requires (rw all at c.loop-j.invariant.1)
+returns c = part-cleared c.args.out.now c.fill.new.self 32 c.requires (c.fill.ensures.after (λ y h. search rules))

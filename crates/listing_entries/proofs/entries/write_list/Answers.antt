@@ -1,36 +1,19 @@
 use mathlib.Core.Path.{◌≡◌}
 use native.Mathlib.Omega.{arith}
 use Rattle.text.specs.Each.{each_none, each_next}
-use Rattle.text.specs.Put.{wrote_none, wrote_as, wrote-more}
+use Rattle.text.specs.Written.{writes-none, writes-as, writes-more}
 use Rattle.listing_entries.proofs.entries.write_list.Goals as goal
 
 pub loop-s-init : goal.loop-s-init
-loop-s-init c = (omega arith, omega arith, wrote_as (each_none _) (wrote_none _ _ (omega arith)))
-
-pub write_entry-end-requires : goal.write_entry-end-requires
-write_entry-end-requires c = let inv = c.loop-s.invariant in
-    record {
-      kind_fits = c.requires.kind_fits;
-      s_bound = (c.loop-s-test.true, omega arith);
-    }
+loop-s-init c = (omega arith, writes-as (each_none _) (writes-none _ (omega arith)))
 
 pub loop-s-preserved : goal.loop-s-preserved
 loop-s-preserved c =
-    let loop = c.loop-s in
-    let most = c.write_entry-end.ensures.upper_bound in
-    let before = loop.invariant.1 in
-    (omega arith, omega arith, wrote_as (each_next _ _) (wrote-more loop.invariant.2 c.write_entry-end.ensures.wrote))
+    let most = c.write_entry.ensures.upper_bound in
+    let before = c.loop-s.invariant.0 in
+    (omega arith, writes-as (each_next _ _) (writes-more c.loop-s.invariant.1 c.write_entry.ensures.wrote))
 
-pub write_byte-requires : goal.write_byte-requires
-write_byte-requires c = let inv = c.loop-s.invariant in omega arith
-
-pub returns : goal.returns
-returns c =
-    let loop = c.loop-s in
-    let all : loop.s ≡ 256 = omega arith in
-    let most = loop.invariant.1 in
-    let e = c.write_byte.ensures.end_is in
-    record {
-      wrote = wrote-more (rw all at loop.invariant.2) c.write_byte.ensures;
-      upper_bound = omega arith;
-    }
+pub returns-clause-wrote : goal.returns-clause-wrote
+returns-clause-wrote c =
+    let all : c.loop-s.s ≡ 256 = omega arith in
+    writes-more (rw all at c.loop-s.invariant.1) c.write_byte.ensures

@@ -1,3 +1,4 @@
+use Rattle.std.proofs.lemmas.Result.{err_from_is_err_and}
 use mathlib.Core.Path.{sym, ◌∙◌}
 use native.Mathlib.Nat.{sub-zero, add-zero}
 use native.Mathlib.Omega.{arith}
@@ -12,7 +13,7 @@ loop-i-init c = (search rules, search rules, simp (sub-zero, add-zero))
 pub overflow_add-at : goal.overflow_add-at
 overflow_add-at c =
     let args = c.args in
-    let check = rw part-from at (sym c.check_node.ensures ∙ c.in-Legal.is) in
+    let check = rw part-from at (sym c.check_node.ensures ∙ c.in_ok-at.was) in
     let fits = node-fits _ _ _ _ _ c.loop-i.invariant.1 check in
     omega arith
 
@@ -20,16 +21,16 @@ pub loop-i-preserved : goal.loop-i-preserved
 loop-i-preserved c =
     let loop = c.loop-i in
     let args = c.args in
-    let check = rw part-from at (sym c.check_node.ensures ∙ c.in-Legal.is) in
+    let check = rw part-from at (sym c.check_node.ensures ∙ c.in_ok-at.was) in
     let fits = node-fits _ _ _ _ _ loop.invariant.1 check in
     let next = check-next _ _ _ _ _ _ _ c.loop-i-test.true check in
     (search rules, fits, sym next ∙ loop.invariant.2)
 
-pub returns-in-Refused : goal.returns-in-Refused
-returns-in-Refused c =
-    let args = c.args in
-    let check = rw part-from at (sym c.check_node.ensures ∙ c.in-Refused.is) in
-    sym (check-stops _ _ _ _ _ _ _ c.loop-i-test.true check) ∙ c.loop-i.invariant.2
+pub returns-in_err-at : goal.returns-in_err-at
+returns-in_err-at c =
+    let check = rw part-from at (sym c.check_node.ensures ∙ c.in_err-at.was) in
+    let p = err_from_is_err_and c.from_residual.result c.from_residual.ensures.1 in
+    rw (p.1, p.2) (sym (check-stops _ _ _ _ _ _ _ c.loop-i-test.true check) ∙ c.loop-i.invariant.2)
 
 pub returns : goal.returns
 returns c =

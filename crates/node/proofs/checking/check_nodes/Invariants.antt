@@ -6,6 +6,3 @@ use Rattle.node.proofs.checking.check_nodes.Given as goal
 
 abbrev pub invariant-loop-i : goal.invariant-loop-i
 invariant-loop-i l = (l.i ≤ l.count) × (l.at ≤ length l.bytes) × (check_nodes l.m (l.count - l.i) (l.k + l.i) l.at l.bytes ≡ check_nodes l.m l.count l.k 0 l.bytes)
-
-abbrev pub decreases-loop-i : goal.decreases-loop-i
-decreases-loop-i l = l.count - l.i

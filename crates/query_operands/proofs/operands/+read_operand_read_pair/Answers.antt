@@ -1,210 +1,192 @@
-use mathlib.Core.Path.{sym, ap, ◌∙◌}
+use mathlib.Core.Path.{◌≡◌, sym, ap, ◌∙◌}
 use native.Mathlib.Omega.{arith}
-use lib.Dec.{lit≤}
+use Rattle.std.specs.Prelude.{ℕ, ◌+◌, List, Option, Some}
+use Rattle.node.specs.declared.nodes.BinaryOp.{BinaryOp}
 use Rattle.node.specs.NodeBytes.{node_bytes}
-use Rattle.text.specs.Put.{wrote_as}
-use Rattle.query_language.specs.Places.{byte_inside}
-use Rattle.query_operands.specs.Reading.{is_read, is-missing, reads_as}
+use Rattle.text.specs.declared.Writer.{Writer}
+use Rattle.text.specs.Written.{writes-as}
+use Rattle.query_language.specs.Parse.{operand_at, prefix_at, sign_at}
 use Rattle.query_language.proofs.Steps.{by-relation, by-pair, by-prefix}
-use Rattle.query_operands.specs.ReadingLaws.{room-placed, room-byte, room_after, is-prefix, room-prefix, prefixed-none, prefixed-half, prefixed-done}
+use Rattle.query_prefixes.specs.declared.prefixes.PrefixReading.{PrefixReading}
+use Rattle.query_prefixes.specs.Answers.{prefix_answer, sign_answer}
+use Rattle.query_operands.specs.declared.operands.Operand.{Operand}
+use Rattle.query_operands.specs.Reading.{Room, Reads, is_read, is-missing, reads_as}
+use Rattle.query_operands.specs.ReadingLaws.{After, room_after, is-prefix, room-prefix, prefixed-none, prefixed-half, prefixed-done, or_leftmost}
 use Rattle.query_operands.specs.ReadingLaws.{is-sign, room-sign, pair-no-left, pair-no-sign, pair-no-right, pair-not-closed, pair-done}
 use Rattle.query_operands.proofs.operands.+read_operand_read_pair.Goals as goal
 
-pub read_operand-read_relation-requires : goal.read_operand-read_relation-requires
-read_operand-read_relation-requires t c =
-    room-byte 114 c.requires (sym c.byte_at-b.ensures ∙ c.if-b-eq114.true) (lit≤ tt)
+-- ---- the room after what was read
 
-pub read_operand-returns-then-b-eq114 : goal.read_operand-returns-then-b-eq114
-read_operand-returns-then-b-eq114 t c =
-    reads_as (by-relation _ _ (sym c.byte_at-b.ensures ∙ c.if-b-eq114.true)) c.read_relation.ensures
+after-left :
+    {m at count : ℕ} {text : List ℕ} {out new : Writer} {r : Option Operand} {o : Operand}
+    → Room text at out count
+    → r ≡ Some o
+    → Reads m count out new (operand_at text at) r
+    → After text at o.next new count o.count
+after-left room e reads = room_after room (is_read e reads)
 
-pub read_operand-read_pair-requires : goal.read_operand-read_pair-requires
-read_operand-read_pair-requires t c =
-    let inside = byte_inside c.args.text.now c.args.at 40 (sym c.byte_at-b.ensures ∙ c.if-b-eq40.true) (lit≤ tt) in
-    (omega arith, room-byte 40 c.requires (sym c.byte_at-b.ensures ∙ c.if-b-eq40.true) (lit≤ tt))
+after-prefixed :
+    {m at count : ℕ} {text : List ℕ} {out new : Writer} {p : PrefixReading} {r : Option Operand} {o : Operand}
+    → Room text at out count
+    → Some p ≡ prefix_answer (prefix_at text at)
+    → r ≡ Some o
+    → Reads m count out new (operand_at text p.next) r
+    → After text p.next o.next new count o.count
+after-prefixed room p e reads = after-left (room-prefix room (is-prefix _ _ p)).1 e reads
 
-pub read_operand-returns-then-b-eq40 : goal.read_operand-returns-then-b-eq40
-read_operand-returns-then-b-eq40 t c =
-    reads_as (by-pair _ _ (sym c.byte_at-b.ensures ∙ c.if-b-eq40.true)) c.read_pair.ensures
+after-sign :
+    {m at count : ℕ} {text : List ℕ} {out new : Writer} {r : Option Operand} {o : Operand} {op : BinaryOp}
+    → Room text at out count
+    → r ≡ Some o
+    → Reads m count out new (operand_at text at) r
+    → Some op ≡ sign_answer (sign_at text o.next)
+    → Room text (o.next + 1) new o.count
+after-sign room e reads s = room-sign (after-left room e reads).room (is-sign _ _ s)
 
-pub read_operand-prefix_at-requires : goal.read_operand-prefix_at-requires
-read_operand-prefix_at-requires t c =
-    room-placed c.requires
+-- ---- an operand
+
+pub read_operand-returns-in-114 : goal.read_operand-returns-in-114
+read_operand-returns-in-114 t c =
+    reads_as (by-relation _ _ (sym c.byte_at.ensures ∙ c.in-114.is)) c.read_relation.ensures
+
+pub read_operand-returns-in-40 : goal.read_operand-returns-in-40
+read_operand-returns-in-40 t c =
+    reads_as (by-pair _ _ (sym c.byte_at.ensures ∙ c.in-40.is)) c.read_pair.ensures
+
+pub read_operand-returns-in_err-prefix-in_default : goal.read_operand-returns-in_err-prefix-in_default
+read_operand-returns-in_err-prefix-in_default t c =
+    let letter = c.byte_at.ensures in
+    rw c.from_residual.ensures
+    (reads_as (by-prefix _ _ (λ e. omega arith) (λ e. omega arith)) (prefixed-none _ _ (sym c.in_err-prefix-in_default.was ∙ c.prefix_at.ensures)))
 
 pub read_operand-read_operand-requires : goal.read_operand-read_operand-requires
 read_operand-read_operand-requires t c =
-    let prefix = is-prefix _ _ (sym c.in-Prefix.is ∙ c.prefix_at.ensures) in
-    let later = room-prefix c.requires prefix in
-    let room = later.1 in
-    (omega arith, room)
+    let later = room-prefix c.requires (is-prefix _ _ (sym c.in_ok-prefix-in_default.was ∙ c.prefix_at.ensures)) in
+    (omega arith, later.1)
 
-pub read_operand-overflow_sub-all : goal.read_operand-overflow_sub-all
-read_operand-overflow_sub-all t c =
-    let prefix = is-prefix _ _ (sym c.in-Prefix.is ∙ c.prefix_at.ensures) in
-    let inner = is_read c.in-Read.is c.read_operand.ensures in
-    let then = room_after (room-prefix c.requires prefix).1 inner in
+pub read_operand-returns-in_err-operand-in_default : goal.read_operand-returns-in_err-operand-in_default
+read_operand-returns-in_err-operand-in_default t c =
+    let letter = c.byte_at.ensures in
+    let prefix = is-prefix _ _ (sym c.in_ok-prefix-in_default.was ∙ c.prefix_at.ensures) in
+    rw c.from_residual-in_err-operand-in_default.ensures
+    (reads_as (by-prefix _ _ (λ e. omega arith) (λ e. omega arith)) (prefixed-half _ _ prefix (is-missing c.in_err-operand-in_default.was c.read_operand.ensures)))
+
+pub read_operand-overflow_sub-operand : goal.read_operand-overflow_sub-operand
+read_operand-overflow_sub-operand t c =
+    let then = after-prefixed c.requires (sym c.in_ok-prefix-in_default.was ∙ c.prefix_at.ensures) c.in_ok-operand-in_default.was c.read_operand.ensures in
     let room = then.room in
     omega arith
 
-pub read_operand-overflow_cast-all : goal.read_operand-overflow_cast-all
-read_operand-overflow_cast-all t c =
-    let prefix = is-prefix _ _ (sym c.in-Prefix.is ∙ c.prefix_at.ensures) in
-    let inner = is_read c.in-Read.is c.read_operand.ensures in
-    let then = room_after (room-prefix c.requires prefix).1 inner in
+pub read_operand-overflow_cast-operand : goal.read_operand-overflow_cast-operand
+read_operand-overflow_cast-operand t c =
+    let then = after-prefixed c.requires (sym c.in_ok-prefix-in_default.was ∙ c.prefix_at.ensures) c.in_ok-operand-in_default.was c.read_operand.ensures in
     let room = then.room in
     omega arith
 
-pub read_operand-write_node-over-requires : goal.read_operand-write_node-over-requires
-read_operand-write_node-over-requires t c =
-    let prefix = is-prefix _ _ (sym c.in-Prefix.is ∙ c.prefix_at.ensures) in
-    let inner = is_read c.in-Read.is c.read_operand.ensures in
-    let then = room_after (room-prefix c.requires prefix).1 inner in
+pub read_operand-write_node-requires : goal.read_operand-write_node-requires
+read_operand-write_node-requires t c =
+    let then = after-prefixed c.requires (sym c.in_ok-prefix-in_default.was ∙ c.prefix_at.ensures) c.in_ok-operand-in_default.was c.read_operand.ensures in
     let room = then.room in
     omega arith
 
 pub read_operand-overflow_add-result : goal.read_operand-overflow_add-result
 read_operand-overflow_add-result t c =
-    let prefix = is-prefix _ _ (sym c.in-Prefix.is ∙ c.prefix_at.ensures) in
-    let inner = is_read c.in-Read.is c.read_operand.ensures in
-    let then = room_after (room-prefix c.requires prefix).1 inner in
+    let then = after-prefixed c.requires (sym c.in_ok-prefix-in_default.was ∙ c.prefix_at.ensures) c.in_ok-operand-in_default.was c.read_operand.ensures in
     let room = then.room in
     omega arith
 
-pub read_operand-returns-in-NoPrefix : goal.read_operand-returns-in-NoPrefix
-read_operand-returns-in-NoPrefix t c =
-    reads_as (by-prefix _ _ (λ e. c.if-b-eq114.false (c.byte_at-b.ensures ∙ e)) (λ e. c.if-b-eq40.false (c.byte_at-b.ensures ∙ e))) (prefixed-none _ _ (sym c.in-NoPrefix.is ∙ c.prefix_at.ensures))
+pub read_operand-returns-in_ok-operand-in_default : goal.read_operand-returns-in_ok-operand-in_default
+read_operand-returns-in_ok-operand-in_default t c =
+    let letter = c.byte_at.ensures in
+    let prefix = is-prefix _ _ (sym c.in_ok-prefix-in_default.was ∙ c.prefix_at.ensures) in
+    let inner = is_read c.in_ok-operand-in_default.was c.read_operand.ensures in
+    rw (c.or.ensures, or_leftmost, c.attribute_fault.ensures)
+    (reads_as (by-prefix _ _ (λ e. omega arith) (λ e. omega arith))
+    (prefixed-done _ _ prefix inner (writes-as (ap node_bytes c.over.ensures) c.write_node.ensures)))
 
-pub read_operand-returns-in-NotRead : goal.read_operand-returns-in-NotRead
-read_operand-returns-in-NotRead t c =
-    let prefix = is-prefix _ _ (sym c.in-Prefix.is ∙ c.prefix_at.ensures) in
-    reads_as (by-prefix _ _ (λ e. c.if-b-eq114.false (c.byte_at-b.ensures ∙ e)) (λ e. c.if-b-eq40.false (c.byte_at-b.ensures ∙ e))) (prefixed-half _ _ prefix (is-missing c.in-NotRead.is c.read_operand.ensures))
+-- ---- a pair
 
-pub read_operand-returns-in-Read : goal.read_operand-returns-in-Read
-read_operand-returns-in-Read t c =
-    let prefix = is-prefix _ _ (sym c.in-Prefix.is ∙ c.prefix_at.ensures) in
-    let inner = is_read c.in-Read.is c.read_operand.ensures in
-    rw (c.leftmost_fault.ensures, c.attribute_fault.ensures)
-    (reads_as (by-prefix _ _ (λ e. c.if-b-eq114.false (c.byte_at-b.ensures ∙ e)) (λ e. c.if-b-eq40.false (c.byte_at-b.ensures ∙ e)))
-    (prefixed-done _ _ prefix inner (wrote_as (ap node_bytes c.over.ensures) c.write_node-over.ensures)))
+pub read_pair-returns-in_err-left : goal.read_pair-returns-in_err-left
+read_pair-returns-in_err-left t c =
+    rw c.from_residual.ensures (pair-no-left _ _ (is-missing c.in_err-left.was c.read_operand.ensures))
 
-pub read_pair-read_operand-requires : goal.read_pair-read_operand-requires
-read_pair-read_operand-requires t c =
-    (omega arith, c.requires)
+pub read_pair-returns-in_err-op : goal.read_pair-returns-in_err-op
+read_pair-returns-in_err-op t c =
+    let left = is_read c.in_ok-left.was c.read_operand.ensures in
+    rw c.from_residual-in_err-op.ensures (pair-no-sign _ _ left (sym c.in_err-op.was ∙ c.sign_at.ensures))
 
-pub read_pair-overflow_add-a : goal.read_pair-overflow_add-a
-read_pair-overflow_add-a t c =
-    let left = is_read c.in-Read.is c.read_operand.ensures in
-    let first = room_after c.requires left in
+pub read_pair-overflow_add-left : goal.read_pair-overflow_add-left
+read_pair-overflow_add-left t c =
+    let first = after-left c.requires c.in_ok-left.was c.read_operand.ensures in
     let room = first.room in
     omega arith
 
-pub read_pair-read_operand-requires-in-Operator : goal.read_pair-read_operand-requires-in-Operator
-read_pair-read_operand-requires-in-Operator t c =
-    let left = is_read c.in-Read.is c.read_operand.ensures in
-    let sign = is-sign _ _ (sym c.in-Operator.is ∙ c.sign_at.ensures) in
-    let first = room_after c.requires left in
-    let room = room-sign first.room sign in
+pub read_pair-read_operand-requires-2 : goal.read_pair-read_operand-requires-2
+read_pair-read_operand-requires-2 t c =
+    let first = after-left c.requires c.in_ok-left.was c.read_operand.ensures in
+    let room = after-sign c.requires c.in_ok-left.was c.read_operand.ensures (sym c.in_ok-op.was ∙ c.sign_at.ensures) in
     (omega arith, room)
+
+pub read_pair-returns-in_err-right : goal.read_pair-returns-in_err-right
+read_pair-returns-in_err-right t c =
+    let left = is_read c.in_ok-left.was c.read_operand.ensures in
+    let sign = is-sign _ _ (sym c.in_ok-op.was ∙ c.sign_at.ensures) in
+    rw c.from_residual-in_err-right.ensures (pair-no-right _ _ left sign (is-missing c.in_err-right.was c.read_operand-2.ensures))
 
 pub read_pair-returns-then-byte_at-ne41 : goal.read_pair-returns-then-byte_at-ne41
 read_pair-returns-then-byte_at-ne41 t c =
-    let left = is_read c.in-Read.is c.read_operand.ensures in
-    let sign = is-sign _ _ (sym c.in-Operator.is ∙ c.sign_at.ensures) in
-    let right = is_read c.in-Read-read_operand.is c.read_operand-in-Operator.ensures in
+    let left = is_read c.in_ok-left.was c.read_operand.ensures in
+    let sign = is-sign _ _ (sym c.in_ok-op.was ∙ c.sign_at.ensures) in
+    let right = is_read c.in_ok-right.was c.read_operand-2.ensures in
     pair-not-closed _ _ left sign right (λ e. c.if-byte_at-ne41.true (c.byte_at.ensures ∙ e))
 
 pub read_pair-overflow_sub-node : goal.read_pair-overflow_sub-node
 read_pair-overflow_sub-node t c =
-    let left = is_read c.in-Read.is c.read_operand.ensures in
-    let sign = is-sign _ _ (sym c.in-Operator.is ∙ c.sign_at.ensures) in
-    let right = is_read c.in-Read-read_operand.is c.read_operand-in-Operator.ensures in
-    let first = room_after c.requires left in
-    let second = room_after (room-sign first.room sign) right in
-    let one = first.room in
-    let room = second.room in
+    let first = after-left c.requires c.in_ok-left.was c.read_operand.ensures in
+    let room = after-sign c.requires c.in_ok-left.was c.read_operand.ensures (sym c.in_ok-op.was ∙ c.sign_at.ensures) in
+    let second = after-left room c.in_ok-right.was c.read_operand-2.ensures in
+    let last = second.room in
     omega arith
 
 pub read_pair-overflow_cast-node : goal.read_pair-overflow_cast-node
 read_pair-overflow_cast-node t c =
-    let left = is_read c.in-Read.is c.read_operand.ensures in
-    let sign = is-sign _ _ (sym c.in-Operator.is ∙ c.sign_at.ensures) in
-    let right = is_read c.in-Read-read_operand.is c.read_operand-in-Operator.ensures in
-    let first = room_after c.requires left in
-    let second = room_after (room-sign first.room sign) right in
-    let one = first.room in
-    let room = second.room in
+    let first = after-left c.requires c.in_ok-left.was c.read_operand.ensures in
+    let room = after-sign c.requires c.in_ok-left.was c.read_operand.ensures (sym c.in_ok-op.was ∙ c.sign_at.ensures) in
+    let second = after-left room c.in_ok-right.was c.read_operand-2.ensures in
+    let last = second.room in
     omega arith
 
-pub read_pair-overflow_sub-node-in-Read-read_operand : goal.read_pair-overflow_sub-node-in-Read-read_operand
-read_pair-overflow_sub-node-in-Read-read_operand t c =
-    let left = is_read c.in-Read.is c.read_operand.ensures in
-    let sign = is-sign _ _ (sym c.in-Operator.is ∙ c.sign_at.ensures) in
-    let right = is_read c.in-Read-read_operand.is c.read_operand-in-Operator.ensures in
-    let first = room_after c.requires left in
-    let second = room_after (room-sign first.room sign) right in
-    let one = first.room in
-    let room = second.room in
+pub read_pair-overflow_sub-node-2 : goal.read_pair-overflow_sub-node-2
+read_pair-overflow_sub-node-2 t c =
+    let first = after-left c.requires c.in_ok-left.was c.read_operand.ensures in
+    let room = after-sign c.requires c.in_ok-left.was c.read_operand.ensures (sym c.in_ok-op.was ∙ c.sign_at.ensures) in
+    let second = after-left room c.in_ok-right.was c.read_operand-2.ensures in
+    let last = second.room in
     omega arith
 
-pub read_pair-overflow_cast-node-in-Read-read_operand : goal.read_pair-overflow_cast-node-in-Read-read_operand
-read_pair-overflow_cast-node-in-Read-read_operand t c =
-    let left = is_read c.in-Read.is c.read_operand.ensures in
-    let sign = is-sign _ _ (sym c.in-Operator.is ∙ c.sign_at.ensures) in
-    let right = is_read c.in-Read-read_operand.is c.read_operand-in-Operator.ensures in
-    let first = room_after c.requires left in
-    let second = room_after (room-sign first.room sign) right in
-    let one = first.room in
-    let room = second.room in
+pub read_pair-overflow_cast-node-2 : goal.read_pair-overflow_cast-node-2
+read_pair-overflow_cast-node-2 t c =
+    let first = after-left c.requires c.in_ok-left.was c.read_operand.ensures in
+    let room = after-sign c.requires c.in_ok-left.was c.read_operand.ensures (sym c.in_ok-op.was ∙ c.sign_at.ensures) in
+    let second = after-left room c.in_ok-right.was c.read_operand-2.ensures in
+    let last = second.room in
     omega arith
 
-pub read_pair-write_node-over-requires : goal.read_pair-write_node-over-requires
-read_pair-write_node-over-requires t c =
-    let left = is_read c.in-Read.is c.read_operand.ensures in
-    let sign = is-sign _ _ (sym c.in-Operator.is ∙ c.sign_at.ensures) in
-    let right = is_read c.in-Read-read_operand.is c.read_operand-in-Operator.ensures in
-    let first = room_after c.requires left in
-    let second = room_after (room-sign first.room sign) right in
-    let room = second.room in
+pub read_pair-write_node-requires : goal.read_pair-write_node-requires
+read_pair-write_node-requires t c =
+    let room = after-sign c.requires c.in_ok-left.was c.read_operand.ensures (sym c.in_ok-op.was ∙ c.sign_at.ensures) in
+    let second = (after-left room c.in_ok-right.was c.read_operand-2.ensures).room in
     omega arith
 
-pub read_pair-overflow_add-result : goal.read_pair-overflow_add-result
-read_pair-overflow_add-result t c =
-    let left = is_read c.in-Read.is c.read_operand.ensures in
-    let sign = is-sign _ _ (sym c.in-Operator.is ∙ c.sign_at.ensures) in
-    let right = is_read c.in-Read-read_operand.is c.read_operand-in-Operator.ensures in
-    let first = room_after c.requires left in
-    let second = room_after (room-sign first.room sign) right in
-    let room = second.room in
+pub read_pair-overflow_add-result-2 : goal.read_pair-overflow_add-result-2
+read_pair-overflow_add-result-2 t c =
+    let room = after-sign c.requires c.in_ok-left.was c.read_operand.ensures (sym c.in_ok-op.was ∙ c.sign_at.ensures) in
+    let second = (after-left room c.in_ok-right.was c.read_operand-2.ensures).room in
     omega arith
 
-pub read_pair-overflow_add-result-in-Read-read_operand : goal.read_pair-overflow_add-result-in-Read-read_operand
-read_pair-overflow_add-result-in-Read-read_operand t c =
-    let left = is_read c.in-Read.is c.read_operand.ensures in
-    let sign = is-sign _ _ (sym c.in-Operator.is ∙ c.sign_at.ensures) in
-    let right = is_read c.in-Read-read_operand.is c.read_operand-in-Operator.ensures in
-    let first = room_after c.requires left in
-    let second = room_after (room-sign first.room sign) right in
-    let room = second.room in
-    omega arith
-
-pub read_pair-returns-in-NotRead : goal.read_pair-returns-in-NotRead
-read_pair-returns-in-NotRead t c =
-    pair-no-left _ _ (is-missing c.in-NotRead.is c.read_operand.ensures)
-
-pub read_pair-returns-in-NoSign : goal.read_pair-returns-in-NoSign
-read_pair-returns-in-NoSign t c =
-    let left = is_read c.in-Read.is c.read_operand.ensures in
-    pair-no-sign _ _ left (sym c.in-NoSign.is ∙ c.sign_at.ensures)
-
-pub read_pair-returns-in-NotRead-read_operand : goal.read_pair-returns-in-NotRead-read_operand
-read_pair-returns-in-NotRead-read_operand t c =
-    let left = is_read c.in-Read.is c.read_operand.ensures in
-    let sign = is-sign _ _ (sym c.in-Operator.is ∙ c.sign_at.ensures) in
-    pair-no-right _ _ left sign (is-missing c.in-NotRead-read_operand.is c.read_operand-in-Operator.ensures)
-
-pub read_pair-returns-else-byte_at-ne41 : goal.read_pair-returns-else-byte_at-ne41
-read_pair-returns-else-byte_at-ne41 t c =
-    let left = is_read c.in-Read.is c.read_operand.ensures in
-    let sign = is-sign _ _ (sym c.in-Operator.is ∙ c.sign_at.ensures) in
-    let right = is_read c.in-Read-read_operand.is c.read_operand-in-Operator.ensures in
-    rw c.leftmost_fault.ensures (pair-done _ _ left sign right (sym c.byte_at.ensures ∙ c.if-byte_at-ne41.false) c.write_node-over.ensures)
+pub read_pair-returns : goal.read_pair-returns
+read_pair-returns t c =
+    let left = is_read c.in_ok-left.was c.read_operand.ensures in
+    let sign = is-sign _ _ (sym c.in_ok-op.was ∙ c.sign_at.ensures) in
+    let right = is_read c.in_ok-right.was c.read_operand-2.ensures in
+    rw (c.or.ensures, or_leftmost) (pair-done _ _ left sign right (sym c.byte_at.ensures ∙ c.if-byte_at-ne41.false) c.write_node.ensures)

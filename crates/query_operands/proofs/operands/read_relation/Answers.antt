@@ -12,4 +12,4 @@ overflow_sub-relation c = let range = digit-range _ (sym c.is_digit.ensures ∙ 
 
 pub returns : goal.returns
 returns c =
-    relation-done _ _ c.byte_at-b.ensures (sym c.is_digit.ensures ∙ c.if-not-is_digit.false) c.relation_fault.ensures c.write_node-next.ensures
+    relation-done _ _ c.byte_at-b.ensures (sym c.is_digit.ensures ∙ c.if-not-is_digit.false) c.relation_fault.ensures c.write_node.ensures

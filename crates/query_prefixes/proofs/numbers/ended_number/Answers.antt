@@ -4,19 +4,20 @@ use Rattle.query_language.specs.Steps.{ended-none, ended-there, ended-not}
 use Rattle.query_prefixes.specs.AnswerLaws.{number_is, number-missing, number-found, number-none, number_read}
 use Rattle.query_prefixes.proofs.numbers.ended_number.Goals as goal
 
-pub overflow_add-result : goal.overflow_add-result
-overflow_add-result c =
-    let within = (number_read _ _ (sym c.in-Value.is ∙ c.number_at.ensures)).within in
-    let short = c.requires.short in
-    omega arith
+pub returns-in_err-number : goal.returns-in_err-number
+returns-in_err-number c =
+    c.from_residual.ensures ∙ number-none (ended-none _ _ _ (number-missing _ (sym c.in_err-number.was ∙ c.number_at.ensures)))
 
 pub returns-then-byte_at-b : goal.returns-then-byte_at-b
 returns-then-byte_at-b c =
-    number-found (ended-there _ _ _ (number_is _ (sym c.in-Value.is ∙ c.number_at.ensures)) (sym c.byte_at.ensures ∙ c.if-byte_at-b.true))
+    number-none (ended-not _ _ _ (number_is _ (sym c.in_ok-number.was ∙ c.number_at.ensures)) (λ e. c.if-byte_at-b.true (c.byte_at.ensures ∙ e)))
 
-pub returns-in-NoNumber : goal.returns-in-NoNumber
-returns-in-NoNumber c = number-none (ended-none _ _ _ (number-missing _ (sym c.in-NoNumber.is ∙ c.number_at.ensures)))
+pub overflow_add-result : goal.overflow_add-result
+overflow_add-result c =
+    let within = (number_read _ _ (sym c.in_ok-number.was ∙ c.number_at.ensures)).within in
+    let short = c.requires.short in
+    omega arith
 
-pub returns-else-byte_at-b : goal.returns-else-byte_at-b
-returns-else-byte_at-b c =
-    number-none (ended-not _ _ _ (number_is _ (sym c.in-Value.is ∙ c.number_at.ensures)) (λ e. c.if-byte_at-b.false (c.byte_at.ensures ∙ e)))
+pub returns : goal.returns
+returns c =
+    number-found (ended-there _ _ _ (number_is _ (sym c.in_ok-number.was ∙ c.number_at.ensures)) (sym c.byte_at.ensures ∙ c.if-byte_at-b.false))

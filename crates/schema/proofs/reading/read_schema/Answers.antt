@@ -1,4 +1,5 @@
-use Rattle.schema.proofs.RecordsResumed.{resumed-start, refused-free, resumed-refused, record-fits, enters, copy-fits, spare-fits, resumed-next, resumed-followed, resumed-over, resumed-end, resumed-fits}
+use Rattle.std.proofs.lemmas.Result.{err_from_is_err_and}
+use Rattle.schema.proofs.RecordsResumed.{resumed-start, refused-so, resumed-refused, record-fits, enters, copy-fits, spare-fits, resumed-next, resumed-followed, resumed-over, resumed-end, resumed-fits}
 use native.Mathlib.Omega.{arith}
 use mathlib.Core.Path.{refl, sym, ◌∙◌}
 use Rattle.schema.proofs.reading.read_schema.Goals as goal
@@ -16,23 +17,18 @@ slice_bounds-read_record-start c =
     let inside = c.loop-r.invariant.0.inside in
     omega arith
 
-pub returns-in-Refused : goal.returns-in-Refused
-returns-in-Refused c =
+pub returns-in_err-head : goal.returns-in_err-head
+returns-in_err-head c =
     let loop = c.loop-r in
-    let both = refused-free _ _ _ loop.spare c.refused.ensures in
-    record {
-      value = c.refused.ensures ∙ resumed-refused loop.invariant.0
-          (λ x. omega (arith, c.type_inv.bytes x))
-          c.requires.m_bound c.loop-r-test.true
-          (sym c.read_record.ensures ∙ c.in-Refused.is);
-      entries_stand = both.0;
-      count_in_bounds = both.1;
-    }
+    let refused = resumed-refused loop.invariant.0 (λ x. omega (arith, c.type_inv.bytes x)) c.requires.m_bound c.loop-r-test.true (sym c.read_record.ensures ∙ c.in_err-head.was) in
+    let both = refused-so _ _ loop.items _ refused in
+    let p = err_from_is_err_and c.from_residual.result c.from_residual.ensures.1 in
+    rw (p.1, p.2) (record { value = both.0; entries_stand = both.1; count_in_bounds = tt })
 
 pub overflow_add-at : goal.overflow_add-at
 overflow_add-at c =
     let fits = record-fits c.loop-r.invariant.0 (λ x. omega (arith, c.type_inv.bytes x))
-    c.requires.m_bound (sym c.read_record.ensures ∙ c.in-Read.is) in
+    c.requires.m_bound (sym c.read_record.ensures ∙ c.in_ok-head.was) in
     let inside = fits.1 in
     let end = fits.2 in
     omega arith
@@ -40,7 +36,7 @@ overflow_add-at c =
 pub slice_bounds-enter-count : goal.slice_bounds-enter-count
 slice_bounds-enter-count c =
     let fits = record-fits c.loop-r.invariant.0 (λ x. omega (arith, c.type_inv.bytes x))
-    c.requires.m_bound (sym c.read_record.ensures ∙ c.in-Read.is) in
+    c.requires.m_bound (sym c.read_record.ensures ∙ c.in_ok-head.was) in
     let inside = fits.1 in
     let end = fits.2 in
     omega arith
@@ -48,7 +44,7 @@ slice_bounds-enter-count c =
 pub slice_bounds-enter-start : goal.slice_bounds-enter-start
 slice_bounds-enter-start c =
     let fits = record-fits c.loop-r.invariant.0 (λ x. omega (arith, c.type_inv.bytes x))
-    c.requires.m_bound (sym c.read_record.ensures ∙ c.in-Read.is) in
+    c.requires.m_bound (sym c.read_record.ensures ∙ c.in_ok-head.was) in
     let inside = fits.1 in
     let end = fits.2 in
     omega arith
@@ -60,24 +56,24 @@ enter-count-requires c =
     let shared-slice-known = c.shared_slice_known-1 in
     let pre = c.requires in
     let inv = loop.invariant in
-    let fits = copy-fits loop.invariant.0 (λ x. omega (arith, shared-slice-known.given x)) pre.m_bound (sym read-record.ensures ∙ c.in-Read.is)
+    let fits = copy-fits loop.invariant.0 (λ x. omega (arith, shared-slice-known.given x)) pre.m_bound (sym read-record.ensures ∙ c.in_ok-head.was)
     c.args.items.now pre.room_for.0 in
-    let room = spare-fits loop.invariant.0 (λ x. omega (arith, shared-slice-known.given x)) pre.m_bound (sym read-record.ensures ∙ c.in-Read.is)
+    let room = spare-fits loop.invariant.0 (λ x. omega (arith, shared-slice-known.given x)) pre.m_bound (sym read-record.ensures ∙ c.in_ok-head.was)
     c.args.spare.now pre.room_for.1 in
     record {
-      enters = enters loop.invariant.0 (λ x. omega (arith, shared-slice-known.given x)) pre.m_bound (sym read-record.ensures ∙ c.in-Read.is);
+      enters = enters loop.invariant.0 (λ x. omega (arith, shared-slice-known.given x)) pre.m_bound (sym read-record.ensures ∙ c.in_ok-head.was);
       copy_fits = ((λ k less under. let inside = fits k less under in omega arith), omega arith);
     }
 
 pub record_size-at-requires : goal.record_size-at-requires
 record_size-at-requires c =
     (record-fits c.loop-r.invariant.0 (λ x. omega (arith, c.type_inv.bytes x))
-    c.requires.m_bound (sym c.read_record.ensures ∙ c.in-Read.is)).0
+    c.requires.m_bound (sym c.read_record.ensures ∙ c.in_ok-head.was)).0
 
-pub overflow_add-at-in-Read : goal.overflow_add-at-in-Read
-overflow_add-at-in-Read c =
+pub overflow_add-at-in-loop-r : goal.overflow_add-at-in-loop-r
+overflow_add-at-in-loop-r c =
     let fits = record-fits c.loop-r.invariant.0 (λ x. omega (arith, c.type_inv.bytes x))
-    c.requires.m_bound (sym c.read_record.ensures ∙ c.in-Read.is) in
+    c.requires.m_bound (sym c.read_record.ensures ∙ c.in_ok-head.was) in
     let inside = fits.1 in
     let end = fits.2 in
     let size = c.record_size-at.ensures in
@@ -88,7 +84,7 @@ loop-r-preserved c =
     let enter = c.enter-count in
     let loop = c.loop-r in (
       resumed-next loop.invariant.0 (λ x. omega (arith, c.type_inv.bytes x))
-          c.requires.m_bound (sym c.read_record.ensures ∙ c.in-Read.is)
+          c.requires.m_bound (sym c.read_record.ensures ∙ c.in_ok-head.was)
           c.loop-r-test.true enter.ensures c.record_size-at.ensures,
       enter.auto.items ∙ loop.invariant.1,
       enter.auto.spare ∙ loop.invariant.2,
@@ -96,24 +92,15 @@ loop-r-preserved c =
 
 pub returns-then-at-bytes : goal.returns-then-at-bytes
 returns-then-at-bytes c =
-    let both = refused-free _ _ _ c.loop-r.spare c.refused-then-at-bytes.ensures in
-    record {
-      value = c.refused-then-at-bytes.ensures ∙ resumed-followed c.loop-r.invariant.0 (λ x. omega (arith, c.type_inv.bytes x))
-          c.requires.m_bound c.loop-r-test.false c.if-at-bytes.true;
-      entries_stand = both.0;
-      count_in_bounds = both.1;
-    }
+    let refused = resumed-followed c.loop-r.invariant.0 (λ x. omega (arith, c.type_inv.bytes x)) c.requires.m_bound c.loop-r-test.false c.if-at-bytes.true in
+    let both = refused-so _ _ c.loop-r.items _ refused in
+    record { value = both.0; entries_stand = both.1; count_in_bounds = tt }
 
 pub returns-then-count-gt255 : goal.returns-then-count-gt255
 returns-then-count-gt255 c =
-    let loop = c.loop-r in
-    let both = refused-free _ _ _ loop.spare c.refused-then-count-gt255.ensures in
-    record {
-      value = c.refused-then-count-gt255.ensures ∙ resumed-over loop.invariant.0 (λ x. omega (arith, c.type_inv.bytes x))
-          c.requires.m_bound c.loop-r-test.false c.if-at-bytes.false c.if-count-gt255.true;
-      entries_stand = both.0;
-      count_in_bounds = both.1;
-    }
+    let refused = resumed-over c.loop-r.invariant.0 (λ x. omega (arith, c.type_inv.bytes x)) c.requires.m_bound c.loop-r-test.false c.if-at-bytes.false c.if-count-gt255.true in
+    let both = refused-so _ _ c.loop-r.items _ refused in
+    record { value = both.0; entries_stand = both.1; count_in_bounds = tt }
 
 pub returns : goal.returns
 returns c =

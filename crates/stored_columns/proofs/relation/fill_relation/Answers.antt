@@ -1,25 +1,10 @@
 use mathlib.Core.Path.{refl}
-use Rattle.stored_formula.specs.WrittenColumns.{columns-first, columns-start, columns-write, columns-next, columns-end}
+use Rattle.stored_formula.specs.WrittenColumns.{columns-next}
 use borrow.Author.Rules.{rules}
 use Rattle.stored_columns.proofs.relation.fill_relation.Goals as goal
-
-pub loop-c-init : goal.loop-c-init
-loop-c-init c = columns-first _ _ _ c.requires
-
-pub slice_bounds-write_column-count : goal.slice_bounds-write_column-count
-slice_bounds-write_column-count c = columns-start c.loop-c.invariant
-
-pub slice_bounds-write_column-start : goal.slice_bounds-write_column-start
-slice_bounds-write_column-start c = columns-start c.loop-c.invariant
-
-pub write_column-requires : goal.write_column-requires
-write_column-requires c = columns-write c.loop-c.invariant c.loop-c-test.true
 
 pub loop-c-preserved : goal.loop-c-preserved
 loop-c-preserved c =
     columns-next c.loop-c.invariant _ _ c.loop-c-test.true (search rules)
     (λ earlier. refl)
     c.write_column.ensures
-
-pub returns : goal.returns
-returns c = columns-end c.loop-c.invariant c.loop-c-test.false

@@ -1,21 +1,15 @@
-use Rattle.membership.specs.Keeping.{keeping-first, keeping-next, keeping-end}
-use Rattle.bits.specs.PackFrom.{bit-digit}
-use mathlib.Core.Bool.{Bool, cond}
-use mathlib.Core.Path.{sym, ap, ◌∙◌}
+use Rattle.std.proofs.Common.{◌≡◌, ◌+◌, ◌/◌, ◌%◌, get_or, ◌∙◌, rules}
+use Rattle.node_expression.specs.NodeExpression.{expression_at}
+use Rattle.algebra.specs.Cell.{plain, out}
+use Rattle.bits.specs.Bit.{bit}
 use Rattle.table_typing.proofs.output.list_output.Goals as goal
 
-pub loop-i-init : goal.loop-i-init
-loop-i-init c = keeping-first _ _ _
-
-pub loop-i-preserved : goal.loop-i-preserved
-loop-i-preserved c =
-    let pre = c.requires in
-    keeping-next _ _ pre.count_in_bounds.0 pre.count_in_bounds.1 c.loop-i.invariant c.loop-i-test.true
-    (sym (bit-digit _ _) ∙ ap (λ (b : Bool). cond b 1 0) (pre.output_bits.bits _ c.loop-i-test.true))
-
 pub returns : goal.returns
+unfolding bit
 returns c =
-    let both = keeping-end _ _ c.requires.count_in_bounds.0 c.requires.count_in_bounds.1 c.loop-i.invariant c.loop-i-test.false in
+    let args = c.args in
+    let both = c.list_where.ensures (λ x. out plain (expression_at args.file.now args.node) 0 (bit x))
+    (λ i b inside h. let stands : b ≡ bit (get_or args.sets.now (args.at + i / 64) 0) (i % 64) = search rules in stands ∙ c.requires.output_bits.bits i inside) in
     record {
       value = both.0;
       list_after = both.1;

@@ -4,6 +4,3 @@ use Rattle.type_record.proofs.lists.read_list.Given as goal
 
 abbrev pub invariant-loop-i : goal.invariant-loop-i
 invariant-loop-i l = Resumed l.bytes l.count l.whole l.rises l.previous l.i
-
-abbrev pub decreases-loop-i : goal.decreases-loop-i
-decreases-loop-i l = l.whole - l.i

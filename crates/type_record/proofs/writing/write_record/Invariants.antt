@@ -6,6 +6,3 @@ use Rattle.type_record.proofs.writing.write_record.Given as goal
 
 abbrev pub invariant-loop-i : goal.invariant-loop-i
 invariant-loop-i l = (l.i ≤ l.count) × (513 ≤ length l.out) × Written (record_byte l.special l.listed) (l.i * 2 + 3) l.initial.out l.out
-
-abbrev pub decreases-loop-i : goal.decreases-loop-i
-decreases-loop-i l = l.count - l.i

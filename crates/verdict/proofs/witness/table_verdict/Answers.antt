@@ -9,7 +9,7 @@ chosen_verdict-requires c =
     let can = c.if-cost-lt200.true in
     record {
       m_bound = pre.m_bound;
-      formula_size_in_bounds = (pre.formula_size_in_bounds.0, costs.table_holds);
+      table_holds = costs.table_holds;
       cost_value = (costs.value, omega arith);
     }
 
