@@ -8,7 +8,7 @@ use Rattle.node.specs.declared.nodes.Node.TheVariants.{Relation, Binary}
 use Rattle.node.specs.NodeBytes.{node_bytes}
 use Rattle.attribute_set.specs.Listed.{all_special}
 use Rattle.text.specs.declared.Writer.{Writer}
-use Rattle.text.specs.Written.{Writes, writes-more, writes-as}
+use Rattle.text.specs.Written.{Writes, Stands, stands-still, writes-more, writes-as}
 use Rattle.query_language.specs.Parsed.{missing, found}
 use Rattle.query_language.specs.Query.{Prefix, relation, pair, prefixed, node_count}
 use Rattle.query_language.specs.Parse.{is_digit, prefix_at, sign_at, relation_at, pair_with, prefixed_with, operand_at}
@@ -37,6 +37,15 @@ or_leftmost (Some r) g = refl
 
 pub room-placed : {text : List ℕ} {out : Writer} {at count : ℕ} → Room text at out count → Placed text at
 room-placed room = record { within = room.within; short = room.short }
+
+-- nothing is written
+pub room-stands : {text : List ℕ} {out : Writer} {at count : ℕ} → Room text at out count → Stands out out
+room-stands {text} {out} {at} {count} room =
+    let within = room.within in
+    let short = room.short in
+    let space = room.space in
+    let h = room.bytes in
+    stands-still out (omega arith)
 
 pub room-byte : {text : List ℕ} {out : Writer} {at count : ℕ} (b : ℕ) → Room text at out count → get_or text at 0 ≡ b → 1 ≤ b → Room text (at + 1) out count
 room-byte {text} {out} {at} {count} b room e some =

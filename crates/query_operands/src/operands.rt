@@ -1,6 +1,8 @@
 // Operands and pairs: "A pair reads two operands, and an operand may be a pair again" (document 02, Point 2). Each
-// reader writes the nodes of what it read; where it reads no operand, what it wrote before it saw this is free.
+// reader writes the nodes of what it read; where it reads no operand, what it wrote before it saw this is free, and the
+// writer stands in the same text, at the same place or a later one.
 ghost use Rattle.query_language.specs.Parse.{relation_at, pair_with, operand_at};
+ghost use Rattle.text.specs.Written.{Stands};
 ghost use Rattle.query_operands.specs.Reading.{Room, Reads};
 
 use crate::faults::{attribute_fault, relation_fault};
@@ -28,7 +30,8 @@ fn read_relation(
     count: usize,
 ) -> Option<Operand>
     requires { Room text.now at nodes.old count }
-    ensures { Reads m count nodes.old nodes.new (relation_at text.now at) result }
+    ensures reads { Reads m count nodes.old nodes.new (relation_at text.now at) result }
+    ensures stands { Stands nodes.old nodes.new }
 {
     let b = byte_at(text, at);
     if !is_digit(b) {
@@ -53,7 +56,8 @@ pub fn read_operand(
     count: usize,
 ) -> Option<Operand>
     requires { Room text.now at nodes.old count }
-    ensures { Reads m count nodes.old nodes.new (operand_at text.now at) result }
+    ensures reads { Reads m count nodes.old nodes.new (operand_at text.now at) result }
+    ensures stands { Stands nodes.old nodes.new }
 {
     match byte_at(text, at) {
         b'r' => read_relation(text, m, at + 1, nodes, count),
@@ -75,7 +79,8 @@ pub fn read_operand(
 #[cycle(read_operand_read_pair)]
 fn read_pair(text: &[u8], m: u8, at: usize, nodes: &mut Writer<'_>, count: usize) -> Option<Operand>
     requires { Room text.now at nodes.old count }
-    ensures { Reads m count nodes.old nodes.new (pair_with (operand_at text.now) text.now at) result }
+    ensures reads { Reads m count nodes.old nodes.new (pair_with (operand_at text.now) text.now at) result }
+    ensures stands { Stands nodes.old nodes.new }
 {
     let left = read_operand(text, m, at, nodes, count)?;
     let op = sign_at(text, left.next)?;

@@ -25,14 +25,23 @@ impl<'a> Writer<'a> {
         Writer { text, at: 0 }
     }
 
-    // How many bytes are written.
+    // Writes from a place on.
+    pub fn at(text: &'a mut [u8], at: usize) -> Writer<'a>
+        ensures same_reference { result.text.ghost_name ≡ text.entry.ghost_name }
+        ensures same_text { result.text.now ≡ text.old }
+        ensures place { result.at ≡ at }
+    {
+        Writer { text, at }
+    }
+
+    // The place after what is written.
     pub fn len(&self) -> usize
         ensures { result ≡ self.now.at }
     {
         self.at
     }
 
-    // The bytes that are written.
+    // The text up to that place.
     pub fn written(&self) -> &[u8]
         requires { HasRoom 0 self.now }
         ensures { result.now ≡ take self.now.at self.now.text.now }

@@ -49,7 +49,7 @@ pub fn typability(formula: &[u8; FORMULA_SIZE], m: u8) -> Typability
 {
     let chosen = match first_subsets(formula) {
         Ok(chosen) => chosen,
-        Err(attribute) => return Typability::Untypable(attribute),
+        Err(subsets) => return Typability::Untypable(subsets.blocked),
     };
     if uncovered_relations(&chosen, all_relations(m)) == 0 {
         return Typability::Typable(count_memberships(&chosen));

@@ -30,7 +30,7 @@ fn stored_verdict(formula: &[u8; FORMULA_SIZE], m: u8, schema: &mut [u8]) -> Out
 {
     let chosen = match first_subsets(formula) {
         Ok(chosen) => chosen,
-        Err(attribute) => return Outcome::Untypable(attribute),
+        Err(subsets) => return Outcome::Untypable(subsets.blocked),
     };
     if uncovered_relations(&chosen, all_relations(m)) == 0 {
         let size = write_witness(schema, m, &chosen, &[]);

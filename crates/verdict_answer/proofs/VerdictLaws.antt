@@ -21,7 +21,8 @@ use Rattle.set_cover.specs.SameCost.{cost-same, best-same}
 use Rattle.set_cover.specs.Choice.{uncovered}
 use Rattle.set_cover.specs.FirstCover.{firsts}
 use Rattle.stored_formula.specs.ColumnPlace.{column_at}
-use Rattle.verdict_answer.specs.First.{allowed_at, first_in, blocked_in, chosen_by, subsets_by, Subsets}
+use Rattle.verdict_answer.specs.First.{allowed_at, first_in, blocked_in, chosen_by, subsets_by}
+use Rattle.verdict_answer.specs.declared.Subsets.{Subsets}
 use Rattle.verdict_answer.specs.FirstLaws.{subsets-blocked, subsets-chosen, chosen-size, chosen_none, formula-cells, stored-cells}
 use Rattle.verdict_answer.proofs.FirstLaws.{blocked-in-same}
 use Rattle.verdict_answer.specs.Formed.{Formed}

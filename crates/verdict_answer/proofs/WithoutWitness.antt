@@ -5,7 +5,8 @@ use Rattle.std.proofs.Math.Decide.{dec_lt}
 use Rattle.refusal.specs.declared.Refusal.{Refusal}
 use Rattle.set_cover.specs.Least.{infinity}
 use Rattle.set_cover.specs.Choice.{uncovered}
-use Rattle.verdict_answer.specs.First.{first_in, blocked_in, subsets_by, Subsets}
+use Rattle.verdict_answer.specs.First.{first_in, blocked_in, subsets_by}
+use Rattle.verdict_answer.specs.declared.Subsets.{Subsets}
 use Rattle.verdict_answer.specs.Formed.{Formed}
 use Rattle.verdict_answer.specs.FirstChoice.{memberships_of}
 use Rattle.verdict_answer.specs.Witness.{cost_in}

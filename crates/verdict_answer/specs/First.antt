@@ -5,6 +5,7 @@ use Rattle.bits.specs.Tab.{tab}
 use Rattle.types.specs.Memberships.{members}
 use Rattle.column.specs.Column.{allowed_in}
 use Rattle.stored_formula.specs.ColumnPlace.{column_at}
+use Rattle.verdict_answer.specs.declared.Subsets.{Subsets}
 
 -- which subsets each column of node k allows, as read off the work space; of an expression e of m relations it is
 -- `allowed_bit m e`
@@ -43,11 +44,6 @@ blocked_in allowed = blocked_by (first_in allowed)
 unfoldable pub chosen_by : (ℕ → ℕ) → List ℕ
 chosen_by first = tab 16 (λ i. cond (ltb i (blocked_by first) && leb 1 i) (first i) 0)
 
--- both
-pub record Subsets : Type 0 where
-  pub blocked : ℕ
-  pub chosen : List ℕ
-
--- as they are found, of 16 attributes
+-- both, as the code finds them
 unfoldable pub subsets_by : (ℕ → ℕ) → Subsets
 subsets_by first = record { blocked = blocked_by first; chosen = chosen_by first }

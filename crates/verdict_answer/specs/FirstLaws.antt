@@ -18,7 +18,8 @@ use Rattle.column.specs.Column.{allowed_in}
 use Rattle.stored_formula.specs.ColumnPlace.{column_at}
 use Rattle.stored_formula.specs.FormulaBytes.{allowed_bit, cell_column}
 use Rattle.stored_formula.specs.NodeColumn.{cell-allowed}
-use Rattle.verdict_answer.specs.First.{allowed_at, blocked_by, chosen_by, subsets_by, Subsets}
+use Rattle.verdict_answer.specs.First.{allowed_at, blocked_by, chosen_by, subsets_by}
+use Rattle.verdict_answer.specs.declared.Subsets.{Subsets}
 
 -- ---- the subsets chosen
 

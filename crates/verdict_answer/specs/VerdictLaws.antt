@@ -12,7 +12,8 @@ use Rattle.special_maps.specs.Special.{maps_from}
 use Rattle.special_maps.specs.SpecialLaws.{maps-length, maps-even}
 use Rattle.membership.specs.Holders.{ItemsFit}
 use Rattle.schema.specs.Schema.{WritesFrom}
-use Rattle.verdict_answer.specs.First.{allowed_at, first_in, blocked_in, subsets_by, Subsets}
+use Rattle.verdict_answer.specs.First.{allowed_at, first_in, blocked_in, subsets_by}
+use Rattle.verdict_answer.specs.declared.Subsets.{Subsets}
 use Rattle.verdict_answer.specs.FirstLaws.{subsets-blocked}
 use Rattle.verdict_answer.specs.Formed.{Formed, stored-formed}
 

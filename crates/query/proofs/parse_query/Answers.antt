@@ -52,7 +52,7 @@ returns-in_err-operand c =
     let none = not-there c.read_operand.result {a = c.ok_or.result} c.ok_or.ensures.value c.in_err-operand.was in
     let given = err_from_is_err_and c.from_residual.result c.from_residual.ensures.1 in
     let passed : Passed c.args.m c.args.text.now c.args.file.now = passed-by c.in_range.ensures c.if-not-in_range.false (omega arith) (omega arith) in
-    let done = parse-missing passed (is-missing none.0 c.read_operand.ensures) in
+    let done = parse-missing passed (is-missing none.0 c.read_operand.ensures.reads) in
     record {
       value = given.1 ∙ ap Err (given.2 ∙ none.1) ∙ done.answer;
       file_after = done.slice;
@@ -61,7 +61,7 @@ returns-in_err-operand c =
 pub returns-then-operand-text : goal.returns-then-operand-text
 returns-then-operand-text c =
     let passed : Passed c.args.m c.args.text.now c.args.file.now = passed-by c.in_range.ensures c.if-not-in_range.false (omega arith) (omega arith) in
-    let whole = is_read (there _ _ c.ok_or.ensures.value c.in_ok-operand.was) c.read_operand.ensures in
+    let whole = is_read (there _ _ c.ok_or.ensures.value c.in_ok-operand.was) c.read_operand.ensures.reads in
     let done = parse-followed passed whole c.if-operand-text.true in
     record {
       value = done.answer;
@@ -71,7 +71,7 @@ returns-then-operand-text c =
 pub returns-then-operand-gt64 : goal.returns-then-operand-gt64
 returns-then-operand-gt64 c =
     let passed : Passed c.args.m c.args.text.now c.args.file.now = passed-by c.in_range.ensures c.if-not-in_range.false (omega arith) (omega arith) in
-    let whole = is_read (there _ _ c.ok_or.ensures.value c.in_ok-operand.was) c.read_operand.ensures in
+    let whole = is_read (there _ _ c.ok_or.ensures.value c.in_ok-operand.was) c.read_operand.ensures.reads in
     let done = parse-nodes passed whole (omega arith) c.if-operand-gt64.true in
     record {
       value = done.answer;
@@ -81,7 +81,7 @@ returns-then-operand-gt64 c =
 pub returns-in-Some : goal.returns-in-Some
 returns-in-Some c =
     let passed : Passed c.args.m c.args.text.now c.args.file.now = passed-by c.in_range.ensures c.if-not-in_range.false (omega arith) (omega arith) in
-    let whole = is_read (there _ _ c.ok_or.ensures.value c.in_ok-operand.was) c.read_operand.ensures in
+    let whole = is_read (there _ _ c.ok_or.ensures.value c.in_ok-operand.was) c.read_operand.ensures.reads in
     let done = parse-fault passed whole c.if-operand-text.false c.if-operand-gt64.false c.in-Some.is in
     record {
       value = cc done.answer;
@@ -91,13 +91,13 @@ returns-in-Some c =
 pub write_file-requires : goal.write_file-requires
 write_file-requires c =
     let passed : Passed c.args.m c.args.text.now c.args.file.now = passed-by c.in_range.ensures c.if-not-in_range.false (omega arith) (omega arith) in
-    let whole = is_read (there _ _ c.ok_or.ensures.value c.in_ok-operand.was) c.read_operand.ensures in
+    let whole = is_read (there _ _ c.ok_or.ensures.value c.in_ok-operand.was) c.read_operand.ensures.reads in
     rw c.written.ensures (parse-fits passed whole c.if-operand-text.false c.if-operand-gt64.false c.new-writer.ensures.front)
 
 pub returns : goal.returns
 returns c =
     let passed : Passed c.args.m c.args.text.now c.args.file.now = passed-by c.in_range.ensures c.if-not-in_range.false (omega arith) (omega arith) in
-    let whole = is_read (there _ _ c.ok_or.ensures.value c.in_ok-operand.was) c.read_operand.ensures in
+    let whole = is_read (there _ _ c.ok_or.ensures.value c.in_ok-operand.was) c.read_operand.ensures.reads in
     let done = parse-written passed whole c.if-operand-text.false c.if-operand-gt64.false c.new-writer.ensures.front c.in_default.is (rw c.written.ensures at c.write_file.ensures) in
     record {
       value = done.answer;

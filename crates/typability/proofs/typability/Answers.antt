@@ -1,20 +1,14 @@
 use Prim.Native.Nat.{ℕ}
-use mathlib.Core.Path.{refl, sym, ap, ◌∙◌}
+use mathlib.Core.Path.{ap, ◌∙◌}
 use native.Mathlib.Omega.{arith}
 use lib.ListN.{drop}
 use Rattle.set_cover.specs.Choice.{uncovered}
-use Rattle.verdict_answer.specs.First.{allowed_at, first_in, subsets_by}
-use Rattle.verdict_answer.specs.FirstLaws.{subsets-blocked}
 use Rattle.verdict_answer.specs.VerdictLaws.{stored-open}
 use Rattle.verdict_answer.proofs.WithoutWitness.{typability-blocked, typability-first}
-use Rattle.verdict_answer.specs.declared.Typability.TheVariants.{Untypable}
 use Rattle.typability.proofs.typability.Goals as goal
 
 pub returns-in-Err : goal.returns-in-Err
-returns-in-Err c =
-    let first = first_in (allowed_at c.args.formula.now 0) in
-    let is = subsets-blocked first (subsets_by first) refl ∙ sym c.in-Err.ensures.1 in
-    ap Untypable (sym is) ∙ typability-blocked _ _ (subsets_by first) refl (rw is c.in-Err.ensures.0)
+returns-in-Err c = typability-blocked _ _ _ c.in-Err.ensures.1 c.in-Err.ensures.0
 
 pub returns-then-uncovered_relations-eq0 : goal.returns-then-uncovered_relations-eq0
 returns-then-uncovered_relations-eq0 c =

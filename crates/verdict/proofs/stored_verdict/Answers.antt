@@ -1,23 +1,18 @@
 use Prim.Native.Nat.{ℕ}
-use mathlib.Core.Path.{refl, sym, ap, ◌∙◌}
+use mathlib.Core.Path.{refl, ap, ◌∙◌}
 use mathlib.Core.List.{[]}
 use native.Mathlib.Omega.{arith}
 use lib.ListN.{drop}
 use Rattle.set_cover.specs.Choice.{uncovered}
-use Rattle.verdict_answer.specs.First.{allowed_at, first_in, subsets_by}
-use Rattle.verdict_answer.specs.FirstLaws.{subsets-blocked}
-use Rattle.verdict_answer.specs.declared.Outcome.TheVariants.{Untypable}
 use Rattle.verdict_answer.specs.VerdictLaws.{stored-open}
 use Rattle.verdict_answer.proofs.VerdictLaws.{stored-blocked, first-writes, first-typable}
 use Rattle.verdict.proofs.stored_verdict.Goals as goal
 
 pub returns-in-Err : goal.returns-in-Err
 returns-in-Err c =
-    let first = first_in (allowed_at c.args.formula.now 0) in
-    let is = subsets-blocked first (subsets_by first) refl ∙ sym c.in-Err.ensures.1 in
-    let both = stored-blocked _ _ c.args.schema.now (subsets_by first) refl (rw is c.in-Err.ensures.0) in
+    let both = stored-blocked _ _ c.args.schema.now _ c.in-Err.ensures.1 c.in-Err.ensures.0 in
     record {
-      value = ap Untypable (sym is) ∙ both.0;
+      value = both.0;
       schema_after = both.1;
     }
 
