@@ -91,26 +91,30 @@ fn fill_formula(node: Node, m: u8, k: u8, work: &mut [u8])
 }
 
 // Reads node k at byte `at` of the file, fills its formula, and gives the byte after it.
-fn fill_node(file: &AcceptedFile<'_>, k: u8, at: usize, work: &mut [u8]) -> usize
-    requires here { Here file.now.bytes.now file.now.header.relations k at }
+fn fill_node(file: &[u8], m: u8, k: u8, at: usize, work: &mut [u8]) -> usize
+    requires here { Here file.now m k at }
     requires formula_size_in_bounds { k * formula_size + formula_size ≤ length work.old }
-    requires filled_to { FilledTo file.now.bytes.now file.now.header.relations (k * formula_size) work.old work.old }
-    ensures value { result ≡ at + size_at file.now.bytes.now k }
-    ensures filled_to_2 { FilledTo file.now.bytes.now file.now.header.relations (k * formula_size + formula_size) work.old work.new }
+    requires filled_to { FilledTo file.now m (k * formula_size) work.old work.old }
+    ensures value { result ≡ at + size_at file.now k }
+    ensures filled_to_2 { FilledTo file.now m (k * formula_size + formula_size) work.old work.new }
 {
-    let decoding = decode(&file.bytes[at..]);
+    let decoding = decode(&file[at..]);
     let node = decoding.node;
-    fill_formula(node, file.header.relations, k, work);
+    fill_formula(node, m, k, work);
     at + decoding.size
 }
 
-// The formulas of all nodes of an accepted file (FORMAT 7.2), for operations that have read it.
+// The formulas of all nodes of an accepted file (FORMAT 7.2), for operations that have read it. The number of relations
+// is read before the loop: behind the reference the compiler would take it for changed by each write, and work out what
+// depends on it alone once for each node.
 pub fn fill(file: &AcceptedFile<'_>, work: &mut [u8])
     requires formula_size_in_bounds { file.now.header.nodes * formula_size ≤ length work.old }
     ensures { work.new ≡ over (formulas_of file.now.bytes.now file.now.header.relations file.now.header.nodes) work.old }
 {
+    let bytes = file.bytes;
+    let m = file.header.relations;
     let mut at = 2;
     for k in 0..file.header.nodes {
-        at = fill_node(file, k, at, work);
+        at = fill_node(bytes, m, k, at, work);
     }
 }

@@ -1,6 +1,7 @@
 //! All tests of the engine, in one program, so that they are built once and run beside each other.
 
 mod agreement_program;
+mod archive;
 mod c_example;
 mod command_folder;
 mod covers;

@@ -29,7 +29,7 @@ pub returns : goal.returns
 returns c =
     let decode = c.decode-decoding in
     let pre = c.requires in
-    let here = here-decoded _ c.args.file.now.header.relations _ _ pre.here in
+    let here = here-decoded _ c.args.m _ _ pre.here in
     let node = decode.ensures.node_value ∙ here.node-is in
     let size = decode.ensures.size_value ∙ here.decoding-size in
     record {
