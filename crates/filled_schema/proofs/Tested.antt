@@ -4,7 +4,7 @@ use mathlib.Core.Path.{◌≡◌, sym, ap, ap₂, ◌∙◌}
 use mathlib.Core.Bool.{Bool, true, false}
 use mathlib.Core.List.{List}
 use native.Mathlib.Omega.{arith}
-use lib.ListN.{take, replicate}
+use lib.ListN.{take}
 use Rattle.bits.specs.Word.{Bytes}
 use Rattle.refusal.specs.declared.Refusal.{Refusal}
 use Rattle.refusal.specs.declared.Refusal.TheVariants.{EmptyRecord}
@@ -13,7 +13,6 @@ use Rattle.schema.specs.TableLaws.{schema-read, handed-on, refused-reading, read
 use Rattle.schema.specs.declared.reading.SchemaTable.{SchemaTable}
 use Rattle.filled_schema.specs.FilledSchema.{table_filled, filled_reading}
 use Rattle.filled_schema.specs.FilledLaws.{read_filled, refused-filled, read-filled, read-empty}
-use Rattle.schema.specs.Judgement.{Judgement, Read, Refused}
 use Rattle.std.specs.Prelude.{Ok, Err}
 
 -- a schema that is refused: the answer, and no entries to stand anywhere

@@ -57,7 +57,11 @@ pub fn read_filled_schema(
     ensures entries_stand { EntriesStand (filled_reading m bytes.now).judgement (filled_reading m bytes.now).entries items.new }
     ensures count_in_bounds { IfOk result (λ table. table.count ≤ length spare.new) }
 {
-    let schema = read_schema(bytes, m, items, spare)?;
+    // By cases and not by `?`, so that a wrong refusal can be tried in its place.
+    let schema = match read_schema(bytes, m, items, spare) {
+        Ok(schema) => schema,
+        Err(refusal) => return Err(refusal),
+    };
     if !is_filled(m, &schema.special, &items[..schema.count]) {
         return Err(Refusal::EmptyRecord);
     }

@@ -36,7 +36,11 @@ pub fn apply_instantiation(
     ensures schema_after { schema.new ≡ read_image file.now.header.relations (expression_at file.now.bytes.now node) (instantiation_reading bytes.now) schema.old }
     ensures out_after { out.new ≡ read_output file.now.header.relations (expression_at file.now.bytes.now node) (instantiation_reading bytes.now) out.old }
 {
-    let read = read_instantiation(bytes, items, spare)?;
+    // By cases and not by `?`, so that a wrong answer can be tried in its place.
+    let read = match read_instantiation(bytes, items, spare) {
+        Ok(read) => read,
+        Err(refusal) => return Err(refusal),
+    };
     fill(file, work);
     let (subsets, count) = (read.subsets, read.count);
     apply_table(

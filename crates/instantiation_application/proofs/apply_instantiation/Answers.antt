@@ -1,4 +1,3 @@
-use Rattle.std.proofs.lemmas.Result.{err_from_is_err_and}
 use Rattle.std.specs.Prelude.{ℕ, List, length, take}
 use mathlib.Core.Path.{sym}
 use Rattle.membership.specs.HolderLaws.{items-taken, taken-fit}
@@ -32,22 +31,22 @@ subsets-taken table =
 
 pub slice_bounds-apply_table-end-2 : goal.slice_bounds-apply_table-end-2
 slice_bounds-apply_table-end-2 c =
-    let table = (read-subsets _ _ _ (λ x. omega (arith, c.type_inv.bytes x)) c.in_ok-read.ensures.value
+    let table = (read-subsets _ _ _ (λ x. omega (arith, c.type_inv.bytes x)) c.in-Ok.ensures.value
     c.read_instantiation.ensures.entries_stand).table in
     table.fit.enough
 
 pub slice_bounds-apply_table-end-3 : goal.slice_bounds-apply_table-end-3
 slice_bounds-apply_table-end-3 c =
-    let table = (read-subsets _ _ _ (λ x. omega (arith, c.type_inv.bytes x)) c.in_ok-read.ensures.value
+    let table = (read-subsets _ _ _ (λ x. omega (arith, c.type_inv.bytes x)) c.in-Ok.ensures.value
     c.read_instantiation.ensures.entries_stand).table in
     sym (items-taken table.fit)
 
 pub apply_table-requires : goal.apply_table-requires
 apply_table-requires c =
-    let table = (read-subsets _ _ _ (λ x. omega (arith, c.type_inv.bytes x)) c.in_ok-read.ensures.value
+    let table = (read-subsets _ _ _ (λ x. omega (arith, c.type_inv.bytes x)) c.in-Ok.ensures.value
     c.read_instantiation.ensures.entries_stand).table in
     let size = items-taken table.fit in
-    let room = c.in_ok-read.ensures.count_in_bounds in
+    let room = c.in-Ok.ensures.count_in_bounds in
     let fill = c.fill in
     let pre = c.requires in
     record {
@@ -57,17 +56,15 @@ apply_table-requires c =
       schema_size_in_bounds = (pre.schema_size_in_bounds.0, pre.schema_size_in_bounds.1, omega arith);
     }
 
-pub returns-in_err-read : goal.returns-in_err-read
-returns-in_err-read c =
-    let both = read-stops _ _ _ _ _ _ _ _ _ (read-stopped _ _ (sym c.in_err-read.was ∙ c.read_instantiation.ensures.value)) in
-    let p = err_from_is_err_and c.from_residual.result c.from_residual.ensures.1 in
-    rw (p.1, p.2)
-    (record {
+pub returns-in-Err : goal.returns-in-Err
+returns-in-Err c =
+    let both = read-stops _ _ _ _ _ _ _ _ _ (read-stopped _ _ (sym c.in-Err.is ∙ c.read_instantiation.ensures.value)) in
+    record {
       value = both.0;
       work_after = both.1.0;
       schema_after = both.1.1.0;
       out_after = both.1.1.1;
-    })
+    }
 
 pub returns : goal.returns
 returns c =
@@ -75,7 +72,7 @@ returns c =
     let read-instantiation = c.read_instantiation in
     let table = (read-subsets _ _ _
     (λ x. omega (arith, c.type_inv.bytes x))
-    c.in_ok-read.ensures.value read-instantiation.ensures.entries_stand) in
+    c.in-Ok.ensures.value read-instantiation.ensures.entries_stand) in
     let both = read_goes _ _ _ _ _ _ _ _ table.judged _ _ _ _ c.fill.ensures (rw (← table.subsets, ← table.entries) apply-table.ensures.value)
     (rw (← table.subsets, ← table.entries) apply-table.ensures.schema_after) (rw (← table.subsets, ← table.entries) apply-table.ensures.out_after) in
     record {

@@ -1,4 +1,4 @@
-use mathlib.Core.Path.{sym, ap, ap₂, ◌∙◌}
+use mathlib.Core.Path.{sym, ap₂, ◌∙◌}
 use Rattle.std.proofs.lemmas.Result.{err_from_is_err_and}
 use Rattle.node.specs.NodeSequence.{check-one}
 use Rattle.node.specs.ReadNode.{Read}
