@@ -1,12 +1,14 @@
 use mathlib.Core.Path.{sym, ◌∙◌}
 use native.Mathlib.Omega.{arith}
 use Rattle.query_language.specs.NumberLaws.{digit-range}
-use Rattle.text.specs.Written.{writes-stand}
+use Rattle.std.proofs.Common.{rules, subst}
+use Rattle.text.specs.declared.Writer.{Writer}
+use Rattle.text.specs.Written.{Stands, writes-stand}
 use Rattle.query_operands.specs.ReadingLaws.{room-stands, relation-none, relation-done}
 use Rattle.query_operands.proofs.operands.read_relation.Goals as goal
 
 pub returns-then-not-is_digit-clause-stands : goal.returns-then-not-is_digit-clause-stands
-returns-then-not-is_digit-clause-stands c = room-stands c.requires
+returns-then-not-is_digit-clause-stands c = subst (λ (w : Writer). Stands c.args.nodes.now w) (search rules) (room-stands c.requires)
 
 pub returns-then-not-is_digit-clause-reads : goal.returns-then-not-is_digit-clause-reads
 returns-then-not-is_digit-clause-reads c = relation-none _ _ c.byte_at-b.ensures (sym c.is_digit.ensures ∙ c.if-not-is_digit.true)
