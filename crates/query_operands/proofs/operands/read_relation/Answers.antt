@@ -1,12 +1,13 @@
 use mathlib.Core.Path.{sym, ◌∙◌}
 use native.Mathlib.Omega.{arith}
-use Rattle.query_language.specs.NumberLaws.{digit-range}
 use Rattle.std.proofs.Common.{rules, subst}
+use Rattle.query_language.specs.NumberLaws.{digit-range}
 use Rattle.text.specs.declared.Writer.{Writer}
 use Rattle.text.specs.Written.{Stands, writes-stand}
 use Rattle.query_operands.specs.ReadingLaws.{room-stands, relation-none, relation-done}
 use Rattle.query_operands.proofs.operands.read_relation.Goals as goal
 
+-- nothing is written: the writer is the one that was lent, which the rules find of what the code left in it
 pub returns-then-not-is_digit-clause-stands : goal.returns-then-not-is_digit-clause-stands
 returns-then-not-is_digit-clause-stands c = subst (λ (w : Writer). Stands c.args.nodes.now w) (search rules) (room-stands c.requires)
 
